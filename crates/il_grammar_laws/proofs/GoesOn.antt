@@ -1,5 +1,5 @@
 -- Tokens that are the beginning of a rule, put together.
-use Rattle.std.proofs.Common.{◌≡◌, ◌<◌, ◌≤◌, ℕ, zero, suc, Bool, true, false, not, ◌&&◌, List, [], ◌∷◌, ◌++◌, length, refl, sym, ◌∙◌, ap, subst, inl, inr, arith}
+use Rattle.std.proofs.Common.{◌≡◌, ◌<◌, ◌≤◌, ℕ, zero, suc, Bool, true, false, not, List, [], ◌∷◌, ◌++◌, length, refl, sym, ◌∙◌, ap, subst, inl, inr, arith}
 use Rattle.std.specs.Prelude.{◌⊎◌, IsTrue, bytes_eq, codes, if◌then◌else◌}
 use Rattle.il_spec.specs.declared.token.Token.{Token}
 use Rattle.il_spec.specs.declared.token.Kind.{Kind}
@@ -8,10 +8,10 @@ use Rattle.il_spec.specs.declared.token.Sign.{Sign}
 use Rattle.il_spec.specs.declared.token.Sign.TheVariants.{Comma, OpenParenthesis, OpenBracket, Dot}
 use Rattle.il_spec.specs.declared.tree.Place.{Place}
 use Rattle.il_spec.specs.Text.{upper_case, name_of}
-use Rattle.il_spec.specs.Grammar.{Front, Gap, tight, loose, is_line_end, skip_line_ends, ◌⟨◌⟩◌, ◌⨾◌, ◌⋯◌, AfterLines, No, One, At, Repeats, Listed, TheSign, TheLetterN}
-use Rattle.il_grammar_laws.specs.Alike.{HasSameBytes, IsEndOf, IsGap}
-use Rattle.il_grammar_laws.specs.GoesOn.{Sample, IsOf, AreOf, IsCut, Test, always, stops, lacks, IsQuiet, quiet, IsCalm, calm, settled, ended, IsOpen, IsSampled, Begins}
-use Rattle.il_grammar_laws.proofs.Alike.{end_length, end_self, end_of_end, end_same, tight_gap, loose_gap, gap_length}
+use Rattle.il_spec.specs.Grammar.{Front, Gap, tight, loose, is_line_end, skip_line_ends, ◌⟨◌⟩◌, ◌⨾◌, AfterLines, One, At, Repeats, Listed, TheSign}
+use Rattle.il_grammar_laws.specs.Alike.{IsEndOf}
+use Rattle.il_grammar_laws.specs.GoesOn.{Sample, IsOf, AreOf, IsCut, Test, always, stops, quiet, calm, settled, ended, IsSampled, Begins}
+use Rattle.il_grammar_laws.proofs.Alike.{end_length, end_self, end_of_end, loose_gap, gap_length}
 use Rattle.il_grammar_laws.proofs.Open.{Opens, Takes, Fills, IsOpenGap, tight_open, loose_open, skip_still, cut_end, sign_fills}
 
 -- an end is the whole, or shorter

@@ -1,33 +1,21 @@
 -- From samples to bytes: a text goes on with tokens of samples behind any of its tokens.
-use Rattle.std.proofs.Common.{◌≡◌, ℕ, zero, suc, pos, ◌+◌, ◌-◌, ◌<◌, ◌≤◌, Bool, true, false, List, [], ◌∷◌, ◌++◌, length, take, drop, refl, sym, ◌∙◌, ap, subst, inl, inr, arith, cond, length-drop, length-take, length-append, append_assoc}
-use Rattle.std.specs.Prelude.{◌==◌, ◌&&◌, ◌||◌, not, nat_le, if◌then◌else◌, codes, slice_range, count_by}
+use Rattle.std.proofs.Common.{◌≡◌, ℕ, ◌+◌, ◌-◌, ◌<◌, ◌≤◌, Bool, true, false, List, [], ◌∷◌, ◌++◌, length, take, drop, refl, sym, ◌∙◌, ap, subst, inl, inr, arith, cond, length-drop, length-take, length-append, append_assoc}
+use Rattle.std.specs.Prelude.{◌==◌, ◌&&◌, ◌||◌, not, nat_le, if◌then◌else◌, slice_range, count_by}
 use Rattle.std.specs.List.{prefix_len}
 use Rattle.std.specs.Char.{is_ascii_digit}
 use Rattle.std.proofs.Math.Seq.{get_or-append_seam, drop-append-add, take-append_seam}
 use Rattle.std.proofs.lemmas.List.{drop-append-le, take-append-le, take-append-drop, get_or_append_left, get_or-append-add}
 use Rattle.std.proofs.lemmas.List.Folds.{prefix_len-append}
 use Rattle.std.proofs.lemmas.Bool.{cases_lt}
-use Rattle.std.proofs.lemmas.Int.{ints}
 use Rattle.std.proofs.lemmas.Bool.Decides.{nat_tests}
 use Rattle.il_spec.specs.declared.token.Token.{Token}
 use Rattle.il_spec.specs.declared.token.Kind.{Kind}
 use Rattle.il_spec.specs.declared.token.Kind.TheVariants as kind
 use Rattle.il_spec.specs.declared.token.Sign.{Sign}
 use Rattle.il_spec.specs.declared.token.Sign.TheVariants.{Assign, Arrow, Range, Colon, Semicolon, Comma, OpenParenthesis, CloseParenthesis, OpenBracket, CloseBracket, Dot, Ampersand}
-use Rattle.il_spec.specs.declared.keyword.Keyword.{Keyword}
-use Rattle.il_spec.specs.declared.keyword.Keyword.TheVariants as word
-use Rattle.il_spec.specs.declared.tree.Elementary.TheVariants as elementary
-use Rattle.il_spec.specs.declared.tree.Operator.TheVariants as operator
-use Rattle.il_spec.specs.declared.tree.Logic.TheVariants.{Conjunction, Disjunction, Exclusive}
-use Rattle.il_spec.specs.declared.tree.Arithmetic.TheVariants.{Add, Sub, Mul, Div, Mod}
-use Rattle.il_spec.specs.declared.tree.Comparison.TheVariants.{Greater, GreaterOrEqual, Equal, NotEqual, LessOrEqual, Less}
-use Rattle.il_spec.specs.declared.tree.Store.TheVariants.{Plain, Negated, Set, Reset}
-use Rattle.il_spec.specs.declared.tree.Condition.TheVariants.{Always, WhenTrue, WhenFalse}
-use Rattle.il_spec.specs.declared.tree.UnitKind.{UnitKind}
-use Rattle.il_spec.specs.declared.tree.Literal.TheVariants as literal
 use Rattle.il_spec.specs.declared.tree.Config.{Config}
-use Rattle.il_spec.specs.Grammar.{AfterLines, end_word, SpellsConfig, Spells}
-use Rattle.il_spec.specs.Text.{is_grouped_after, magnitude, entry_of, duration_value, parts_value, byte_at, begins_word, is_word_byte, is_literal_byte, hash, minus, space, tab, line_feed, carriage_return, star, open_parenthesis, close_parenthesis, run_end, after_minus, upper_case, number_value, IsTyped, is_identifier, sign_bytes, goes_on, IsLexeme, IsComment, IsBlank, AreBlanks, line_at, IsToken, AreTokens}
+use Rattle.il_spec.specs.Grammar.{AfterLines, SpellsConfig, Spells}
+use Rattle.il_spec.specs.Text.{byte_at, begins_word, is_word_byte, is_literal_byte, hash, minus, space, tab, line_feed, carriage_return, star, open_parenthesis, close_parenthesis, run_end, after_minus, upper_case, number_value, IsTyped, is_identifier, goes_on, IsLexeme, IsComment, IsBlank, AreBlanks, line_at, IsToken, AreTokens}
 use Rattle.il_text.proofs.Places.{passes_in_text, run_from, run_some, minus_from}
 use Rattle.il_text.proofs.Lexemes.{lexeme_within}
 use Rattle.il_text.proofs.Blanks.{blank_within}

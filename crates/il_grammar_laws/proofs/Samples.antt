@@ -42,7 +42,7 @@ use Rattle.il_spec.specs.declared.tree.UnitKind.TheVariants as unit
 use Rattle.il_spec.specs.declared.tree.Size.{Size}
 use Rattle.il_spec.specs.declared.tree.Task.{Task}
 use Rattle.il_spec.specs.declared.tree.ProgramLine.{ProgramLine}
-use Rattle.il_spec.specs.Text.{entry_of, upper_case, name_of, sign_bytes, is_plain_decimal, is_grouped, is_grouped_after, is_identifier, magnitude, number_value, duration_value, parts_value, run_end, IsLexeme}
+use Rattle.il_spec.specs.Text.{entry_of, upper_case, name_of, sign_bytes, is_grouped, is_grouped_after, is_identifier, magnitude, number_value, duration_value, parts_value, run_end, IsLexeme}
 use Rattle.std.specs.Char.{is_ascii_digit}
 use Rattle.il_spec.specs.Words.{keyword_of}
 use Rattle.il_spec.specs.Grammar.{Front, Gap, tight, loose, is_line_end, skip_line_ends, ◌⟨◌⟩◌, ◌⨾◌, ◌⋯◌, AfterLines, No, One, At, Repeats, Listed, TheEnd, is_nested, end_word}

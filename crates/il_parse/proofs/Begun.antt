@@ -1,8 +1,7 @@
 -- Bodies that break off.
-use Rattle.std.proofs.Common.{◌≡◌, ℕ, zero, suc, pred, ◌<◌, ◌≤◌, Bool, true, false, ◌&&◌, List, [], ◌∷◌, ◌++◌, length, refl, sym, ◌∙◌, ap, subst, inl, inr, arith, Option, Some, None}
+use Rattle.std.proofs.Common.{◌≡◌, ℕ, zero, suc, pred, ◌<◌, Bool, true, false, ◌&&◌, List, [], ◌∷◌, ◌++◌, length, refl, sym, ◌∙◌, ap, subst, inl, inr, arith, Some, None}
 use Rattle.std.specs.Prelude.{◌⊎◌, IsTrue}
 use Rattle.il_spec.specs.declared.token.Token.{Token}
-use Rattle.il_spec.specs.declared.token.Sign.TheVariants.{CloseParenthesis}
 use Rattle.il_spec.specs.declared.keyword.Keyword.{Keyword}
 use Rattle.il_spec.specs.declared.keyword.Keyword.TheVariants as word
 use Rattle.il_spec.specs.declared.tree.Place.{Place}
@@ -12,23 +11,22 @@ use Rattle.il_spec.specs.declared.tree.Reference.TheVariants as reference
 use Rattle.il_spec.specs.declared.tree.Instruction.{Instruction}
 use Rattle.il_spec.specs.declared.tree.Instruction.TheVariants as instruction
 use Rattle.il_spec.specs.declared.tree.Step.{Step}
-use Rattle.il_spec.specs.declared.tree.Body.{Body}
 use Rattle.il_spec.specs.Words.{keyword_of}
-use Rattle.il_spec.specs.Grammar.{Front, tight, loose, skip_line_ends, ◌⨾◌, ◌⋯◌, At, Repeats, TheWord, TheLineEnd, SpellsInstruction, SpellsLabelled, SpellsStep, SpellsLabelLine, SpellsBody, depth_after, needs_load, may_stand, is_nested}
+use Rattle.il_spec.specs.Grammar.{tight, loose, skip_line_ends, ◌⋯◌, At, TheLineEnd, SpellsInstruction, SpellsLabelled, SpellsStep, SpellsBody, depth_after, needs_load, may_stand, is_nested}
 use Rattle.il_grammar_laws.specs.Alike.{IsEndOf}
-use Rattle.il_grammar_laws.specs.GoesOn.{Sample, AreOf, IsCut, always, IsSampled, Begins}
-use Rattle.il_grammar_laws.proofs.Alike.{end_length, end_of_end}
+use Rattle.il_grammar_laws.specs.GoesOn.{Sample, IsCut, always, IsSampled, Begins}
+use Rattle.il_grammar_laws.proofs.Alike.{end_of_end}
 use Rattle.il_grammar_laws.proofs.Local.{same_name}
-use Rattle.il_grammar_laws.proofs.Open.{instruction_fills, line_end_fills, cut_end}
-use Rattle.il_grammar_laws.proofs.Samples.{word_sample, sign_sample, true_sample, line_end_sample, closing_samples, closing_sampled, rest_samples, rest_sampled, body_samples, body_sampled, load_sampled, word_sampled, line_end_sampled}
-use Rattle.il_grammar_laws.proofs.GoesOn.{whole_or, cut_here, cut_one, samples_apart, is_solid, Stays, stays_loose, passes_always, then_sampled, at_sampled, map_sampled, IsFilling, begins_here, begins_as}
+use Rattle.il_grammar_laws.proofs.Open.{instruction_fills, line_end_fills}
+use Rattle.il_grammar_laws.proofs.Samples.{word_sample, true_sample, line_end_sample, closing_samples, closing_sampled, rest_samples, rest_sampled, load_sampled, word_sampled, line_end_sampled}
+use Rattle.il_grammar_laws.proofs.GoesOn.{whole_or, cut_here, cut_one, samples_apart, is_solid, stays_loose, passes_always, then_sampled, at_sampled, map_sampled, IsFilling, begins_here}
 use Rattle.il_read.specs.Lead.{lead_at, lead_of}
-use Rattle.il_read.specs.Reads.{IsFault, Reads, Stands, BreaksOff, BreaksOffAs, NamesFirst, fault_at, SpellsRoomyOf, Effect, effect_of}
+use Rattle.il_read.specs.Reads.{Stands, BreaksOff, BreaksOffAs, NamesFirst, fault_at, SpellsRoomyOf, Effect, effect_of}
 use Rattle.il_read.specs.Reads.Effect.{Even, Opening, Closing}
 use Rattle.il_read.specs.declared.stop.Stop.{Stop}
 use Rattle.il_read.specs.declared.stop.SyntaxError.TheVariants.{Unexpected, TooMany}
 use Rattle.il_read.proofs.Chain.{HasRead}
-use Rattle.il_read.proofs.Breaks.{as_breaks, at_first, map_breaks, part_loose, s_part_tight}
+use Rattle.il_read.proofs.Breaks.{as_breaks, map_breaks, part_loose, s_part_tight}
 use Rattle.il_read.proofs.Completions.{place_at, placed_read}
 use Rattle.il_parse.specs.Bodies.{may_begin, bare, HasLabels}
 use Rattle.il_parse.specs.GoesOn.{Rest, SpellsRestLines, SpellsFrom, SpellsPlacedFrom}

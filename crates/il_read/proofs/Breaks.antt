@@ -1,15 +1,13 @@
 -- Readers that break off, put together.
-use Rattle.std.proofs.Common.{◌≡◌, ◌<◌, ℕ, length, Bool, true, false, Option, Some, None, List, [], ◌∷◌, ◌++◌, refl, sym, ◌∙◌, subst, ap}
-use Rattle.std.specs.Prelude.{Result, Ok, Err, IfErr, IsErrAnd, ◌⊎◌}
+use Rattle.std.proofs.Common.{◌≡◌, ℕ, true, List, ◌++◌, sym, subst}
+use Rattle.std.specs.Prelude.{Result, Ok, Err, IfErr, IsErrAnd}
 use Rattle.il_spec.specs.declared.token.Token.{Token}
 use Rattle.il_spec.specs.declared.tree.Place.{Place}
-use Rattle.il_spec.specs.Grammar.{Front, Gap, tight, loose, skip_line_ends, ◌⟨◌⟩◌, ◌⨾◌, ◌⋯◌, Repeats, Listed, TheSign, At}
-use Rattle.il_grammar_laws.specs.Alike.{IsEndOf}
-use Rattle.il_grammar_laws.specs.GoesOn.{Sample, Test, always, quiet, calm, settled, IsSampled, Begins}
-use Rattle.il_grammar_laws.proofs.Open.{Fills, Takes}
-use Rattle.il_grammar_laws.proofs.GoesOn.{is_solid, is_calm, is_still, Passes, Stays, stays_tight, stays_loose, passes_quiet, passes_settled, passes_calm, passes_always, IsCutGap, tight_cut, loose_cut, Reaches, reach_tight, reach_loose, then_sampled, behind_sampled, map_sampled, IsFilling, begins_here, begins_first, begins_later, begins_behind, begins_first_part, begins_as, begins_under, begins_at}
-use Rattle.il_read.specs.Reads.{IsFault, Reads, Stands, BreaksOff, NamesFirst, fault_at}
-use Rattle.il_read.specs.declared.stop.SyntaxError.{SyntaxError}
+use Rattle.il_spec.specs.Grammar.{Front, Gap, tight, loose, skip_line_ends, ◌⨾◌, ◌⋯◌, At}
+use Rattle.il_grammar_laws.specs.GoesOn.{Sample, Test, always, quiet, calm, IsSampled, Begins}
+use Rattle.il_grammar_laws.proofs.Open.{Fills}
+use Rattle.il_grammar_laws.proofs.GoesOn.{is_solid, is_calm, is_still, stays_tight, stays_loose, passes_quiet, passes_calm, passes_always, tight_cut, loose_cut, reach_tight, reach_loose, then_sampled, behind_sampled, IsFilling, begins_here, begins_first, begins_later, begins_behind, begins_as, begins_under, begins_at}
+use Rattle.il_read.specs.Reads.{IsFault, Reads, Stands, BreaksOff, NamesFirst}
 use Rattle.il_read.specs.declared.stop.Stop.{Stop}
 use Rattle.il_read.specs.declared.stop.Stop.TheVariants as stop
 

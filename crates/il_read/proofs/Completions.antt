@@ -1,18 +1,14 @@
 -- Rules of readers that hold of cut tokens, and their samples.
-use Rattle.std.proofs.Common.{◌≡◌, ◌<◌, ℕ, length, Bool, true, false, Option, Some, None, List, [], ◌∷◌, ◌++◌, refl, sym, ◌∙◌, subst, ap, arith, inl, inr}
-use Rattle.std.specs.Prelude.{ℤ, IsTrue, codes, bytes_eq, ◌⊎◌, Result, Ok, Err, IfErr, IsErrAnd}
+use Rattle.std.proofs.Common.{◌≡◌, ◌<◌, ℕ, length, Bool, true, List, [], ◌∷◌, ◌++◌, refl, sym, subst, arith, inl, inr}
+use Rattle.std.specs.Prelude.{ℤ, codes, ◌⊎◌, Result, Ok, Err, IfErr, IsErrAnd}
 use Rattle.il_spec.specs.declared.token.Token.{Token}
-use Rattle.il_spec.specs.declared.token.Sign.TheVariants.{Assign, Arrow, Range, Colon, Semicolon, Comma, OpenParenthesis, CloseParenthesis, OpenBracket, CloseBracket, Dot}
+use Rattle.il_spec.specs.declared.token.Sign.TheVariants.{Assign, Range, Colon, Semicolon, Comma, OpenParenthesis, CloseParenthesis, OpenBracket, CloseBracket}
 use Rattle.il_spec.specs.declared.keyword.Keyword.{Keyword}
 use Rattle.il_spec.specs.declared.keyword.Keyword.TheVariants as word
 use Rattle.il_spec.specs.declared.tree.Place.{Place}
 use Rattle.il_spec.specs.declared.tree.Elementary.TheVariants as elementary
-use Rattle.il_spec.specs.declared.tree.Literal.{Literal}
 use Rattle.il_spec.specs.declared.tree.Literal.TheVariants as literal
 use Rattle.il_spec.specs.declared.tree.Subrange.{Subrange}
-use Rattle.il_spec.specs.declared.tree.Scalar.{Scalar}
-use Rattle.il_spec.specs.declared.tree.Form.TheVariants as form
-use Rattle.il_spec.specs.declared.tree.Initial.{Initial}
 use Rattle.il_spec.specs.declared.tree.Named.{Named}
 use Rattle.il_spec.specs.declared.tree.Index.{Index}
 use Rattle.il_spec.specs.declared.tree.Reference.{Reference}
@@ -20,31 +16,28 @@ use Rattle.il_spec.specs.declared.tree.Reference.TheVariants as reference
 use Rattle.il_spec.specs.declared.tree.Operand.{Operand}
 use Rattle.il_spec.specs.declared.tree.Operator.{Operator}
 use Rattle.il_spec.specs.declared.tree.Argument.{Argument}
-use Rattle.il_spec.specs.declared.tree.Argument.TheVariants as argument
 use Rattle.il_spec.specs.declared.tree.Instruction.{Instruction}
 use Rattle.il_spec.specs.declared.tree.Instruction.TheVariants as instruction
 use Rattle.il_spec.specs.declared.tree.Size.{Size}
-use Rattle.il_spec.specs.Grammar.{Front, Gap, tight, loose, skip_line_ends, ◌⟨◌⟩◌, ◌⨾◌, ◌⋯◌, AfterLines, At, IsPlace, Repeats, Listed, TheSign, TheLineEnd, ANumber, ATyped, TheWord, AWord, AName, TheName, SomeName, TheText, ADecimal, ALiteral, SpellsScalar, SpellsDeclaration, SpellsArguments, SpellsOperands, SpellsForm, SpellsType, SpellsInitial, SpellsIndex, SpellsReference, SpellsOperand, SpellsTarget, SpellsOperator, SpellsArgument, SpellsFirst, SpellsInstruction, SpellsSize}
+use Rattle.il_spec.specs.Grammar.{Front, Gap, tight, loose, skip_line_ends, ◌⟨◌⟩◌, ◌⨾◌, ◌⋯◌, AfterLines, At, Repeats, Listed, TheSign, TheLineEnd, ANumber, AName, TheName, TheText, ADecimal, ALiteral, SpellsDeclaration, SpellsArguments, SpellsOperands, SpellsForm, SpellsType, SpellsIndex, SpellsReference, SpellsOperand, SpellsTarget, SpellsOperator, SpellsArgument, SpellsSize}
 use Rattle.il_grammar_laws.specs.GoesOn.{Sample, Test, always, quiet, calm, settled, IsSampled, Begins}
-use Rattle.il_grammar_laws.proofs.Open.{Fills, Takes, next, sign_fills, word_fills, number_fills, decimal_fills, literal_fills, typed_fills, index_fills, name_fills, the_name_fills, any_word_fills, names_fill, size_fills, inside_fills, operand_fills, loose_operand_fills, target_fills, type_fills, form_fills, declaration_fills, argument_fills, reference_fills, loose_reference_fills, operator_fills, fill_placed, loose_open}
-use Rattle.il_grammar_laws.proofs.Samples.{word_sample, sign_sample, name_sample, number_sample, time_sample, true_sample, line_end_sample, cars_sample, floors_sample, slots_sample, cars_lexeme, floors_lexeme, slots_lexeme, sign_sampled, line_end_sampled, word_sampled, placed_word_sampled, name_sampled, any_word_sampled, the_name_sampled, any_named_sampled, some_name_sampled, text_sampled, number_sampled, decimal_sampled, interval_sampled, literal_sampled, scalar_sampled, type_sampled, index_sampled, reference_sampled, operand_sampled, variable_sampled, loose_variable_sampled, target_sampled, passed_sampled, argument_sampled, inside_sampled, operand_line_sampled}
-use Rattle.il_grammar_laws.proofs.GoesOn.{is_solid, is_calm, is_still, Passes, Stays, stays_tight, stays_loose, passes_quiet, passes_settled, passes_calm, passes_always, IsCutGap, tight_cut, loose_cut, Reaches, reach_tight, reach_loose, then_sampled, behind_sampled, map_sampled, any_sampled, at_sampled, IsFilling, begins_here, begins_first, begins_later, begins_behind, begins_as, begins_at, begins_lines, begins_inside, whole_or, gone_item, wanted_item, wanted_end}
+use Rattle.il_grammar_laws.proofs.Open.{Fills, Takes, next, sign_fills, word_fills, number_fills, decimal_fills, literal_fills, typed_fills, index_fills, name_fills, the_name_fills, any_word_fills, names_fill, size_fills, inside_fills, operand_fills, target_fills, type_fills, form_fills, declaration_fills, argument_fills, reference_fills, loose_reference_fills, operator_fills, fill_placed, loose_open}
+use Rattle.il_grammar_laws.proofs.Samples.{word_sample, sign_sample, name_sample, number_sample, time_sample, true_sample, line_end_sample, cars_sample, floors_sample, slots_sample, cars_lexeme, floors_lexeme, slots_lexeme, sign_sampled, line_end_sampled, word_sampled, the_name_sampled, text_sampled, number_sampled, decimal_sampled, interval_sampled, scalar_sampled, index_sampled, variable_sampled, loose_variable_sampled, passed_sampled, operand_line_sampled}
+use Rattle.il_grammar_laws.proofs.GoesOn.{is_solid, Passes, Stays, stays_tight, stays_loose, passes_calm, passes_always, IsCutGap, tight_cut, loose_cut, Reaches, reach_tight, then_sampled, behind_sampled, map_sampled, any_sampled, at_sampled, IsFilling, begins_here, begins_later, begins_behind, begins_as, begins_at, begins_lines, begins_inside, whole_or, gone_item, wanted_item, wanted_end}
 use Rattle.il_read.specs.declared.tokens.Gap.{Gap as GapKind}
 use Rattle.il_read.specs.declared.tokens.Gap.TheVariants as gap
 use Rattle.il_read.specs.declared.operand.Selector.{Selector}
 use Rattle.il_read.specs.declared.operand.Selector.TheVariants as selector
 use Rattle.il_read.specs.declared.operand.Passed.{Passed}
 use Rattle.il_read.specs.declared.operand.Passed.TheVariants as passed
-use Rattle.il_read.specs.Reads.{IsFault, Reads, Stands, BreaksOff, NamesFirst, test_of, gap_of, SpellsRange, SpellsElementType, SpellsLine, SpellsWork, SpellsRoomy, SpellsInside, SpellsOpened, SpellsListed, AnyNamed, BreaksOffAs, SpellsWorkOf, SpellsRoomyOf, Effect}
-use Rattle.il_read.specs.Reads.Effect.{Even, Opening, Closing}
+use Rattle.il_read.specs.Reads.{Reads, BreaksOff, NamesFirst, test_of, gap_of, SpellsRange, SpellsElementType, SpellsInside, SpellsOpened, SpellsListed, AnyNamed, BreaksOffAs, SpellsWorkOf, SpellsRoomyOf, Effect}
+use Rattle.il_read.specs.Reads.Effect.{Even}
 use Rattle.il_read.specs.Operands.{SpellsElement, SpellsSelector, SpellsSelected, SpellsPassed, reference_of, argument_of}
 use Rattle.il_read.specs.Settings.{AnInterval, PlacedWord, PlacedDecimal, SpellsSized, SpellsPriority, SpellsSchedule, SpellsTimes, SpellsProgramName, SpellsBound, SpellsWith, SpellsFloors, IsSizeWord}
 use Rattle.il_read.specs.declared.stop.Stop.{Stop}
-use Rattle.il_spec.specs.Text.{upper_case}
-use Rattle.il_read.proofs.Alternatives.{argument_read}
 use Rattle.il_read.proofs.Instructions.{work_read}
 use Rattle.il_read.proofs.Chain.{HasRead, Wants}
-use Rattle.il_read.proofs.Breaks.{as_breaks, at_first, map_breaks, s_loose, s_part, s_part_tight, s_tight}
+use Rattle.il_read.proofs.Breaks.{as_breaks, at_first, map_breaks, s_loose, s_part, s_part_tight}
 
 -- rules of which each value holds of cut tokens
 pub the_name_filling : IsFilling tight always (λ text. TheName text)

@@ -11,8 +11,8 @@ use Rattle.il_spec.specs.Text.{AreTokens, HasNoTokens}
 use Rattle.il_text.specs.Refused.{IsMemoryOrFaultOfBytes}
 use Rattle.il_text.specs.LexicalErrors.{IsFaultOfText, the_start}
 use Rattle.il_text.proofs.FirstError.{one_fault, no_first}
-use Rattle.il_parse.specs.Refused.{IsFault, IsOfParser, GoesOnNowhere}
-use Rattle.lift_load.specs.Loading.{IsSpelled, IsRefusedFor, SpellsNone, HasTokens, IsNumberOfBytes, of_bytes, of_grammar, of_tree, IsExplained, ReportsFaultOfText, NamesTurn}
+use Rattle.il_parse.specs.Refused.{IsFault, IsOfParser, GoesOnNowhere, GoesOnBefore}
+use Rattle.lift_load.specs.Loading.{IsSpelled, IsRefusedFor, SpellsNone, HasTokens, IsNumberOfBytes, of_bytes, of_grammar, of_tree, IsExplained, ReportsFaultOfText, NamesTurn, IsNamedFirst}
 use Rattle.lift_load.proofs.TreeNumbers.{late_fault}
 
 -- a refusal that is handed on is of the same kind
@@ -98,3 +98,15 @@ nowhere_by_parser text e tokens only nowhere = λ out short ts cut. subst (λ xs
 pub nowhere_of_spelled : {X : Type 0} (text : List ℕ) (c : Config) → IsSpelled text c → (r : Result X Refusal) → IfErr r (NamesTurn text)
 nowhere_of_spelled text c is (Ok x) = tt
 nowhere_of_spelled text c is (Err e) = λ out short ts cut. absurd (out c is)
+
+-- the same of the tokens before it
+pub before_by_tokens : (text : List ℕ) (e : Refusal) → (IsFault {A = Config} (Err e) → length text ≤ 262144 → HasNoTokens text) → IsNamedFirst text e
+before_by_tokens text Memory none = λ out short ts cut. tt
+before_by_tokens text (Fault number place) none = λ out short ts cut. absurd (none tt short ts cut)
+
+pub before_by_parser : (text : List ℕ) (e : Refusal) (tokens : List Token) → ((ts : List Token) → AreTokens text 0 ts → ts ≡ tokens) → GoesOnBefore text tokens e → IsNamedFirst text e
+before_by_parser text e tokens only before = λ out short ts cut. subst (λ xs. GoesOnBefore text xs e) (sym (only ts cut)) before
+
+pub before_of_spelled : {X : Type 0} (text : List ℕ) (c : Config) → IsSpelled text c → (r : Result X Refusal) → IfErr r (IsNamedFirst text)
+before_of_spelled text c is (Ok x) = tt
+before_of_spelled text c is (Err e) = λ out short ts cut. absurd (out c is)

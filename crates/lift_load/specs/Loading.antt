@@ -8,7 +8,7 @@ use Rattle.il_spec.specs.declared.token.Token.{Token}
 use Rattle.il_spec.specs.Text.{AreTokens}
 use Rattle.il_spec.specs.Grammar.{Spells, IsWithinLimits}
 use Rattle.il_text.specs.LexicalErrors.{IsFaultOfText}
-use Rattle.il_parse.specs.Refused.{GoesOnNowhere}
+use Rattle.il_parse.specs.Refused.{GoesOnNowhere, GoesOnBefore}
 use Rattle.il_rules.specs.Faults.{IsRefusedBy, BreaksDeclarations, Typing, Ordering, HasNoFault, Broken}
 use Rattle.il_run.specs.Annotation.{Annotated}
 use Rattle.il_ranges.specs.Lacking.{BreaksRanges}
@@ -88,3 +88,8 @@ ReportsFaultOfText text answer = (number : ℕ) (place : Place) → IsFaultOfTex
 -- the same tokens up to this one, whatever stands behind, spells a configuration that keeps the limit which the fault is about.
 abbrev pub NamesTurn : List ℕ → Refusal → Type 0
 NamesTurn text refusal = SpellsNone text → length text ≤ 262144 → (ts : List Token) → AreTokens text 0 ts → GoesOnNowhere text ts refusal
+
+-- And with the tokens before it some text does: one has these tokens, of the same bytes, and others behind, and is of the language, where no
+-- limits count.
+abbrev pub IsNamedFirst : List ℕ → Refusal → Type 0
+IsNamedFirst text refusal = SpellsNone text → length text ≤ 262144 → (ts : List Token) → AreTokens text 0 ts → GoesOnBefore text ts refusal

@@ -15,7 +15,7 @@ ghost use Rattle.il_layout.specs.Whole.{unit_code};
 ghost use Rattle.il_exec.specs.Windows.{AreAllQuick};
 ghost use Rattle.il_machine.specs.Sharing.{ArePlans};
 ghost use Rattle.lift_run_laws.specs.Runs.{RunsWell};
-ghost use Rattle.lift_load.specs.Loading.{IsSpelled, SpellsOnly, SpellsNone, IsUnbroken, IsAccepted, IsRefusedFor, IsSpelledWith, IsExplained, ReportsFaultOfText, NamesTurn};
+ghost use Rattle.lift_load.specs.Loading.{IsSpelled, SpellsOnly, SpellsNone, IsUnbroken, IsAccepted, IsRefusedFor, IsSpelledWith, IsExplained, ReportsFaultOfText, NamesTurn, IsNamedFirst};
 
 use il_code::{Code, code};
 use il_declare::declare;
@@ -49,6 +49,9 @@ pub fn load(alloc: Global, text: &[u8]) -> Result<Verified, Refusal>
     // Of a text that has tokens and spells none, no text goes on with the token that the fault names.
     ensures nowhere { IfErr result (NamesTurn text.now) }
 
+    // With the tokens before it, some text does.
+    ensures before { IfErr result (IsNamedFirst text.now) }
+
     // A text that spells a configuration has no other fault.
     ensures one { IsFault result → (n : ℕ) (p : Place) → IsSpelledWith text.now (Fault n p)
         → IsErrAnd result (λ e. e ≡ Fault n p) }
@@ -78,6 +81,7 @@ fn parsed(alloc: Global, text: &[u8]) -> Result<Written, Refusal>
     ensures number { IfErr result (IsExplained text.now) }
     ensures bytes { ReportsFaultOfText text.now result }
     ensures nowhere { IfErr result (NamesTurn text.now) }
+    ensures before { IfErr result (IsNamedFirst text.now) }
 {
     let tokens = tokens(alloc, text)?;
     let config = parse(alloc, text, &tokens)?;

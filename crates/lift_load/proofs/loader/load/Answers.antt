@@ -1,6 +1,6 @@
 use Rattle.il_spec.specs.declared.tree.Config.{Config}
-use Rattle.lift_load.specs.Loading.{IsExplained, NamesTurn}
-use Rattle.lift_load.proofs.Explaining.{handed_as, nowhere_of_spelled, handed_report, no_fault_of_spelled}
+use Rattle.lift_load.specs.Loading.{IsExplained, NamesTurn, IsNamedFirst}
+use Rattle.lift_load.proofs.Explaining.{handed_as, nowhere_of_spelled, before_of_spelled, handed_report, no_fault_of_spelled}
 use Rattle.lift_load.proofs.Accepting.{handed_on}
 use Rattle.lift_load.proofs.Phases.{found_by, runs_by, refused_by, named_by, explained_by}
 use Rattle.lift_load.proofs.OneFault.{one_by}
@@ -25,6 +25,9 @@ returns-in_err-config-clause-bytes c = handed_report c.args.text.now _ _ c.from_
 
 pub returns-in_err-config-clause-nowhere : goal.returns-in_err-config-clause-nowhere
 returns-in_err-config-clause-nowhere c = handed_as (NamesTurn c.args.text.now) _ _ c.from_residual.ensures.1 c.in_err-config.ensures.nowhere
+
+pub returns-in_err-config-clause-before : goal.returns-in_err-config-clause-before
+returns-in_err-config-clause-before c = handed_as (IsNamedFirst c.args.text.now) _ _ c.from_residual.ensures.1 c.in_err-config.ensures.before
 
 -- THE CONFIGURATION
 
@@ -51,3 +54,6 @@ returns-clause-bytes c = λ n l fault. absurd (no_fault_of_spelled c.args.text.n
 
 pub returns-clause-nowhere : goal.returns-clause-nowhere
 returns-clause-nowhere c = nowhere_of_spelled c.args.text.now c.in_ok-config.config c.in_ok-config.ensures.only.spelled c.verified.result
+
+pub returns-clause-before : goal.returns-clause-before
+returns-clause-before c = before_of_spelled c.args.text.now c.in_ok-config.config c.in_ok-config.ensures.only.spelled c.verified.result

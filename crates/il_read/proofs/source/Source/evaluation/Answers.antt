@@ -4,8 +4,8 @@ use Rattle.il_read.proofs.Leaves.{sign_there}
 use Rattle.il_read.proofs.Instructions.{evaluate_refused}
 use Rattle.il_spec.specs.declared.tree.Instruction.TheVariants as instruction
 use Rattle.il_spec.specs.declared.token.Sign.TheVariants.{CloseParenthesis}
-use Rattle.il_read.specs.Reads.{SpellsRoomy, SpellsRoomyOf}
-use Rattle.il_read.proofs.Breaks.{at_first, map_breaks, part_tight, up_breaks}
+use Rattle.il_read.specs.Reads.{SpellsRoomyOf}
+use Rattle.il_read.proofs.Breaks.{at_first, map_breaks, part_tight}
 use Rattle.il_grammar_laws.proofs.Samples.{line_end_sampled}
 use Rattle.il_grammar_laws.proofs.Open.{sign_fills}
 use Rattle.il_read.proofs.Completions.{as_effect, up_so}

@@ -1,8 +1,7 @@
 use Rattle.std.proofs.Common.{sym}
 use Rattle.il_read.proofs.Instructions.{none_refused, no_other}
 use Rattle.il_read.specs.declared.stop.SyntaxError.TheVariants.{Unexpected}
-use Rattle.il_read.proofs.Breaks.{at_first}
-use Rattle.il_read.proofs.Completions.{roomy_sampled, roomy_first}
+use Rattle.il_read.proofs.Completions.{roomy_first}
 use Rattle.il_read.proofs.source.Source.instruction.Goals as goal
 
 pub returns-in_default-clause-refused : goal.returns-in_default-clause-refused

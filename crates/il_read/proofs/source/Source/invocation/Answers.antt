@@ -2,10 +2,10 @@ use Rattle.il_read.specs.Reads.{SpellsRoomyBy}
 use Rattle.il_read.proofs.ByError.{up_by}
 use Rattle.il_read.proofs.Instructions.{function_refused, operands_refused}
 use Rattle.il_spec.specs.declared.tree.Instruction.TheVariants as instruction
-use Rattle.il_read.specs.Reads.{SpellsRoomy, SpellsRoomyOf}
-use Rattle.il_read.proofs.Breaks.{at_first, later_tight, map_breaks, up_breaks}
+use Rattle.il_read.specs.Reads.{SpellsRoomyOf}
+use Rattle.il_read.proofs.Breaks.{later_tight, map_breaks}
 use Rattle.il_grammar_laws.proofs.Samples.{operands_sampled}
-use Rattle.il_read.proofs.Completions.{roomy_sampled, the_name_filling, as_effect, roomy_first, up_so}
+use Rattle.il_read.proofs.Completions.{the_name_filling, as_effect, roomy_first, up_so}
 use Rattle.std.proofs.Common.{refl}
 use Rattle.il_read.specs.Reads.Effect.{Even}
 use Rattle.il_read.proofs.source.Source.invocation.Goals as goal

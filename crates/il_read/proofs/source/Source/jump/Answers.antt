@@ -4,8 +4,8 @@ use Rattle.il_read.proofs.Leaves.{word_there}
 use Rattle.il_read.proofs.Instructions.{jump_refused}
 use Rattle.il_spec.specs.declared.tree.Instruction.TheVariants as instruction
 use Rattle.il_spec.specs.declared.keyword.Keyword.TheVariants as word
-use Rattle.il_read.specs.Reads.{SpellsRoomy, SpellsRoomyOf}
-use Rattle.il_read.proofs.Breaks.{map_breaks, part_tight, up_breaks}
+use Rattle.il_read.specs.Reads.{SpellsRoomyOf}
+use Rattle.il_read.proofs.Breaks.{map_breaks, part_tight}
 use Rattle.il_grammar_laws.proofs.Samples.{name_line_sampled}
 use Rattle.il_grammar_laws.proofs.Open.{word_fills}
 use Rattle.il_read.proofs.Completions.{as_effect, up_so}

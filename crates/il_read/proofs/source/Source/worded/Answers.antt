@@ -1,7 +1,6 @@
 use Rattle.il_read.proofs.Instructions.{none_refused, no_word}
 use Rattle.il_read.specs.declared.stop.SyntaxError.TheVariants.{Unexpected}
-use Rattle.il_read.proofs.Breaks.{at_first}
-use Rattle.il_read.proofs.Completions.{roomy_sampled, roomy_first}
+use Rattle.il_read.proofs.Completions.{roomy_first}
 use Rattle.il_read.proofs.source.Source.worded.Goals as goal
 
 pub returns-in_default-clause-refused : goal.returns-in_default-clause-refused
