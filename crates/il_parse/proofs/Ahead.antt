@@ -1,22 +1,20 @@
 -- Readers behind parts that look ahead, and loops whose end is told by more than a token.
-use Rattle.std.proofs.Common.{◌≡◌, ℕ, ◌≤◌, length, arith, Bool, true, false, List, [], ◌∷◌, ◌++◌, refl, sym, ◌∙◌, subst, ap, inl, inr}
+use Rattle.std.proofs.Common.{◌≡◌, ℕ, arith, Bool, true, false, List, [], ◌∷◌, ◌++◌, refl, sym, ◌∙◌, subst, ap, inl, inr}
 use Rattle.std.specs.Prelude.{Result, Ok, Err, IfErr, IsErrAnd, if◌then◌else◌}
 use Rattle.il_spec.specs.declared.token.Token.{Token}
 use Rattle.il_spec.specs.declared.token.Kind.{Kind}
 use Rattle.il_spec.specs.declared.token.Kind.TheVariants as kind
 use Rattle.il_spec.specs.declared.keyword.Keyword.{Keyword}
 use Rattle.il_spec.specs.declared.tree.Body.{Body}
-use Rattle.il_spec.specs.Grammar.{Front, Gap, tight, loose, is_line_end, skip_line_ends, ◌⟨◌⟩◌, ◌⨾◌, ◌⋯◌, Repeats, TheLineEnd}
-use Rattle.il_grammar_laws.specs.Alike.{IsEndOf, AreAlike, IsGap, IsLocal}
+use Rattle.il_spec.specs.Grammar.{Front, tight, loose, is_line_end, skip_line_ends, ◌⨾◌, Repeats, TheLineEnd}
+use Rattle.il_grammar_laws.specs.Alike.{IsEndOf, AreAlike, IsLocal}
 use Rattle.il_grammar_laws.proofs.Alike.{end_self, end_length, end_of_end, alike_self, loose_gap, gap_length}
 use Rattle.il_grammar_laws.proofs.Local.{line_end_local}
 use Rattle.il_grammar_laws.proofs.Bodies.{skip_one}
 use Rattle.il_grammar_laws.specs.GoesOn.{always}
 use Rattle.il_grammar_laws.proofs.GoesOn.{IsFilling, gone_on}
-use Rattle.il_read.specs.Reads.{IsFault, Reads, GoesOnNoMore, Refuses, Stands, Misses, turn, fault_at, RefusesBy, error_of}
-use Rattle.il_read.specs.declared.stop.SyntaxError.{SyntaxError}
+use Rattle.il_read.specs.Reads.{Reads, Refuses, Stands, Misses, turn, RefusesBy, error_of}
 use Rattle.il_read.specs.declared.stop.Stop.{Stop}
-use Rattle.il_read.specs.declared.stop.Stop.TheVariants as stop
 use Rattle.il_read.proofs.Chain.{Lacks, HasRead, regroup, later_goes, valued}
 use Rattle.il_parse.specs.Ahead.{RefusesAhead, RefusesAheadBy}
 use Rattle.il_parse.specs.Bodies.{SpellsStepsBy, SpellsBodyBy}

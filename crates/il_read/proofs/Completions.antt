@@ -1,18 +1,14 @@
 -- Rules of readers that hold of cut tokens, and their samples.
-use Rattle.std.proofs.Common.{◌≡◌, ◌<◌, ℕ, length, Bool, true, false, Option, Some, None, List, [], ◌∷◌, ◌++◌, refl, sym, ◌∙◌, subst, ap, arith, inl, inr}
-use Rattle.std.specs.Prelude.{ℤ, IsTrue, codes, bytes_eq, ◌⊎◌, Result, Ok, Err, IfErr, IsErrAnd}
+use Rattle.std.proofs.Common.{◌≡◌, ◌<◌, ℕ, length, Bool, true, false, Some, List, [], ◌∷◌, ◌++◌, refl, sym, subst, arith, inl, inr}
+use Rattle.std.specs.Prelude.{ℤ, codes, ◌⊎◌, Result, Ok, Err, IfErr, IsErrAnd}
 use Rattle.il_spec.specs.declared.token.Token.{Token}
-use Rattle.il_spec.specs.declared.token.Sign.TheVariants.{Assign, Arrow, Range, Colon, Semicolon, Comma, OpenParenthesis, CloseParenthesis, OpenBracket, CloseBracket, Dot}
+use Rattle.il_spec.specs.declared.token.Sign.TheVariants.{Assign, Range, Colon, Semicolon, Comma, OpenParenthesis, CloseParenthesis, OpenBracket, CloseBracket}
 use Rattle.il_spec.specs.declared.keyword.Keyword.{Keyword}
 use Rattle.il_spec.specs.declared.keyword.Keyword.TheVariants as word
 use Rattle.il_spec.specs.declared.tree.Place.{Place}
 use Rattle.il_spec.specs.declared.tree.Elementary.TheVariants as elementary
-use Rattle.il_spec.specs.declared.tree.Literal.{Literal}
 use Rattle.il_spec.specs.declared.tree.Literal.TheVariants as literal
 use Rattle.il_spec.specs.declared.tree.Subrange.{Subrange}
-use Rattle.il_spec.specs.declared.tree.Scalar.{Scalar}
-use Rattle.il_spec.specs.declared.tree.Form.TheVariants as form
-use Rattle.il_spec.specs.declared.tree.Initial.{Initial}
 use Rattle.il_spec.specs.declared.tree.Named.{Named}
 use Rattle.il_spec.specs.declared.tree.Index.{Index}
 use Rattle.il_spec.specs.declared.tree.Reference.{Reference}
@@ -20,31 +16,29 @@ use Rattle.il_spec.specs.declared.tree.Reference.TheVariants as reference
 use Rattle.il_spec.specs.declared.tree.Operand.{Operand}
 use Rattle.il_spec.specs.declared.tree.Operator.{Operator}
 use Rattle.il_spec.specs.declared.tree.Argument.{Argument}
-use Rattle.il_spec.specs.declared.tree.Argument.TheVariants as argument
 use Rattle.il_spec.specs.declared.tree.Instruction.{Instruction}
 use Rattle.il_spec.specs.declared.tree.Instruction.TheVariants as instruction
 use Rattle.il_spec.specs.declared.tree.Size.{Size}
-use Rattle.il_spec.specs.Grammar.{Front, Gap, tight, loose, skip_line_ends, ◌⟨◌⟩◌, ◌⨾◌, ◌⋯◌, AfterLines, At, IsPlace, Repeats, Listed, TheSign, TheLineEnd, ANumber, ATyped, TheWord, AWord, AName, TheName, SomeName, TheText, ADecimal, ALiteral, SpellsScalar, SpellsDeclaration, SpellsArguments, SpellsOperands, SpellsForm, SpellsType, SpellsInitial, SpellsIndex, SpellsReference, SpellsOperand, SpellsTarget, SpellsOperator, SpellsArgument, SpellsFirst, SpellsInstruction, SpellsSize}
+use Rattle.il_spec.specs.Grammar.{Front, Gap, tight, loose, skip_line_ends, ◌⟨◌⟩◌, ◌⨾◌, ◌⋯◌, AfterLines, At, Repeats, Listed, TheSign, TheLineEnd, ANumber, AName, TheName, TheText, ADecimal, ALiteral, SpellsDeclaration, SpellsArguments, SpellsOperands, SpellsForm, SpellsType, SpellsIndex, SpellsReference, SpellsOperand, SpellsTarget, SpellsOperator, SpellsArgument, SpellsSize}
 use Rattle.il_grammar_laws.specs.GoesOn.{Sample, Test, always, quiet, calm, settled, IsSampled, Begins}
-use Rattle.il_grammar_laws.proofs.Open.{Fills, Takes, next, sign_fills, word_fills, number_fills, decimal_fills, literal_fills, typed_fills, index_fills, name_fills, the_name_fills, any_word_fills, names_fill, size_fills, inside_fills, operand_fills, loose_operand_fills, target_fills, type_fills, form_fills, declaration_fills, argument_fills, reference_fills, loose_reference_fills, operator_fills, fill_placed, loose_open}
-use Rattle.il_grammar_laws.proofs.Samples.{word_sample, sign_sample, name_sample, number_sample, time_sample, true_sample, line_end_sample, cars_sample, floors_sample, slots_sample, cars_lexeme, floors_lexeme, slots_lexeme, sign_sampled, line_end_sampled, word_sampled, placed_word_sampled, name_sampled, any_word_sampled, the_name_sampled, any_named_sampled, some_name_sampled, text_sampled, number_sampled, decimal_sampled, interval_sampled, literal_sampled, scalar_sampled, type_sampled, index_sampled, reference_sampled, operand_sampled, variable_sampled, loose_variable_sampled, target_sampled, passed_sampled, argument_sampled, inside_sampled, operand_line_sampled}
-use Rattle.il_grammar_laws.proofs.GoesOn.{is_solid, is_calm, is_still, Passes, Stays, stays_tight, stays_loose, passes_quiet, passes_settled, passes_calm, passes_always, IsCutGap, tight_cut, loose_cut, Reaches, reach_tight, reach_loose, then_sampled, behind_sampled, map_sampled, any_sampled, at_sampled, IsFilling, begins_here, begins_first, begins_later, begins_behind, begins_as, begins_at, begins_lines, begins_inside, whole_or, gone_item, wanted_item, wanted_end}
+use Rattle.il_grammar_laws.proofs.Open.{Fills, Takes, next, sign_fills, word_fills, number_fills, decimal_fills, literal_fills, typed_fills, index_fills, name_fills, the_name_fills, any_word_fills, names_fill, size_fills, inside_fills, operand_fills, target_fills, type_fills, form_fills, declaration_fills, argument_fills, reference_fills, loose_reference_fills, operator_fills, fill_placed, loose_open}
+use Rattle.il_grammar_laws.proofs.Samples.{word_sample, sign_sample, name_sample, number_sample, time_sample, true_sample, line_end_sample, cars_sample, floors_sample, slots_sample, cars_lexeme, floors_lexeme, slots_lexeme, sign_sampled, line_end_sampled, word_sampled, the_name_sampled, text_sampled, number_sampled, decimal_sampled, interval_sampled, scalar_sampled, index_sampled, variable_sampled, loose_variable_sampled, passed_sampled, operand_line_sampled}
+use Rattle.il_grammar_laws.proofs.GoesOn.{is_solid, Passes, Stays, stays_tight, stays_loose, passes_calm, passes_always, IsCutGap, tight_cut, loose_cut, Reaches, reach_tight, then_sampled, behind_sampled, map_sampled, any_sampled, at_sampled, IsFilling, begins_here, begins_later, begins_behind, begins_as, begins_at, begins_lines, begins_inside, whole_or, gone_item, wanted_item, wanted_end}
 use Rattle.il_read.specs.declared.tokens.Gap.{Gap as GapKind}
 use Rattle.il_read.specs.declared.tokens.Gap.TheVariants as gap
 use Rattle.il_read.specs.declared.operand.Selector.{Selector}
 use Rattle.il_read.specs.declared.operand.Selector.TheVariants as selector
 use Rattle.il_read.specs.declared.operand.Passed.{Passed}
 use Rattle.il_read.specs.declared.operand.Passed.TheVariants as passed
-use Rattle.il_read.specs.Reads.{IsFault, Reads, Stands, BreaksOff, NamesFirst, test_of, gap_of, SpellsRange, SpellsElementType, SpellsLine, SpellsWork, SpellsRoomy, SpellsInside, SpellsOpened, SpellsListed, AnyNamed, BreaksOffAs, SpellsWorkOf, SpellsRoomyOf, Effect}
-use Rattle.il_read.specs.Reads.Effect.{Even, Opening, Closing}
+use Rattle.il_read.specs.Reads.{Reads, BreaksOff, NamesFirst, test_of, gap_of, SpellsRange, SpellsElementType, SpellsLine, SpellsInside, SpellsOpened, SpellsListed, AnyNamed, BreaksOffAs, SpellsWorkOf, SpellsRoomyOf, Effect, kept, fault_at}
+use Rattle.il_read.specs.Reads.Effect.{Even, Opening}
 use Rattle.il_read.specs.Operands.{SpellsElement, SpellsSelector, SpellsSelected, SpellsPassed, reference_of, argument_of}
 use Rattle.il_read.specs.Settings.{AnInterval, PlacedWord, PlacedDecimal, SpellsSized, SpellsPriority, SpellsSchedule, SpellsTimes, SpellsProgramName, SpellsBound, SpellsWith, SpellsFloors, IsSizeWord}
 use Rattle.il_read.specs.declared.stop.Stop.{Stop}
-use Rattle.il_spec.specs.Text.{upper_case}
-use Rattle.il_read.proofs.Alternatives.{argument_read}
+use Rattle.il_read.specs.declared.stop.SyntaxError.TheVariants.{Unexpected, TooDeep}
 use Rattle.il_read.proofs.Instructions.{work_read}
 use Rattle.il_read.proofs.Chain.{HasRead, Wants}
-use Rattle.il_read.proofs.Breaks.{as_breaks, at_first, map_breaks, s_loose, s_part, s_part_tight, s_tight}
+use Rattle.il_read.proofs.Breaks.{as_breaks, at_first, map_breaks, s_loose, s_part, s_part_tight}
 
 -- rules of which each value holds of cut tokens
 pub the_name_filling : IsFilling tight always (λ text. TheName text)
@@ -205,10 +199,20 @@ roomy_sampled room = map_sampled (λ (u : Unit {0}). instruction.Not) (λ x othe
 
 -- of one effect
 pub as_effect : {A : Type 0} {P : List ℕ → Effect → A → Front} {text : List ℕ} {ts : List Token} {e : Stop} (effect : Effect) → BreaksOff always (λ text. P text effect) text ts e → BreaksOffAs P text ts e
-as_effect effect bad = record { fault = λ is. let b = bad.fault is in (b.0, b.1, b.2, effect, b.3) }
+as_effect effect bad = record { fault = λ is. let b = bad.fault is in (b.0, b.1, b.2, b.3, effect, b.4, effect, b.5) }
 
 pub roomy_first : {text : List ℕ} {ts : List Token} {e : Stop} (room : Bool) → NamesFirst ts e → BreaksOffAs (λ text. SpellsRoomyOf text room) text ts e
 roomy_first room bad = as_effect Even (at_first (roomy_sampled room) bad)
+
+-- what stands behind an operator breaks off at a parenthesis that opens: with it goes on what does not count the parentheses
+pub deep_breaks : {text : List ℕ} {e : Stop} (op : Operator) (ts m : List Token) → TheSign OpenParenthesis ts m → e ≡ fault_at TooDeep ts → BreaksOffAs (λ text. SpellsWorkOf text true op) text ts e
+deep_breaks op [] m here same = absurd here
+deep_breaks {text = text} op (t ∷ ts) m here same = record { fault = λ is. (TooDeep, t ∷ ts, same, (t, ts, refl), Even, begins_here (work_sampled true op) text (t ∷ ts), Opening false, behind) }
+  where
+    behind : Begins always (λ text. SpellsWorkOf text true op (Opening false)) text (t ∷ ts) ts
+    behind =
+        begins_as {P = λ text (o : Operand). TheSign OpenParenthesis ⨾ SpellsLine text o} {Q = λ text. SpellsWorkOf text true op (Opening false)} (λ o. instruction.Defer op (Some o)) (λ x other us r w. (refl, (refl, refl, w)))
+        (begins_behind tight_cut (reach_tight tight_cut) (sign_fills OpenParenthesis) (here.0, refl) operand_line_sampled passes_always stays_tight (begins_here operand_line_sampled text ts))
 
 -- an error goes up as it is
 pub up_so : {X : Type 0} (B : Stop → Type 0) {e : Stop} (r : Result X Stop) → IsErrAnd r (λ y. y ≡ e) → B e → IfErr r B
@@ -218,7 +222,13 @@ up_so B (Ok x) same bad = tt
 -- an operator stands there, and what follows breaks off
 pub operator_breaks : {text : List ℕ} {ts m : List Token} {e : Stop} (room : Bool) (op : Operator) → SpellsOperator text op ts m → BreaksOffAs (λ text. SpellsWorkOf text room op) text m e
     → BreaksOffAs (λ text. SpellsRoomyOf text room) text ts e
-operator_breaks {text = text} {ts = ts} {m = m} room op here bad = record { fault = λ is. let b = bad.fault is in let g = go b.1 b.3 b.4 (whole_or b.1 m b.4.inside) in (b.0, b.1, b.2, g.0, g.1) }
+operator_breaks {text = text} {ts = ts} {m = m} room op here bad = record {
+  fault = λ is.
+      let b = bad.fault is in
+      let g = go b.1 b.4 b.5 (whole_or b.1 m b.5.inside) in
+      let k = go (kept b.0 b.1) b.6 b.7 (whole_or (kept b.0 b.1) m b.7.inside) in
+      (b.0, b.1, b.2, b.3, g.0, g.1, k.0, k.1);
+}
   where
     seen : (effect : Effect) (at : List Token) → Begins always (λ text (i : Instruction). SpellsOperator text op ⨾ SpellsWorkOf text room op effect i) text ts at → Begins always (λ text. SpellsRoomyOf text room effect) text ts at
     seen effect at b =
@@ -331,4 +341,4 @@ module _ {A : Type 0} {gap : Gap} {P : List ℕ → A → Front} {E : List ℕ �
 
   pub at_list_end : {look : Gap} {m : List Token} {x : A} → IsCutGap gap → Reaches gap look → IsFilling look first P → IsSampled second (λ text (u : Unit {0}). E text) es → Passes first es second → Stays gap es second
       → Wants gap P E text start xs ts → Reads (P text) ts x m → NamesFirst (gap m) e → BreaksOff second (λ text ys. Listed gap (P text) ys (E text)) text start e
-  at_list_end {m = m} cut far fill end passes stays so_far here bad = record { fault = λ is. let b = bad is in (b.0, gap m, b.1, wanted_end cut far fill end passes stays so_far.gone here.found) }
+  at_list_end {m = m} cut far fill end passes stays so_far here bad = record { fault = λ is. let b = wanted_end cut far fill end passes stays so_far.gone here.found in (Unexpected, gap m, bad is, tt, b, b) }

@@ -1,6 +1,5 @@
 use Rattle.il_spec.specs.declared.token.Sign.TheVariants.{OpenBracket, Dot}
 use Rattle.il_spec.specs.Grammar.{TheSign}
-use Rattle.il_read.specs.Reads.{gap_of}
 use Rattle.il_read.proofs.Chain.{up, was_there, was_missing}
 use Rattle.il_read.proofs.Alternatives.{bracket_refused, dot_refused, gap_is}
 use Rattle.il_read.specs.declared.operand.Selector.TheVariants as selector

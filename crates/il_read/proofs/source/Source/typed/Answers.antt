@@ -1,5 +1,5 @@
 use Rattle.il_spec.specs.Grammar.{loose, SpellsInitial}
-use Rattle.il_read.proofs.Chain.{up, first, later, part, later_lines}
+use Rattle.il_read.proofs.Chain.{up, first, part, later_lines}
 use Rattle.il_grammar_laws.proofs.Local.{type_local}
 use Rattle.il_read.proofs.Breaks.{first_type, later_type, map_breaks, up_breaks}
 use Rattle.il_grammar_laws.proofs.Samples.{initial_sampled}
