@@ -68,10 +68,12 @@ behind_sign_sampled = record {
       (x.0, ((passes_calm {samples = true_sample ∷ line_end_sample ∷ []} {test = always} refl).yes other vs rest a t, x.1));
 }
 
+-- an `&` and what may stand behind it are an instruction
 ampersand_is : (o : Operand) (other : List ℕ) (us r : List Token) → (TheSign Ampersand ⨾ BehindSign other o) us r → SpellsRoomyOf other true Even (instruction.Operate (operator.Logic Conjunction false) o) us r
 ampersand_is o other [] r w = absurd w.1
 ampersand_is o other (u ∷ us) r w = (refl, (tt, (w.0, inr (w.1.0, (w.1.1, λ n p. w.2.0.letter u.end n (subst (λ k. TheLetterN other u.end k n) w.1.1 p))), w.2.1)))
 
+-- the word of an instruction begins it
 by_word : {B : Type 0} {Q : List ℕ → B → Front} {zs : List Sample} (effect : Effect) (k : Keyword) (h : B → Instruction)
     → ((x : B) (other : List ℕ) (us r : List Token) → (TheWord other k ⨾ Q other x) us r → SpellsRoomyOf other true effect (h x) us r)
     → (text : List ℕ) (ts : List Token) → lead_at text ts ≡ lead.Reserved k → IsSampled always Q zs → Begins always (λ text. SpellsRoomyOf text true effect) text ts (drop 1 ts)
@@ -124,6 +126,7 @@ word_begins text k ts l =
     begins_as {P = λ text (y : Place × Unit {0}). At y.0 (TheWord text k)} {Q = λ text. PlacedWord text k} (λ y. y.0) (λ y other us r w. w)
     (begins_at {P = λ text (u : Unit {0}). TheWord text k} (λ u. (word_fills k).takes) (begins_whole tt ts (drop 1 ts) (word_fills k) (word_there text k ts l)))
 
+-- the first token begins a unit
 unit_begun : (text : List ℕ) (l : Lead) (ts : List Token) → lead_at text ts ≡ l → unit_begins l ≡ true → Begins always SpellsUnit text ts (drop 1 ts)
 unit_begun text (lead.Reserved word.Program) ts l begun =
     begins_as {P = SpellsWholeProgram} {Q = SpellsUnit} (λ x. record { place = x.0; kind = unit.Program; name = x.1; inputs = []; outputs = []; variables = x.2.0; externals = x.2.1; body = x.2.2 }) program_is
