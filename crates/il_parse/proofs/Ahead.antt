@@ -13,8 +13,7 @@ use Rattle.il_grammar_laws.proofs.Local.{line_end_local}
 use Rattle.il_grammar_laws.proofs.Bodies.{skip_one}
 use Rattle.il_grammar_laws.specs.GoesOn.{always}
 use Rattle.il_grammar_laws.proofs.GoesOn.{IsFilling, gone_on}
-use Rattle.il_read.specs.Reads.{IsFault, Reads, GoesOnNoMore, Refuses, Stands, Misses, turn, fault_at, RefusesBy, error_of}
-use Rattle.il_read.specs.declared.stop.SyntaxError.{SyntaxError}
+use Rattle.il_read.specs.Reads.{Reads, Refuses, Stands, Misses, turn, RefusesBy, error_of}
 use Rattle.il_read.specs.declared.stop.Stop.{Stop}
 use Rattle.il_read.proofs.Chain.{Lacks, HasRead, regroup, later_goes, valued}
 use Rattle.il_parse.specs.Ahead.{RefusesAhead, RefusesAheadBy}

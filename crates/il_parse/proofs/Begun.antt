@@ -21,10 +21,9 @@ use Rattle.il_grammar_laws.proofs.Open.{instruction_fills, line_end_fills}
 use Rattle.il_grammar_laws.proofs.Samples.{word_sample, true_sample, line_end_sample, closing_samples, closing_sampled, rest_samples, rest_sampled, load_sampled, word_sampled, line_end_sampled}
 use Rattle.il_grammar_laws.proofs.GoesOn.{whole_or, cut_here, cut_one, samples_apart, is_solid, stays_loose, passes_always, then_sampled, at_sampled, map_sampled, IsFilling, begins_here}
 use Rattle.il_read.specs.Lead.{lead_at, lead_of}
-use Rattle.il_read.specs.Reads.{Stands, BreaksOff, BreaksOffAs, NamesFirst, fault_at, SpellsRoomyOf, Effect, effect_of}
+use Rattle.il_read.specs.Reads.{Stands, BreaksOff, BreaksOffAs, SpellsRoomyOf, Effect, effect_of, kept}
 use Rattle.il_read.specs.Reads.Effect.{Even, Opening, Closing}
 use Rattle.il_read.specs.declared.stop.Stop.{Stop}
-use Rattle.il_read.specs.declared.stop.SyntaxError.TheVariants.{Unexpected, TooMany}
 use Rattle.il_read.proofs.Chain.{HasRead}
 use Rattle.il_read.proofs.Breaks.{as_breaks, map_breaks, part_loose, s_part_tight}
 use Rattle.il_read.proofs.Completions.{place_at, placed_read}
@@ -129,14 +128,14 @@ lead_cut text other at (t ∷ ts) us vs (inr c) l = ap (lead_at other) c.1 ∙ a
 instruction_filling : IsFilling tight always (λ text. SpellsInstruction text)
 instruction_filling = record { one = instruction_fills }
 
--- an instruction breaks off
-pub instruction_breaks : {text : List ℕ} {ts : List Token} {e : Stop} {room : Bool} (depth : ℕ) (load : Bool) (last : Keyword) → may_begin depth load (lead_at text ts) ≡ true → BreaksOffAs (λ text. SpellsRoomyOf text room) text ts e
-    → BreaksOff always (λ text. SpellsPlacedFrom text last depth load) text ts e
-instruction_breaks {text = text} {ts = ts} {room = room} depth load last may bad = record { fault = λ is. let b = bad.fault is in (b.0, b.1, b.2, go b.1 b.3 b.4 (whole_or b.1 ts b.4.inside)) }
+-- an instruction that may stand there begins the rest of a body
+pub placed_begins : {text : List ℕ} {ts : List Token} {room : Bool} (depth : ℕ) (load : Bool) (last : Keyword) → may_begin depth load (lead_at text ts) ≡ true
+    → (at : List Token) (effect : Effect) → Begins always (λ text. SpellsRoomyOf text room effect) text ts at → Begins always (λ text. SpellsPlacedFrom text last depth load) text ts at
+placed_begins {text = text} {ts = ts} {room = room} depth load last may at effect b = go (whole_or at ts b.inside)
   where
-    go : (at : List Token) (effect : Effect) → Begins always (λ text. SpellsRoomyOf text room effect) text ts at → ((at ≡ ts) ⊎ (length at < length ts)) → Begins always (λ text. SpellsPlacedFrom text last depth load) text ts at
-    go at effect b (inl edge) = subst (λ k. Begins always (λ text. SpellsPlacedFrom text last depth load) text ts k) (sym edge) (begins_here (placed_from_sampled last depth load) text ts)
-    go at effect b (inr less) = record {
+    go : ((at ≡ ts) ⊎ (length at < length ts)) → Begins always (λ text. SpellsPlacedFrom text last depth load) text ts at
+    go (inl edge) = subst (λ k. Begins always (λ text. SpellsPlacedFrom text last depth load) text ts k) (sym edge) (begins_here (placed_from_sampled last depth load) text ts)
+    go (inr less) = record {
       inside = b.inside;
       samples = b.samples ++ rest_samples last (depth_of depth effect) (load_of effect);
       goes = λ other us vs rest c a t.
@@ -151,6 +150,15 @@ instruction_breaks {text = text} {ts = ts} {room = room} depth load last may bad
           let nested = ap (λ b. b && is_nested (depth_after depth x.0) (needs_load x.0) y.0.0) may_here ∙ ap (λ d. is_nested d (needs_load x.0) y.0.0) deep ∙ ap (λ l. is_nested (depth_of depth effect) l y.0.0) loads ∙ y.1.0 in
           (((place_at us, x.0), y.0), (nested, (mid.0, there.found, subst (λ k. SpellsRestLines other last y.0 k rest) (sym stays) y.1.1)));
     }
+
+-- an instruction breaks off
+pub instruction_breaks : {text : List ℕ} {ts : List Token} {e : Stop} {room : Bool} (depth : ℕ) (load : Bool) (last : Keyword) → may_begin depth load (lead_at text ts) ≡ true → BreaksOffAs (λ text. SpellsRoomyOf text room) text ts e
+    → BreaksOff always (λ text. SpellsPlacedFrom text last depth load) text ts e
+instruction_breaks depth load last may bad = record {
+  fault = λ is.
+      let b = bad.fault is in
+      (b.0, b.1, b.2, b.3, placed_begins depth load last may b.1 b.4 b.5, placed_begins depth load last may (kept b.0 b.1) b.6 b.7);
+}
 
 -- behind labels
 pub outer_breaks : {text : List ℕ} {start m : List Token} {ns : List Named} {alone : Bool} {e : Stop} (last : Keyword) (load : Bool) → HasLabels text start ns alone m → BreaksOff always (λ text. SpellsPlacedFrom text last 0 load) text m e
@@ -233,13 +241,3 @@ pub body_breaks : {text : List ℕ} {ts m : List Token} {e : Stop} (last : Keywo
 body_breaks last here bad =
     map_breaks {P = λ text (x : Rest). TheLineEnd ⋯ SpellsFrom text last 0 false x} {Q = λ text. SpellsBody text last} (λ x. record { steps = x.0; last_labels = x.1.0; end = x.1.1 }) (λ x other us r w. (w.2.0, (w.0, w.1, w.2.1)))
     (part_loose line_end_fills here (from_sampled last 0 false) refl bad)
-
--- the first token is one too many, or begins nothing
-pub surplus_first : {A : Type 0} (ts : List Token) {e : Stop} → (e ≡ fault_at TooMany ts) ⊎ ((e ≡ fault_at Unexpected ts) × A) → NamesFirst ts e
-surplus_first ts (inl here) is = (TooMany, here)
-surplus_first ts (inr here) is = (Unexpected, here.0)
-
--- the same where one too many has something to show too
-pub surplus_unit_first : {A B : Type 0} (ts : List Token) {e : Stop} → ((e ≡ fault_at TooMany ts) × A) ⊎ ((e ≡ fault_at Unexpected ts) × B) → NamesFirst ts e
-surplus_unit_first ts (inl here) is = (TooMany, here.0)
-surplus_unit_first ts (inr here) is = (Unexpected, here.0)

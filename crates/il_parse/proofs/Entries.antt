@@ -32,7 +32,7 @@ use Rattle.il_grammar_laws.proofs.Alike.{end_self, end_length, end_of_end}
 use Rattle.il_grammar_laws.proofs.Local.{step_local, loosely_local}
 use Rattle.il_read.specs.declared.stop.SyntaxError.{SyntaxError}
 use Rattle.il_read.specs.declared.stop.SyntaxError.TheVariants.{Unexpected, TooDeep, TooMany}
-use Rattle.il_read.specs.Reads.{IsFault, Reads, GoesOnNoMore, RefusesBy, turn, past_name, fault_at, error_of, HasRoom, room_by, IsPlaceOf, SpellsRoomy, SpellsRoomyBy}
+use Rattle.il_read.specs.Reads.{Reads, GoesOnNoMore, RefusesBy, turn, past_name, fault_at, error_of, HasRoom, room_by, IsPlaceOf, SpellsRoomy, SpellsRoomyBy}
 use Rattle.il_read.specs.declared.lead.Lead.{Lead}
 use Rattle.il_read.specs.declared.lead.Lead.TheVariants as lead
 use Rattle.il_read.specs.declared.stop.Stop.{Stop}
@@ -275,13 +275,13 @@ module _ (text : List ℕ) where
   }
 
   -- the body is full
-  pub full_refused : (depth : ℕ) (load full : Bool) (l : Lead) (ts : List Token) (e : Stop) → full ≡ true → l ≡ lead_at text ts → (e ≡ fault_at TooMany ts) ⊎ ((e ≡ fault_at Unexpected ts) × IsFalse (begins_lead l))
+  pub full_refused : (depth : ℕ) (load full : Bool) (l : Lead) (ts : List Token) (e : Stop) → full ≡ true → l ≡ lead_at text ts → ((e ≡ fault_at TooMany ts) × IsTrue (begins_lead l)) ⊎ ((e ≡ fault_at Unexpected ts) × IsFalse (begins_lead l))
       → RefusesPlaced text depth load full ts e
   full_refused depth load full l ts e is_full same (inl here) = record {
     fault = λ is. (
       TooMany,
       ts,
-      here,
+      here.0,
       end_self ts,
       λ z name. subst (λ (x : Lead). IsEndOf (past_name x ts) (drop 1 ts)) (sym name) (end_self (drop 1 ts)),
       record { inside = past_inside (lead_at text ts) ts; never = λ other us a x r w. out x.1 w.2 },
@@ -290,7 +290,7 @@ module _ (text : List ℕ) where
     where
       out : (i : Instruction) → FitsBy (error_of e) depth full i → ⊥
       out i fits =
-          let bad : not full ≡ true = subst (λ (error : SyntaxError). FitsBy error depth full i) (error_is TooMany ts e here) fits in
+          let bad : not full ≡ true = subst (λ (error : SyntaxError). FitsBy error depth full i) (error_is TooMany ts e here.0) fits in
           let is = ap not is_full in
           cc
   full_refused depth load full l ts e is_full same (inr here) = placed_refused full depth load full ts e (λ is. absurd cc) (nothing_begins text full l ts e (sym same) here.1 here.0)

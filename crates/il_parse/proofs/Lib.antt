@@ -10,5 +10,6 @@ pub mod OneUnit
 pub mod Turn
 pub mod Begun
 pub mod Rests
+pub mod Surplus
 pub mod ByError
 pub mod UnitsByError

@@ -12,7 +12,7 @@ use Rattle.il_spec.specs.declared.tree.Body.{Body}
 use Rattle.il_spec.specs.declared.tree.UnitKind.{UnitKind}
 use Rattle.il_spec.specs.declared.tree.UnitKind.TheVariants as unit
 use Rattle.il_spec.specs.declared.tree.Unit.{Unit as ProgramUnit}
-use Rattle.il_spec.specs.Grammar.{tight, loose, TheWord, SpellsFilledList, SpellsBody, SpellsUnit, unit_word}
+use Rattle.il_spec.specs.Grammar.{loose, TheWord, SpellsFilledList, SpellsBody, SpellsUnit, unit_word}
 use Rattle.il_grammar_laws.specs.One.{IsDeterministic}
 use Rattle.il_grammar_laws.proofs.Leads.{word_lead, at_holds}
 use Rattle.il_grammar_laws.proofs.Units.{unit_lead, unit_one}

@@ -1,5 +1,5 @@
 -- Lists of variables, units and configurations that break off.
-use Rattle.std.proofs.Common.{◌≡◌, ℕ, ◌<◌, Bool, true, List, [], ◌∷◌, ◌++◌, length, refl, sym, ◌∙◌, ap, subst, inl, inr, arith, Option, Some, None, codes}
+use Rattle.std.proofs.Common.{drop, ◌≡◌, ℕ, ◌<◌, Bool, true, List, [], ◌∷◌, ◌++◌, length, refl, sym, ◌∙◌, ap, subst, inl, inr, arith, Option, Some, None, codes}
 use Rattle.std.specs.Prelude.{◌⊎◌, if◌then◌else◌}
 use Rattle.il_spec.specs.declared.token.Token.{Token}
 use Rattle.il_spec.specs.declared.token.Kind.{Kind}
@@ -19,9 +19,8 @@ use Rattle.il_spec.specs.declared.tree.Size.{Size}
 use Rattle.il_spec.specs.declared.tree.Task.{Task}
 use Rattle.il_spec.specs.declared.tree.ProgramLine.{ProgramLine}
 use Rattle.il_spec.specs.Text.{AreTokens}
-use Rattle.il_spec.specs.declared.tree.Config.{Config}
 use Rattle.il_grammar_laws.proofs.Printed.{goes_on_with}
-use Rattle.il_spec.specs.Grammar.{Front, tight, loose, is_line_end, skip_line_ends, ◌⨾◌, ◌⋯◌, AfterLines, No, At, Repeats, TheEnd, TheSign, TheWord, SomeName, SpellsScalar, SpellsDeclaration, SpellsExternal, SpellsList, SpellsFilledList, SpellsOptionalList, SpellsStep, SpellsLabelLine, SpellsBody, SpellsUnit, SpellsTask, SpellsProgramLine, SpellsConfig}
+use Rattle.il_spec.specs.Grammar.{Front, tight, loose, is_line_end, skip_line_ends, ◌⨾◌, ◌⋯◌, AfterLines, No, At, Repeats, TheEnd, TheSign, TheWord, SomeName, SpellsScalar, SpellsDeclaration, SpellsExternal, SpellsList, SpellsFilledList, SpellsOptionalList, SpellsStep, SpellsLabelLine, SpellsBody, SpellsUnit, SpellsTask, SpellsProgramLine}
 use Rattle.il_grammar_laws.specs.Alike.{IsEndOf}
 use Rattle.il_grammar_laws.specs.GoesOn.{Sample, Test, IsCut, always, lacks, quiet, ended, IsSampled, Begins}
 use Rattle.il_grammar_laws.proofs.Alike.{end_length, end_of_end, end_same, loose_gap}
@@ -30,9 +29,12 @@ use Rattle.il_grammar_laws.proofs.Bodies.{skip_one}
 use Rattle.il_grammar_laws.proofs.Open.{Fills, next, follows, loosely, fill_given, fill_placed, fill_any, repeated, no_after_opens, word_fills, some_name_fills, declaration_fills, external_fills, list_fills, filled_opens, optional_opens, scalar_fills, task_fills, program_line_fills, unit_fills, globals_open_at, result_opens, size_fills, loose_open, tight_open, skip_still}
 use Rattle.il_grammar_laws.proofs.Samples.{word_sample, sign_sample, name_sample, cars_sample, floors_sample, slots_sample, word_known, begins_lacking, begins_solid, declaration_samples, word_sampled, sign_sampled, placed_word_sampled, some_name_sampled, scalar_sampled, filled_end_sampled, full_list_sampled, lacking_sampled, filled_list_sampled, optional_list_sampled, body_samples, body_sampled, body_lacks}
 use Rattle.il_grammar_laws.proofs.GoesOn.{whole_or, cut_here, is_solid, Passes, stays_loose, stays_tight, stays_ended, passes_always, passes_quiet, tight_cut, loose_cut, reach_tight, reach_loose, then_sampled, behind_sampled, map_sampled, IsFilling, IsOpening, HasGone, gone_item, begins_here, begins_first, begins_later_open, begins_behind, begins_ahead, begins_later_lax, IsLax, IsLaxPart, lax_chain}
-use Rattle.il_read.specs.Reads.{Reads, Stands, BreaksOff, NamesFirst}
+use Rattle.il_read.specs.Reads.{Reads, Stands, BreaksOff, NamesFirst, kept, HasToken}
 use Rattle.il_read.specs.Settings.{PlacedWord, SpellsThree}
+use Rattle.il_parse.specs.Refused.{IsBegun, GoesOnWith}
 use Rattle.il_read.specs.declared.stop.Stop.{Stop}
+use Rattle.il_read.specs.declared.stop.SyntaxError.{SyntaxError}
+use Rattle.il_read.specs.declared.stop.SyntaxError.TheVariants.{Unexpected, TooDeep, TooMany}
 use Rattle.il_read.proofs.Chain.{HasRead}
 use Rattle.il_read.proofs.Breaks.{as_breaks, at_first, map_breaks, part_loose, s_loose, s_part, s_tight}
 use Rattle.il_read.proofs.Completions.{lines_break, placed_sampled, floors_sampled, a_size_sampled, size_samples}
@@ -41,7 +43,7 @@ use Rattle.il_parse.specs.Insides.{LacksList, SpellsVariables, SpellsSomeExterna
 use Rattle.il_parse.specs.Headings.{PlacedScalar, SpellsResultAt}
 use Rattle.il_read.specs.declared.stop.SyntaxError.{SyntaxError}
 use Rattle.il_parse.specs.Units.{SpellsSmallUnit, SpellsUnitBy}
-use Rattle.il_parse.specs.Parts.{SpellsGlobalList, SpellsSomeGlobals, SpellsTasks, SpellsPrograms, SpellsLines, SpellsResourceOf, SpellsEnding, SpellsGroup}
+use Rattle.il_parse.specs.Parts.{SpellsSomeGlobals, SpellsTasks, SpellsPrograms, SpellsLines, SpellsResourceOf, SpellsEnding, SpellsGroup}
 use Rattle.il_parse.specs.GoesOn.{SpellsProgramRest, SpellsBlockRest, SpellsFunctionRest, SpellsWholeProgram, SpellsWholeBlock, SpellsWholeFunction, SpellsAllUnits, SpellsAll, stopped}
 
 -- a line end
@@ -199,7 +201,7 @@ module _ {A B : Type 0} {P : List ℕ → A → Front} {Q : List ℕ → B → F
     first_asked q passes bad = as_breaks (λ at b. begins_first tight q passes stays_tight b) bad
 
 pub ahead_first : {A : Type 0} {P : List ℕ → A → Front} {test : Test} {zs : List Sample} {text : List ℕ} {ts : List Token} {e : Stop} → IsSampled test P zs → IsLax P → NamesFirst (skip_line_ends ts) e → BreaksOff test P text ts e
-ahead_first {text = text} {ts = ts} p lax bad = record { fault = λ is. let b = bad is in (b.0, skip_line_ends ts, b.1, begins_ahead p lax text ts) }
+ahead_first {text = text} {ts = ts} p lax bad = record { fault = λ is. (Unexpected, skip_line_ends ts, bad is, tt, begins_ahead p lax text ts, begins_ahead p lax text ts) }
 
 pub full_sampled : (k : Keyword) → IsSampled always (λ text. SpellsFull text k) (word_sample k ∷ declaration_samples ++ word_sample word.EndVar ∷ [])
 full_sampled k = map_sampled {P = λ text (x : Declaration × List Declaration). SpellsList text k (SpellsDeclaration text) (x.0 ∷ x.1)} {Q = λ text. SpellsFull text k} (λ x. x.0 ∷ x.1) (λ x other us r w. (tt, w)) (full_list_sampled k)
@@ -465,11 +467,17 @@ unit_by_filling error = record {
 
 -- The tokens before the first of `at` are those of a text that spells a configuration.
 pub text_goes_on : (text : List ℕ) (ts at : List Token) → AreTokens text 0 ts → Begins ended SpellsAll text ts at
-    → (other : List ℕ) × (others : List Token) × (vs : List Token) × AreTokens other 0 others × IsCut text other at ts others vs × (c : Config) × AfterLines (SpellsConfig other c) others []
+    → IsBegun text ts at
 text_goes_on text ts at tokens b =
     let k = goes_on_with text ts at b.samples tokens b.inside in
     let w = b.goes k.0 k.1 k.2 [] k.4 k.5 refl in
     (k.0, k.1, k.2, k.3, k.4, w.0, w.1)
+
+-- Where a limit forbids the token of a fault, those with it are those of a text too.
+pub text_goes_on_with : (error : SyntaxError) (text : List ℕ) (ts at : List Token) → AreTokens text 0 ts → HasToken error at → Begins ended SpellsAll text ts (kept error at) → GoesOnWith error text ts at
+text_goes_on_with Unexpected text ts at tokens some b = tt
+text_goes_on_with TooDeep text ts at tokens some b = (some.0, some.1, some.2, text_goes_on text ts some.1 tokens (subst (λ k. Begins ended SpellsAll text ts (drop 1 k)) some.2 b))
+text_goes_on_with TooMany text ts at tokens some b = (some.0, some.1, some.2, text_goes_on text ts some.1 tokens (subst (λ k. Begins ended SpellsAll text ts (drop 1 k)) some.2 b))
 
 -- what stands behind a heading, of its own samples
 pub program_rest_sampled : IsSampled always SpellsProgramRest (body_samples word.EndProgram)

@@ -60,10 +60,22 @@ NoTextGoesOn text tokens (refusal.Fault number place) =
     → (c : Config) → AfterLines (SpellsConfig other c) (front ++ t ∷ others) [] → Keeps error c → ⊥)
 NoTextGoesOn text tokens refusal.Memory = ⊤
 
--- With the tokens before the one that a fault names, or with all before the end, some text goes on: one that has these tokens, of the same
--- bytes, and others behind, is of the language, where no limits count.
+-- Some text goes on with the tokens before the first of `at`: one that has these tokens, of the same bytes, and others behind, is of the
+-- language, where no limits count.
+abbrev pub IsBegun : List ℕ → List Token → List Token → Type 0
+IsBegun text tokens at =
+    (other : List ℕ) × (others : List Token) × (vs : List Token) × AreTokens other 0 others × IsCut text other at tokens others vs × (c : Config) × AfterLines (SpellsConfig other c) others []
+
+-- Some text goes on with the token that a fault names too, where only a limit forbids it.
+abbrev pub GoesOnWith : SyntaxError → List ℕ → List Token → List Token → Type 0
+GoesOnWith Unexpected text tokens at = ⊤
+GoesOnWith TooDeep text tokens at = (t : Token) × (back : List Token) × (at ≡ t ∷ back) × IsBegun text tokens back
+GoesOnWith TooMany text tokens at = (t : Token) × (back : List Token) × (at ≡ t ∷ back) × IsBegun text tokens back
+
+-- With the tokens before the one that a fault names, or with all before the end, some text goes on. So it does with that token, where
+-- the fault is about a limit: 10 is what no text goes on with, and 11 and 12 are what only a limit forbids.
 abbrev pub GoesOnBefore : List ℕ → List Token → Refusal → Type 0
 GoesOnBefore text tokens (refusal.Fault number place) =
     (error : SyntaxError) × (at : List Token) × (number ≡ number_of error) × IsEndOf at tokens × IsPlaceAt text place at
-    × (other : List ℕ) × (others : List Token) × (vs : List Token) × AreTokens other 0 others × IsCut text other at tokens others vs × (c : Config) × AfterLines (SpellsConfig other c) others []
+    × IsBegun text tokens at × GoesOnWith error text tokens at
 GoesOnBefore text tokens refusal.Memory = ⊤

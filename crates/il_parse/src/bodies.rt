@@ -82,7 +82,7 @@ fn may_begin(depth: usize, load: bool, lead: Lead) -> bool
 
 // The fault where a body is full: an instruction too many, or what begins none.
 fn surplus(tokens: &Tokens, lead: Lead) -> Stop
-    ensures { (result ≡ fault_at TooMany tokens.now)
+    ensures { ((result ≡ fault_at TooMany tokens.now) × IsTrue (begins_lead lead))
         ⊎ ((result ≡ fault_at Unexpected tokens.now) × IsFalse (begins_lead lead)) }
 {
     match lead {

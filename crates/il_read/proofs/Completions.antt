@@ -1,5 +1,5 @@
 -- Rules of readers that hold of cut tokens, and their samples.
-use Rattle.std.proofs.Common.{◌≡◌, ◌<◌, ℕ, length, Bool, true, List, [], ◌∷◌, ◌++◌, refl, sym, subst, arith, inl, inr}
+use Rattle.std.proofs.Common.{◌≡◌, ◌<◌, ℕ, length, Bool, true, false, Some, List, [], ◌∷◌, ◌++◌, refl, sym, subst, arith, inl, inr}
 use Rattle.std.specs.Prelude.{ℤ, codes, ◌⊎◌, Result, Ok, Err, IfErr, IsErrAnd}
 use Rattle.il_spec.specs.declared.token.Token.{Token}
 use Rattle.il_spec.specs.declared.token.Sign.TheVariants.{Assign, Range, Colon, Semicolon, Comma, OpenParenthesis, CloseParenthesis, OpenBracket, CloseBracket}
@@ -30,11 +30,12 @@ use Rattle.il_read.specs.declared.operand.Selector.{Selector}
 use Rattle.il_read.specs.declared.operand.Selector.TheVariants as selector
 use Rattle.il_read.specs.declared.operand.Passed.{Passed}
 use Rattle.il_read.specs.declared.operand.Passed.TheVariants as passed
-use Rattle.il_read.specs.Reads.{Reads, BreaksOff, NamesFirst, test_of, gap_of, SpellsRange, SpellsElementType, SpellsInside, SpellsOpened, SpellsListed, AnyNamed, BreaksOffAs, SpellsWorkOf, SpellsRoomyOf, Effect}
-use Rattle.il_read.specs.Reads.Effect.{Even}
+use Rattle.il_read.specs.Reads.{Reads, BreaksOff, NamesFirst, test_of, gap_of, SpellsRange, SpellsElementType, SpellsLine, SpellsInside, SpellsOpened, SpellsListed, AnyNamed, BreaksOffAs, SpellsWorkOf, SpellsRoomyOf, Effect, kept, fault_at}
+use Rattle.il_read.specs.Reads.Effect.{Even, Opening}
 use Rattle.il_read.specs.Operands.{SpellsElement, SpellsSelector, SpellsSelected, SpellsPassed, reference_of, argument_of}
 use Rattle.il_read.specs.Settings.{AnInterval, PlacedWord, PlacedDecimal, SpellsSized, SpellsPriority, SpellsSchedule, SpellsTimes, SpellsProgramName, SpellsBound, SpellsWith, SpellsFloors, IsSizeWord}
 use Rattle.il_read.specs.declared.stop.Stop.{Stop}
+use Rattle.il_read.specs.declared.stop.SyntaxError.TheVariants.{Unexpected, TooDeep}
 use Rattle.il_read.proofs.Instructions.{work_read}
 use Rattle.il_read.proofs.Chain.{HasRead, Wants}
 use Rattle.il_read.proofs.Breaks.{as_breaks, at_first, map_breaks, s_loose, s_part, s_part_tight}
@@ -198,10 +199,20 @@ roomy_sampled room = map_sampled (λ (u : Unit {0}). instruction.Not) (λ x othe
 
 -- of one effect
 pub as_effect : {A : Type 0} {P : List ℕ → Effect → A → Front} {text : List ℕ} {ts : List Token} {e : Stop} (effect : Effect) → BreaksOff always (λ text. P text effect) text ts e → BreaksOffAs P text ts e
-as_effect effect bad = record { fault = λ is. let b = bad.fault is in (b.0, b.1, b.2, effect, b.3) }
+as_effect effect bad = record { fault = λ is. let b = bad.fault is in (b.0, b.1, b.2, b.3, effect, b.4, effect, b.5) }
 
 pub roomy_first : {text : List ℕ} {ts : List Token} {e : Stop} (room : Bool) → NamesFirst ts e → BreaksOffAs (λ text. SpellsRoomyOf text room) text ts e
 roomy_first room bad = as_effect Even (at_first (roomy_sampled room) bad)
+
+-- what stands behind an operator breaks off at a parenthesis that opens: with it goes on what does not count the parentheses
+pub deep_breaks : {text : List ℕ} {e : Stop} (op : Operator) (ts m : List Token) → TheSign OpenParenthesis ts m → e ≡ fault_at TooDeep ts → BreaksOffAs (λ text. SpellsWorkOf text true op) text ts e
+deep_breaks op [] m here same = absurd here
+deep_breaks {text = text} op (t ∷ ts) m here same = record { fault = λ is. (TooDeep, t ∷ ts, same, (t, ts, refl), Even, begins_here (work_sampled true op) text (t ∷ ts), Opening false, behind) }
+  where
+    behind : Begins always (λ text. SpellsWorkOf text true op (Opening false)) text (t ∷ ts) ts
+    behind =
+        begins_as {P = λ text (o : Operand). TheSign OpenParenthesis ⨾ SpellsLine text o} {Q = λ text. SpellsWorkOf text true op (Opening false)} (λ o. instruction.Defer op (Some o)) (λ x other us r w. (refl, (refl, refl, w)))
+        (begins_behind tight_cut (reach_tight tight_cut) (sign_fills OpenParenthesis) (here.0, refl) operand_line_sampled passes_always stays_tight (begins_here operand_line_sampled text ts))
 
 -- an error goes up as it is
 pub up_so : {X : Type 0} (B : Stop → Type 0) {e : Stop} (r : Result X Stop) → IsErrAnd r (λ y. y ≡ e) → B e → IfErr r B
@@ -211,7 +222,13 @@ up_so B (Ok x) same bad = tt
 -- an operator stands there, and what follows breaks off
 pub operator_breaks : {text : List ℕ} {ts m : List Token} {e : Stop} (room : Bool) (op : Operator) → SpellsOperator text op ts m → BreaksOffAs (λ text. SpellsWorkOf text room op) text m e
     → BreaksOffAs (λ text. SpellsRoomyOf text room) text ts e
-operator_breaks {text = text} {ts = ts} {m = m} room op here bad = record { fault = λ is. let b = bad.fault is in let g = go b.1 b.3 b.4 (whole_or b.1 m b.4.inside) in (b.0, b.1, b.2, g.0, g.1) }
+operator_breaks {text = text} {ts = ts} {m = m} room op here bad = record {
+  fault = λ is.
+      let b = bad.fault is in
+      let g = go b.1 b.4 b.5 (whole_or b.1 m b.5.inside) in
+      let k = go (kept b.0 b.1) b.6 b.7 (whole_or (kept b.0 b.1) m b.7.inside) in
+      (b.0, b.1, b.2, b.3, g.0, g.1, k.0, k.1);
+}
   where
     seen : (effect : Effect) (at : List Token) → Begins always (λ text (i : Instruction). SpellsOperator text op ⨾ SpellsWorkOf text room op effect i) text ts at → Begins always (λ text. SpellsRoomyOf text room effect) text ts at
     seen effect at b =
@@ -324,4 +341,4 @@ module _ {A : Type 0} {gap : Gap} {P : List ℕ → A → Front} {E : List ℕ �
 
   pub at_list_end : {look : Gap} {m : List Token} {x : A} → IsCutGap gap → Reaches gap look → IsFilling look first P → IsSampled second (λ text (u : Unit {0}). E text) es → Passes first es second → Stays gap es second
       → Wants gap P E text start xs ts → Reads (P text) ts x m → NamesFirst (gap m) e → BreaksOff second (λ text ys. Listed gap (P text) ys (E text)) text start e
-  at_list_end {m = m} cut far fill end passes stays so_far here bad = record { fault = λ is. let b = bad is in (b.0, gap m, b.1, wanted_end cut far fill end passes stays so_far.gone here.found) }
+  at_list_end {m = m} cut far fill end passes stays so_far here bad = record { fault = λ is. let b = wanted_end cut far fill end passes stays so_far.gone here.found in (Unexpected, gap m, bad is, tt, b, b) }

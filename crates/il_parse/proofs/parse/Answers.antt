@@ -7,7 +7,7 @@ use Rattle.il_parse.proofs.Turn.{fault_parts}
 use Rattle.il_grammar_laws.proofs.Configurations.{config_one}
 use Rattle.il_grammar_laws.proofs.Spelled.{spelled_written}
 use Rattle.il_grammar_laws.proofs.Alike.{alike_self}
-use Rattle.il_parse.proofs.Rests.{text_goes_on}
+use Rattle.il_parse.proofs.Rests.{text_goes_on, text_goes_on_with}
 use Rattle.il_parse.proofs.parse.Goals as goal
 
 pub returns-in-Ok-clause-found : goal.returns-in-Ok-clause-found
@@ -60,18 +60,12 @@ returns-in-Err-Fault-clause-texts c =
 pub returns-in-Err-Fault-clause-before : goal.returns-in-Err-Fault-clause-before
 returns-in-Err-Fault-clause-before c =
     let bad = (rw c.in-Err-Fault.field-0-is at c.in-Err-Fault.ensures.begins).fault tt in
-    let parts = fault_parts c.in-Err-Fault.error bad.0 c.in-Err-Fault.place bad.1 bad.2 c.args.text.now c.end_of.result c.end_of.ensures.offset c.end_of.ensures.line in
-    let on = text_goes_on c.args.text.now c.args.tokens.now bad.1 c.requires bad.3 in (
+    let parts = fault_parts c.in-Err-Fault.error bad.0 c.in-Err-Fault.place bad.1 bad.2 c.args.text.now c.end_of.result c.end_of.ensures.offset c.end_of.ensures.line in (
       bad.0,
       bad.1,
       c.number.ensures ∙ ap number_of parts.0,
-      bad.3.inside,
+      bad.4.inside,
       subst (λ x. IsPlaceAt c.args.text.now x bad.1) (sym c.unwrap_or.ensures) parts.1,
-      on.0,
-      on.1,
-      on.2,
-      on.3,
-      on.4,
-      on.5,
-      on.6,
+      text_goes_on c.args.text.now c.args.tokens.now bad.1 c.requires bad.4,
+      text_goes_on_with bad.0 c.args.text.now c.args.tokens.now bad.1 c.requires bad.3 bad.5,
     )

@@ -1,4 +1,4 @@
-use Rattle.il_parse.proofs.Ahead.{up_ahead, no_line_end, no_steps}
+use Rattle.il_parse.proofs.Ahead.{no_line_end, no_steps}
 use Rattle.il_read.proofs.Breaks.{at_first, up_breaks}
 use Rattle.il_parse.proofs.Begun.{body_breaks}
 use Rattle.il_grammar_laws.proofs.Samples.{body_sampled}

@@ -5,10 +5,10 @@ use Rattle.il_parse.proofs.Entries.{stands_not, full_refused, placed_refused, pl
 use Rattle.il_read.specs.Reads.{BreaksOff}
 use Rattle.il_spec.specs.declared.keyword.Keyword.{Keyword}
 use Rattle.il_parse.specs.GoesOn.{SpellsPlacedFrom}
-use Rattle.il_read.specs.declared.stop.SyntaxError.TheVariants.{Unexpected}
 use Rattle.il_grammar_laws.specs.GoesOn.{always}
 use Rattle.il_read.proofs.Breaks.{at_first}
-use Rattle.il_parse.proofs.Begun.{surplus_first, instruction_breaks, placed_from_sampled}
+use Rattle.il_parse.proofs.Begun.{instruction_breaks, placed_from_sampled}
+use Rattle.il_parse.proofs.Surplus.{surplus_breaks}
 use Rattle.il_parse.proofs.bodies.placed.Goals as goal
 
 pub returns-then-not-may_begin-clause-refused : goal.returns-then-not-may_begin-clause-refused
@@ -28,13 +28,14 @@ returns-in_err-instruction-clause-refused c =
     up_so (λ e. RefusesPlaced c.args.source.now c.args.depth c.args.load c.args.full c.args.tokens.now e) _ c.from_residual.ensures.1 (placed_refused c.args.source.now _ _ _ _ _ _ c.has_room.ensures.no c.in_err-instruction.ensures.refused)
 
 pub returns-in_default-clause-begins : goal.returns-in_default-clause-begins
-returns-in_default-clause-begins c = λ last. at_first (placed_from_sampled last c.args.depth c.args.load) (λ _. (Unexpected, c.outside.ensures))
+returns-in_default-clause-begins c = λ last. at_first (placed_from_sampled last c.args.depth c.args.load) (λ _. c.outside.ensures)
 
 pub returns-then-not-may_begin-clause-begins : goal.returns-then-not-may_begin-clause-begins
-returns-then-not-may_begin-clause-begins c = λ last. at_first (placed_from_sampled last c.args.depth c.args.load) (λ _. (Unexpected, c.outside-then-not-may_begin.ensures))
+returns-then-not-may_begin-clause-begins c = λ last. at_first (placed_from_sampled last c.args.depth c.args.load) (λ _. c.outside-then-not-may_begin.ensures)
 
 pub returns-then-full-clause-begins : goal.returns-then-full-clause-begins
-returns-then-full-clause-begins c = λ last. at_first (placed_from_sampled last c.args.depth c.args.load) (surplus_first c.args.tokens.now c.surplus.ensures)
+returns-then-full-clause-begins c =
+    λ last. surplus_breaks c.args.depth c.args.load last c.args.lead c.requires.lead (ap (λ l. may_begin c.args.depth c.args.load l) (sym c.requires.lead) ∙ sym c.may_begin.ensures ∙ c.if-not-may_begin.false) c.surplus.ensures
 
 pub returns-in_err-instruction-clause-begins : goal.returns-in_err-instruction-clause-begins
 returns-in_err-instruction-clause-begins c =

@@ -1,5 +1,5 @@
 use Rattle.il_spec.specs.Grammar.{loose, skip_line_ends}
-use Rattle.il_read.proofs.Chain.{up, first, later, part}
+use Rattle.il_read.proofs.Chain.{first, later, part}
 use Rattle.il_parse.specs.Parts.{SpellsGroup, SpellsConfigBy}
 use Rattle.il_parse.proofs.Parts.{config_read, config_refused, few_units_local, config, from_small_units, whole_config}
 use Rattle.il_read.proofs.ByError.{up_by}

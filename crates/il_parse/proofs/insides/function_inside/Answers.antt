@@ -1,10 +1,10 @@
 use Rattle.il_spec.specs.declared.keyword.Keyword.TheVariants as word
 use Rattle.il_spec.specs.Grammar.{◌⨾◌, SpellsDeclaration}
-use Rattle.il_parse.specs.Bodies.{SpellsSmallBody, SpellsBodyBy}
+use Rattle.il_parse.specs.Bodies.{SpellsBodyBy}
 use Rattle.il_parse.specs.Insides.{LacksList, SpellsVariables, SpellsFunctionInsideBy}
 use Rattle.il_grammar_laws.proofs.Local.{optional_list_local}
 use Rattle.il_parse.proofs.Missing.{no_list_local, as_read, full_local}
-use Rattle.il_parse.proofs.Ahead.{up_ahead, first_ahead, later_ahead, part_ahead}
+use Rattle.il_parse.proofs.Ahead.{first_ahead, later_ahead, part_ahead}
 use Rattle.il_parse.specs.GoesOn.{SpellsFunctionRest}
 use Rattle.il_parse.proofs.Rests.{ahead_first, full_opening, later_lax, lax_body, lax_no, lax_optional, no_list_opening, passes_lacks, s_lacks, variables_opening}
 use Rattle.il_grammar_laws.proofs.Samples.{body_sampled, lacking_sampled, optional_list_sampled}

@@ -8,11 +8,10 @@ use Rattle.il_grammar_laws.proofs.Local.{word_told}
 use Rattle.il_parse.proofs.OneUnit.{small_unit_local}
 use Rattle.il_parse.specs.Parts.{SpellsUnits, SpellsFewUnitsBy}
 use Rattle.std.proofs.Common.{arith}
-use Rattle.il_parse.proofs.Begun.{surplus_unit_first}
+use Rattle.il_parse.proofs.Surplus.{surplus_unit_breaks}
 use Rattle.il_parse.proofs.Rests.{small_unit_filling, unit_by_filling, unit_filling, units_break}
 use Rattle.il_grammar_laws.proofs.GoesOn.{gone_on, gone_starts}
-use Rattle.il_read.proofs.Breaks.{at_first, up_breaks}
-use Rattle.il_grammar_laws.proofs.Samples.{program_sampled}
+use Rattle.il_read.proofs.Breaks.{up_breaks}
 use Rattle.il_parse.proofs.units.units.Goals as goal
 
 pub returns-then-is_full-clause-refused : goal.returns-then-is_full-clause-refused
@@ -48,7 +47,7 @@ pub returns-then-is_full-clause-begins : goal.returns-then-is_full-clause-begins
 returns-then-is_full-clause-begins c =
     let none = was_missing (TheWord c.args.source.now word.Configuration) c.units.tokens _ c.eat_word.new.tokens c.eat_word.ensures.eaten c.units-test.true in
     let how = rw none.0 at c.surplus.ensures in
-    units_break c.units.invariant.3 (at_first program_sampled (surplus_unit_first _ how))
+    units_break c.units.invariant.3 (surplus_unit_breaks how)
 
 pub returns-in_err-unit-clause-begins : goal.returns-in_err-unit-clause-begins
 returns-in_err-unit-clause-begins c =

@@ -2,7 +2,6 @@ use Rattle.il_spec.specs.declared.keyword.Keyword.TheVariants as word
 use Rattle.il_spec.specs.Grammar.{TheWord}
 use Rattle.il_parse.proofs.Missing.{no_full, empty_refused, full_refused, it_stands, it_is_missing}
 use Rattle.il_parse.proofs.Ahead.{up_ahead}
-use Rattle.il_read.specs.declared.stop.SyntaxError.TheVariants.{Unexpected}
 use Rattle.il_parse.proofs.Rests.{as_full, filled_breaks, list_first, list_later}
 use Rattle.il_read.proofs.Breaks.{at_first, up_breaks}
 use Rattle.il_grammar_laws.proofs.Samples.{filled_end_sampled}
@@ -27,7 +26,7 @@ pub returns-in_err-word-clause-begins : goal.returns-in_err-word-clause-begins
 returns-in_err-word-clause-begins c = up_breaks _ c.from_residual.ensures.1 (as_full c.args.keyword (list_first c.args.keyword filled_end_sampled refl (rw c.skip_lines.ensures.rest at c.in_err-word.ensures.first)))
 
 pub returns-then-word_stands-clause-begins : goal.returns-then-word_stands-clause-begins
-returns-then-word_stands-clause-begins c = as_full c.args.keyword (list_later c.args.keyword filled_end_sampled refl (rw c.skip_lines.ensures.rest at c.in_ok-word.ensures.reads) (at_first filled_end_sampled (λ _. (Unexpected, rw c.skip_lines-2.ensures.rest at c.outside.ensures))))
+returns-then-word_stands-clause-begins c = as_full c.args.keyword (list_later c.args.keyword filled_end_sampled refl (rw c.skip_lines.ensures.rest at c.in_ok-word.ensures.reads) (at_first filled_end_sampled (λ _. rw c.skip_lines-2.ensures.rest at c.outside.ensures)))
 
 pub returns-in_err-declarations-clause-begins : goal.returns-in_err-declarations-clause-begins
 returns-in_err-declarations-clause-begins c =

@@ -1,7 +1,6 @@
 use Rattle.il_spec.specs.Grammar.{TheWord}
 use Rattle.il_read.proofs.Chain.{it_comes}
 use Rattle.il_parse.proofs.Missing.{list_comes}
-use Rattle.il_read.specs.declared.stop.SyntaxError.TheVariants.{Unexpected}
 use Rattle.il_parse.proofs.variables.no_list.Goals as goal
 
 pub returns-then-comes-clause-refused : goal.returns-then-comes-clause-refused
@@ -10,4 +9,4 @@ returns-then-comes-clause-refused c =
     list_comes c.args.source.now _ _ _ _ there.1 (rw (c.skip_lines.ensures.rest, c.ahead-ahead.ensures) at c.outside.ensures)
 
 pub returns-then-comes-clause-first : goal.returns-then-comes-clause-first
-returns-then-comes-clause-first c = λ _. (Unexpected, rw (c.skip_lines.ensures.rest, c.ahead-ahead.ensures) at c.outside.ensures)
+returns-then-comes-clause-first c = λ _. rw (c.skip_lines.ensures.rest, c.ahead-ahead.ensures) at c.outside.ensures

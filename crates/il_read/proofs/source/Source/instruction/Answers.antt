@@ -1,6 +1,5 @@
 use Rattle.std.proofs.Common.{sym}
 use Rattle.il_read.proofs.Instructions.{none_refused, no_other}
-use Rattle.il_read.specs.declared.stop.SyntaxError.TheVariants.{Unexpected}
 use Rattle.il_read.proofs.Completions.{roomy_first}
 use Rattle.il_read.proofs.source.Source.instruction.Goals as goal
 
@@ -8,4 +7,4 @@ pub returns-in_default-clause-refused : goal.returns-in_default-clause-refused
 returns-in_default-clause-refused c = none_refused c.args.self.now _ _ _ _ (sym c.requires) (no_other _ c.in_default.not-Name c.in_default.not-Reserved c.in_default.not-Sign) c.outside.ensures
 
 pub returns-in_default-clause-begins : goal.returns-in_default-clause-begins
-returns-in_default-clause-begins c = roomy_first _ (λ _. (Unexpected, c.outside.ensures))
+returns-in_default-clause-begins c = roomy_first _ (λ _. c.outside.ensures)

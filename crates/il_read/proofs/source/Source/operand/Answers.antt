@@ -1,4 +1,3 @@
-use Rattle.il_read.specs.declared.stop.SyntaxError.TheVariants.{Unexpected}
 use Rattle.il_grammar_laws.proofs.GoesOn.{any_sampled}
 use Rattle.il_read.proofs.Breaks.{at_first, up_breaks}
 use Rattle.il_read.specs.Reads.{gap_of}
@@ -7,7 +6,7 @@ use Rattle.il_read.proofs.Completions.{reference_breaks}
 use Rattle.il_read.proofs.source.Source.operand.Goals as goal
 
 pub returns-in_default-clause-begins : goal.returns-in_default-clause-begins
-returns-in_default-clause-begins c = at_first (any_sampled (operand_sampled (gap_of c.args.gap))) (λ _. (Unexpected, c.outside.ensures))
+returns-in_default-clause-begins c = at_first (any_sampled (operand_sampled (gap_of c.args.gap))) (λ _. c.outside.ensures)
 
 pub returns-in_err-reference-clause-begins : goal.returns-in_err-reference-clause-begins
 returns-in_err-reference-clause-begins c = up_breaks _ c.from_residual.ensures.1 (reference_breaks c.args.gap c.in_err-reference.ensures.begins)

@@ -2,7 +2,6 @@ use Rattle.il_read.proofs.Chain.{up}
 use Rattle.il_read.proofs.Instructions.{scalar_refused}
 use Rattle.il_read.specs.declared.lead.Lead.TheVariants as lead
 use Rattle.il_spec.specs.declared.keyword.Keyword.TheVariants as word
-use Rattle.il_read.specs.declared.stop.SyntaxError.TheVariants.{Unexpected}
 use Rattle.std.proofs.Common.{ap, sym, ◌∙◌}
 use Rattle.il_read.proofs.Breaks.{at_first, map_breaks, part_tight, up_breaks}
 use Rattle.il_grammar_laws.proofs.Samples.{scalar_sampled, subrange_sampled}
@@ -14,7 +13,7 @@ pub returns-in_err-subrange-clause-refused : goal.returns-in_err-subrange-clause
 returns-in_err-subrange-clause-refused c = up _ c.from_residual.ensures.1 (scalar_refused c.args.self.now _ _ (rw c.advance.ensures.rest at c.in_err-subrange.ensures.refused))
 
 pub returns-in_default-clause-begins : goal.returns-in_default-clause-begins
-returns-in_default-clause-begins c = at_first scalar_sampled (λ _. (Unexpected, c.outside.ensures))
+returns-in_default-clause-begins c = at_first scalar_sampled (λ _. c.outside.ensures)
 
 pub returns-in_err-subrange-clause-begins : goal.returns-in_err-subrange-clause-begins
 returns-in_err-subrange-clause-begins c =

@@ -1,7 +1,6 @@
 use Rattle.std.proofs.Common.{arith}
 use Rattle.il_read.proofs.Instructions.{work_refused, work_read, ampersand_there}
 use Rattle.il_read.proofs.Through.{ok_through, err_through}
-use Rattle.il_read.specs.declared.stop.SyntaxError.TheVariants.{Unexpected}
 use Rattle.il_read.proofs.Completions.{operator_breaks, roomy_first}
 use Rattle.il_read.proofs.source.Source.shortly.Goals as goal
 
@@ -24,4 +23,4 @@ returns-clause-begins c = err_through c.work.result c.work.ensures.begins (λ e 
     (operator_breaks _ _ there bad))
 
 pub returns-in_default-clause-begins : goal.returns-in_default-clause-begins
-returns-in_default-clause-begins c = roomy_first _ (λ _. (Unexpected, c.outside.ensures))
+returns-in_default-clause-begins c = roomy_first _ (λ _. c.outside.ensures)

@@ -3,7 +3,6 @@ use Rattle.il_spec.specs.Grammar.{TheSign}
 use Rattle.il_grammar_laws.proofs.Alike.{loose_gap}
 use Rattle.il_grammar_laws.proofs.Local.{literal_local}
 use Rattle.il_read.proofs.Chain.{up, last_missing, at_later}
-use Rattle.il_read.specs.declared.stop.SyntaxError.TheVariants.{Unexpected}
 use Rattle.il_read.proofs.Breaks.{at_first, later_loose, map_breaks, s_loose, up_breaks}
 use Rattle.il_read.proofs.Completions.{literal_filling, placed_filling, placed_read, placed_sampled}
 use Rattle.il_grammar_laws.proofs.Samples.{literal_sampled, sign_sampled}
@@ -16,7 +15,7 @@ returns-in_err-sign-clause-refused c =
     (at_later (λ i. i.place) (λ i. i.literal) loose_gap (λ text i. TheSign Semicolon) literal_local c.in_ok-literal.ensures.reads (last_missing (rw c.skip_lines.ensures.rest at c.in_err-sign.ensures.refused)))
 
 pub returns-in_default-clause-begins : goal.returns-in_default-clause-begins
-returns-in_default-clause-begins c = (map_breaks (λ x. record { place = x.0.0; literal = x.0.1 }) (λ x other us r w. w) (at_first (s_loose (placed_sampled literal_filling literal_sampled) (sign_sampled Semicolon) refl) (λ _. (Unexpected, c.outside.ensures))))
+returns-in_default-clause-begins c = (map_breaks (λ x. record { place = x.0.0; literal = x.0.1 }) (λ x other us r w. w) (at_first (s_loose (placed_sampled literal_filling literal_sampled) (sign_sampled Semicolon) refl) (λ _. c.outside.ensures)))
 
 pub returns-in_err-literal-clause-begins : goal.returns-in_err-literal-clause-begins
 returns-in_err-literal-clause-begins c =

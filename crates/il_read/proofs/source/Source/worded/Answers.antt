@@ -1,5 +1,4 @@
 use Rattle.il_read.proofs.Instructions.{none_refused, no_word}
-use Rattle.il_read.specs.declared.stop.SyntaxError.TheVariants.{Unexpected}
 use Rattle.il_read.proofs.Completions.{roomy_first}
 use Rattle.il_read.proofs.source.Source.worded.Goals as goal
 
@@ -9,4 +8,4 @@ returns-in_default-clause-refused c =
     (no_word c.args.keyword c.in_default.not-Load c.in_default.not-Store c.in_default.not-Not c.in_default.not-Operate c.in_default.not-Jump c.in_default.not-Return c.in_default.not-Call) c.outside.ensures
 
 pub returns-in_default-clause-begins : goal.returns-in_default-clause-begins
-returns-in_default-clause-begins c = roomy_first _ (λ _. (Unexpected, c.outside.ensures))
+returns-in_default-clause-begins c = roomy_first _ (λ _. c.outside.ensures)
