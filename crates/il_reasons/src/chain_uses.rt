@@ -4,6 +4,7 @@ ghost use Rattle.std.specs.Prelude.{◌≡◌, ◌++◌, [], Some, IfSome, IfOk,
 ghost use Rattle.il_rules.specs.Names.{or_else};
 ghost use Rattle.il_reasons.specs.ChainReasons.{UsesIn, use_text, AreAdded, is_named, is_apart, is_number, is_own, is_call_of, is_type_of, call_line, instance_line, use_line};
 
+use crate::names_spots::unit_at;
 use crate::writing::{put_numbered, put_three};
 use il_scope::Scoped;
 use il_scope::entry::BlockType;
@@ -115,7 +116,7 @@ fn use_of<'n>(names: &'n Scoped, user: &Unit, to: usize) -> Option<Use<'n>>
 fn is_named(names: &Scoped, name: &str, number: usize) -> bool
     ensures { result ≡ is_named names.now name.now number }
 {
-    match names.config().units.as_slice().get(number) {
+    match unit_at(names, number) {
         Some(unit) => unit.name.name.as_str() == name,
         None => false,
     }

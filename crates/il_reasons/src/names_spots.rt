@@ -1,9 +1,10 @@
 // Names with the places that tell of them.
 
-ghost use Rattle.std.specs.Prelude.{◌≡◌, ◌++◌, IfOk, OnOk, find, flat_map, map, option_map, bytes_eq};
+ghost use Rattle.std.specs.Prelude.{◌≡◌, ◌++◌, IfOk, OnOk, find, flat_map, map, option_map, option_copied, bytes_eq, slice_get};
 ghost use Rattle.il_rules.specs.Declarations.{names_in, unit_names, labels_of};
 ghost use Rattle.il_reasons.specs.NameSpots.{spot_shown, shown, headings, task_name, line_name, is_at, named_at, first_of};
 
+use il_scope::Scoped;
 use il_spec::tree::{Body, Declaration, Named, Place, ProgramLine, Step, Task, Unit};
 use std::alloc::{AllocError, Global};
 
@@ -122,6 +123,13 @@ fn push_named<'c>(spots: &mut Vec<Spot<'c>>, names: &'c [Named]) -> Result<(), A
         })?;
     }
     Ok(())
+}
+
+/// The unit of a number.
+pub fn unit_at(names: &Scoped, number: usize) -> Option<&Unit>
+    ensures { option_copied result ≡ slice_get names.now.units number }
+{
+    names.config().units.as_slice().get(number)
 }
 
 /// The names of units, each at its heading (2.5).

@@ -6,7 +6,7 @@ ghost use Rattle.il_reasons.specs.RangeReasons.{first_text, first_by, further_te
 
 use crate::range_divisors::put_value;
 use crate::range_operands::{lies_in, range_at};
-use crate::range_words::{put_ends, put_scalar};
+use crate::range_words::{put_range, put_scalar};
 use crate::writing::put_three;
 use il_interval::Interval;
 use il_ranges::PlaceFacts;
@@ -28,9 +28,7 @@ fn put_first_input(
 {
     put_three(text, "the first input of ", name, " takes ")?;
     put_scalar(text, scalar)?;
-    text.push_str(", and the result is ")?;
-    put_ends(text, range)?;
-    text.push_str("\n")
+    put_range(text, ", and the result is ", range, "\n")
 }
 
 // The same, where both have a range, and the current result may leave the input.

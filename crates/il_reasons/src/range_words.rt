@@ -46,6 +46,21 @@ pub(crate) fn put_ends(text: &mut String, range: Interval) -> Result<(), AllocEr
     }
 }
 
+/// A range between two pieces.
+pub(crate) fn put_range(
+    text: &mut String,
+    before: &str,
+    range: Interval,
+    after: &str,
+) -> Result<(), AllocError>
+    ensures { OnOk result (string_bytes text.new ≡ string_bytes text.old
+        ++ (before.now ++ (ends_text range ++ after.now))) }
+{
+    text.push_str(before)?;
+    put_ends(text, range)?;
+    text.push_str(after)
+}
+
 /// `LO..HI` of written limits.
 #[tactic(auto, unfolding(crate::specs::RangeWords::limits_text))]
 pub(crate) fn put_limits(text: &mut String, limits: Subrange) -> Result<(), AllocError>

@@ -3,7 +3,7 @@
 ghost use Rattle.std.specs.Prelude.{◌≡◌, ◌++◌, ◌+◌, [], None, length, string_bytes, OnOk};
 ghost use Rattle.il_rules.specs.Names.{standard_function, further_arguments, function_named};
 ghost use Rattle.il_rules.specs.Types as rules;
-ghost use Rattle.il_reasons.specs.ArgumentReasons.{taken_count, arguments_text, standing_text, count_line, is_given, twice_line, no_input_line, no_output_line, word_line, argument_lines, arguments_lines, call_lines, taken_lines};
+ghost use Rattle.il_reasons.specs.ArgumentReasons.{taken_count, arguments_text, standing_text, with_result, count_line, is_given, twice_line, no_input_line, no_output_line, word_line, argument_lines, arguments_lines, call_lines, taken_lines};
 
 use crate::names_meant::{has_input, has_output};
 use crate::types_words::put_block;
@@ -73,8 +73,15 @@ fn put_standing(text: &mut String, count: usize) -> Result<(), AllocError>
     }
 }
 
-// `MAX takes 2 arguments, 3 stand here with the current result`, of a known function.
+// ` with the current result`, and the end of the line.
 #[tactic(auto, unfolding(crate::specs::ArgumentReasons::with_result))]
+fn put_with_result(text: &mut String) -> Result<(), AllocError>
+    ensures { OnOk result (string_bytes text.new ≡ string_bytes text.old ++ with_result) }
+{
+    text.push_str(" with the current result\n")
+}
+
+// `MAX takes 2 arguments, 3 stand here with the current result`, of a known function.
 fn put_count(
     text: &mut String,
     name: &str,
@@ -90,7 +97,7 @@ fn put_count(
             put_arguments_count(text, taken)?;
             text.push_str(", ")?;
             put_standing(text, standing)?;
-            text.push_str(" with the current result\n")
+            put_with_result(text)
         }
         None => Ok(()),
     }

@@ -6,7 +6,8 @@ ghost use Rattle.il_scope.specs.Views.{variables_of_block};
 ghost use Rattle.il_scope.specs.declared.entry.BlockType.TheVariants.{Own as OwnBlock};
 ghost use Rattle.il_reasons.specs.ArgumentReasons.{words_of, words_text, inputs_line, outputs_line, block_lines};
 
-use crate::writing::put_three;
+use crate::names_spots::unit_at;
+use crate::writing::{put_three, put_two};
 use il_rules::names::StandardBlock;
 use il_rules::standard::{BlockWord, words_of};
 use il_scope::Scoped;
@@ -20,8 +21,7 @@ fn put_others(text: &mut String, words: &[&str]) -> Result<(), AllocError>
         ++ flat_map (λ w. codes ", " ++ w) (map (λ w. w.now) words.now)) }
 {
     'words: for word in words {
-        text.push_str(", ")?;
-        text.push_str(*word)?;
+        put_two(text, ", ", *word)?;
     }
     Ok(())
 }
@@ -148,7 +148,7 @@ fn put_own(
     ensures { OnOk result (string_bytes text.new ≡ string_bytes text.old
         ++ block_lines instance.now (variables_of_block names.now (OwnBlock number))) }
 {
-    match names.config().units.as_slice().get(number) {
+    match unit_at(names, number) {
         Some(unit) => put_unit_words(alloc, text, instance, unit),
         None => Ok(()),
     }
