@@ -7,6 +7,10 @@ use Rattle.std.proofs.lemmas.List.{append_assoc}
 pub join : (old a m n b : List ℕ) → m ≡ old ++ a → n ≡ m ++ b → n ≡ old ++ (a ++ b)
 join old a m n b first second = second ∙ ap (λ l. l ++ b) first ∙ append_assoc old a b
 
+-- three at once, and one more
+pub join_three : (old a b c m n r : List ℕ) → m ≡ old ++ (a ++ (b ++ c)) → n ≡ m ++ r → n ≡ old ++ (a ++ (b ++ (c ++ r)))
+join_three old a b c m n r three last = join old (a ++ (b ++ c)) m n r three last ∙ ap (λ l. old ++ l) (append_assoc a (b ++ c) r ∙ ap (λ l. a ++ l) (append_assoc b c r))
+
 -- what follows where there is a value
 pub on_ok : {X E : Type 0} (r : Result X E) (P Q : Type 0) → (P → Q) → OnOk r P → OnOk r Q
 on_ok (Ok x) P Q f p = f p

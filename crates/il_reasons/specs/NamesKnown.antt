@@ -16,7 +16,7 @@ abbrev pub own_block : ProgramUnit → List Known
 own_block unit = if is_function_block unit then declared_name (heading unit) ∷ [] else []
 
 -- a name of the image that means a variable in a unit
-abbrev pub seen_image : Config → ProgramUnit → Spelling → List Known
+unfoldable pub seen_image : Config → ProgramUnit → Spelling → List Known
 seen_image config unit name = if is_some (variable_named config unit name) then predeclared_name name ∷ [] else []
 
 -- the image names that a unit sees, in the order of their table

@@ -17,13 +17,17 @@ pub record Nearest : Type 0 where
   pub known : Known
   pub distance : ℕ
 
+-- a name and its line
+abbrev pub known_name : Spelling → Option ℕ → Known
+known_name name line = record { name = name; line = line }
+
 -- a declared name
 abbrev pub declared_name : Named → Known
-declared_name n = record { name = n.name; line = Some n.place.line }
+declared_name n = known_name n.name (Some n.place.line)
 
 -- a predeclared name
 abbrev pub predeclared_name : Spelling → Known
-predeclared_name name = record { name = name; line = None }
+predeclared_name name = known_name name None
 
 -- what is shown of a candidate
 abbrev pub candidate_shown : Candidate → Known

@@ -4,6 +4,8 @@ ghost use Rattle.std.specs.Prelude.{◌≡◌, ◌++◌, [], Some, IfSome, IfOk,
 ghost use Rattle.il_rules.specs.Names.{or_else};
 ghost use Rattle.il_reasons.specs.ChainReasons.{UsesIn, use_text, AreAdded, is_named, is_apart, is_number, is_own, is_call_of, is_type_of, call_line, instance_line, use_line};
 
+use crate::names_spots::unit_at;
+use crate::writing::{put_numbered, put_three};
 use il_scope::Scoped;
 use il_scope::entry::BlockType;
 use il_spec::tree::{Declaration, Form, Instruction, Step, Unit};
@@ -114,7 +116,7 @@ fn use_of<'n>(names: &'n Scoped, user: &Unit, to: usize) -> Option<Use<'n>>
 fn is_named(names: &Scoped, name: &str, number: usize) -> bool
     ensures { result ≡ is_named names.now name.now number }
 {
-    match names.config().units.as_slice().get(number) {
+    match unit_at(names, number) {
         Some(unit) => unit.name.name.as_str() == name,
         None => false,
     }
@@ -159,8 +161,8 @@ fn put_use(text: &mut String, user: &Unit, used: &Use) -> Result<(), AllocError>
         ++ use_text user.now used.now.unit.now used.now.line) }
 {
     let used_name = used.unit.name.name.as_str();
-    write!(text, "{} uses {}", user.name.name.as_str(), used_name)?;
-    write!(text, " in line {}", used.line)
+    put_three(text, user.name.name.as_str(), " uses ", used_name)?;
+    put_numbered(text, " in line ", used.line)
 }
 
 // Writes the last use of a chain, where it is one.

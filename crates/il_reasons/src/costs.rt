@@ -4,6 +4,7 @@ ghost use Rattle.std.specs.Prelude.{◌≡◌, ◌==◌, ◌++◌, [], if◌then
 ghost use Rattle.il_verify.specs.Rounds.{unit_ways, line_at};
 ghost use Rattle.il_reasons.specs.CostReasons.{costs_of, places_by, is_callee, is_run_by, run_at, runs_of, costs_text, once_text, often_text, run_line, runs_lines, own_line, most_lines, heading_lines, AreToldOfCosts};
 
+use crate::writing::put_two;
 use il_scope::Scoped;
 use il_spec::tree::{Body, Place, Unit};
 use il_verify::costs::{all_ways, longest};
@@ -227,7 +228,7 @@ fn put_costs(text: &mut String, name: &str, cost: u32) -> Result<(), AllocError>
         ++ costs_text name.now cost) }
 {
     if cost > MOST {
-        write!(text, "{} costs more than 1000000", name)
+        put_two(text, name, " costs more than 1000000")
     } else {
         write!(text, "{} costs {}", name, cost)
     }

@@ -44,6 +44,7 @@ mod types_wanted;
 mod types_words;
 mod types_written;
 mod unexpected;
+mod writing;
 
 use il_parse::parse;
 use il_rules::Written;

@@ -9,6 +9,7 @@ use crate::names_spots::{
     Spot, declared_spots, first_of, heading_spots, label_spots, line_spots, named_at, task_spots,
     unit_spots,
 };
+use crate::writing::{put_in_line, put_two};
 use il_scope::Scoped;
 use il_spec::tree::{Body, Declaration, Place, ProgramLine, Task, Unit};
 use std::alloc::{AllocError, Global};
@@ -256,7 +257,7 @@ fn put_again_line(text: &mut String, name: &str, line: u32) -> Result<(), AllocE
     ensures { OnOk result (string_bytes text.new ≡ string_bytes text.old
         ++ again_line name.now line) }
 {
-    writeln!(text, "{} is declared in line {} already", name, line)
+    put_in_line(text, name, " is declared in line ", line, " already\n")
 }
 
 #[tactic(auto, unfolding(crate::specs::NamesAgain::unit_line))]
@@ -264,7 +265,7 @@ fn put_unit_line(text: &mut String, name: &str, line: u32) -> Result<(), AllocEr
     ensures { OnOk result (string_bytes text.new ≡ string_bytes text.old
         ++ unit_line name.now line) }
 {
-    writeln!(text, "{} is the unit of line {}", name, line)
+    put_in_line(text, name, " is the unit of line ", line, "\n")
 }
 
 #[tactic(auto, unfolding(crate::specs::NamesAgain::predeclared_line))]
@@ -272,5 +273,5 @@ fn put_predeclared_line(text: &mut String, name: &str) -> Result<(), AllocError>
     ensures { OnOk result (string_bytes text.new ≡ string_bytes text.old
         ++ predeclared_line name.now) }
 {
-    writeln!(text, "{} is a predeclared name", name)
+    put_two(text, name, " is a predeclared name\n")
 }

@@ -2,9 +2,8 @@
 
 ghost use Rattle.std.specs.Prelude.{◌≡◌, ◌++◌, ◌∷◌, [], IfOk, OnOk, flat_map, map};
 ghost use Rattle.il_rules.specs.Declarations.{unit_names};
-ghost use Rattle.il_reasons.specs.NameSpots.{heading};
-ghost use Rattle.il_rules.specs.Names.{is_function_kind, is_function_block_kind, standard_functions, standard_blocks};
-ghost use Rattle.il_reasons.specs.NamesNear.{candidate_shown, declared_name, predeclared_name};
+ghost use Rattle.il_rules.specs.Names.{standard_functions, standard_blocks};
+ghost use Rattle.il_reasons.specs.NamesNear.{candidate_shown, known_name, declared_name, predeclared_name};
 ghost use Rattle.il_reasons.specs.NamesKnown.{own_function, own_block, seen_image, images_near, globals_near, variables_near, functions_near, blocks_near};
 
 use crate::names_near::{Candidate, push_spots};
@@ -62,42 +61,17 @@ pub fn blocks_near<'c>(alloc: Global, config: &'c Config) -> Result<Vec<Candidat
     Ok(candidates)
 }
 
-// Adds a unit at its heading.
-fn push_heading<'c>(candidates: &mut Vec<Candidate<'c>>, unit: &'c Unit) -> Result<(), AllocError>
-    ensures { OnOk result (map candidate_shown candidates.new.items
-        ≡ map candidate_shown candidates.old.items ++ declared_name (heading unit.now) ∷ []) }
-{
-    candidates.push(Candidate {
-        name: unit.name.name.as_str(),
-        line: Some(unit.place.line),
-    })?;
-    Ok(())
-}
-
-// Adds a predeclared name.
-fn push_predeclared<'c>(
+// Adds a name, and the line where it is declared.
+fn push_known<'c>(
     candidates: &mut Vec<Candidate<'c>>,
     name: &'c str,
+    line: Option<u32>,
 ) -> Result<(), AllocError>
     ensures { OnOk result (map candidate_shown candidates.new.items
-        ≡ map candidate_shown candidates.old.items ++ predeclared_name name.now ∷ []) }
+        ≡ map candidate_shown candidates.old.items ++ known_name name.now line ∷ []) }
 {
-    candidates.push(Candidate { name, line: None })?;
+    candidates.push(Candidate { name, line })?;
     Ok(())
-}
-
-// Whether a kind is a function's.
-fn is_function(kind: UnitKind) -> bool
-    ensures { result ≡ is_function_kind kind }
-{
-    matches!(kind, UnitKind::Function(..))
-}
-
-// Whether a kind is a function block's.
-fn is_function_block(kind: UnitKind) -> bool
-    ensures { result ≡ is_function_block_kind kind }
-{
-    matches!(kind, UnitKind::FunctionBlock)
 }
 
 // Adds a unit that is a function.
@@ -105,10 +79,11 @@ fn push_function<'c>(candidates: &mut Vec<Candidate<'c>>, unit: &'c Unit) -> Res
     ensures { OnOk result (map candidate_shown candidates.new.items
         ≡ map candidate_shown candidates.old.items ++ own_function unit.now) }
 {
-    if is_function(unit.kind) {
-        push_heading(candidates, unit)
-    } else {
-        Ok(())
+    match unit.kind {
+        UnitKind::Function(_, _) => {
+            push_known(candidates, unit.name.name.as_str(), Some(unit.place.line))
+        }
+        _ => Ok(()),
     }
 }
 
@@ -117,10 +92,11 @@ fn push_block<'c>(candidates: &mut Vec<Candidate<'c>>, unit: &'c Unit) -> Result
     ensures { OnOk result (map candidate_shown candidates.new.items
         ≡ map candidate_shown candidates.old.items ++ own_block unit.now) }
 {
-    if is_function_block(unit.kind) {
-        push_heading(candidates, unit)
-    } else {
-        Ok(())
+    match unit.kind {
+        UnitKind::FunctionBlock => {
+            push_known(candidates, unit.name.name.as_str(), Some(unit.place.line))
+        }
+        _ => Ok(()),
     }
 }
 
@@ -205,6 +181,7 @@ fn push_rows<'c>(
 }
 
 // Adds an image name that a unit sees.
+#[tactic(auto, unfolding(crate::specs::NamesKnown::seen_image))]
 fn push_image<'c>(
     candidates: &mut Vec<Candidate<'c>>,
     here: &UnitScope<'_>,
@@ -215,7 +192,7 @@ fn push_image<'c>(
         ++ seen_image here.now.config here.now.unit name.now) }
 {
     if here.variable(name).is_some() {
-        push_predeclared(candidates, name)
+        push_known(candidates, name, None)
     } else {
         Ok(())
     }
@@ -240,7 +217,7 @@ fn push_function_rows(
         ++ map (λ f. predeclared_name f.name.now) rows.now) }
 {
     'rows: for row in rows {
-        push_predeclared(candidates, row.name)?;
+        push_known(candidates, row.name, None)?;
     }
     Ok(())
 }
@@ -264,7 +241,7 @@ fn push_block_rows(
         ++ map (λ b. predeclared_name b.name.now) rows.now) }
 {
     'rows: for row in rows {
-        push_predeclared(candidates, row.name)?;
+        push_known(candidates, row.name, None)?;
     }
     Ok(())
 }

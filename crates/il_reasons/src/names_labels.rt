@@ -4,7 +4,7 @@ ghost use Rattle.std.specs.Prelude.{◌≡◌, ◌++◌, IfOk, OnOk, option_map,
 ghost use Rattle.il_reasons.specs.NamesNear.{near_shown, nearest};
 ghost use Rattle.il_reasons.specs.NamesLabels.{missing_line, labels_near, missing_text, jump_text};
 
-use crate::names_near::{Near, nearest, push_spots, put_ending};
+use crate::names_near::{Near, nearest, push_spots, put_ended};
 use crate::names_spots::label_spots;
 use il_scope::UnitScope;
 use il_spec::tree::{Body, Instruction};
@@ -58,6 +58,6 @@ fn put_missing_line(text: &mut String, name: &str, near: Option<Near<'_>>) -> Re
     ensures { OnOk result (string_bytes text.new ≡ string_bytes text.old
         ++ missing_line name.now (option_map near_shown near.entry)) }
 {
-    write!(text, "label {} does not stand in this unit", name)?;
-    put_ending(text, near)
+    text.push_str("label ")?;
+    put_ended(text, name, " does not stand in this unit", near)
 }

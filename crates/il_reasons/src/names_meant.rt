@@ -79,9 +79,9 @@ pub fn has_output(here: &UnitScope, name: &str, word: &str) -> bool
     here.output(name, word).is_some()
 }
 
-// Whether a word is an input of an instance.
+/// Whether a word is an input of an instance (2.5.2.1).
 #[tactic(auto, using(crate::proofs::Meanings::some_changed))]
-fn has_input(here: &UnitScope, name: &str, word: &str) -> bool
+pub fn has_input(here: &UnitScope, name: &str, word: &str) -> bool
     ensures { result ≡ is_some (option_and_then (λ b. entry_of b.inputs word.now)
         (instance_block here.now.config here.now.unit name.now)) }
 {

@@ -1,10 +1,11 @@
 // Names that are near.
 
-ghost use Rattle.std.specs.Prelude.{◌≡◌, ◌++◌, IfOk, IfSome, OnOk, decimal, map, option_map, string_bytes};
+ghost use Rattle.std.specs.Prelude.{◌≡◌, ◌++◌, IfOk, IfSome, OnOk, map, option_map, string_bytes};
 ghost use Rattle.il_reasons.specs.NameSpots.{shown};
 ghost use Rattle.il_reasons.specs.NamesNear.{declared_name, candidate_shown, near_shown, distance, is_short, are_few, are_fewer, after_edits, nearer, nearest, IsNearest, declared_words, nearness, hint_of, hint, ending};
 
 use crate::names_spots::Spot;
+use crate::writing::{put_numbered, put_two};
 use std::alloc::{AllocError, Global};
 use strsim::osa_distance;
 
@@ -144,24 +145,33 @@ pub fn put_ending(text: &mut String, near: Option<Near<'_>>) -> Result<(), Alloc
     text.push_str("\n")
 }
 
+/// A name with words behind it, and the end of the line.
+pub fn put_ended(
+    text: &mut String,
+    name: &str,
+    words: &str,
+    near: Option<Near<'_>>,
+) -> Result<(), AllocError>
+    ensures { OnOk result (string_bytes text.new ≡ string_bytes text.old
+        ++ (name.now ++ (words.now ++ ending (option_map near_shown near.entry)))) }
+{
+    put_two(text, name, words)?;
+    put_ending(text, near)
+}
+
 // What is said of a name that is near.
+#[tactic(auto, unfolding(crate::specs::NamesNear::hint_of))]
 fn put_hint(text: &mut String, near: Option<Near<'_>>) -> Result<(), AllocError>
     ensures { OnOk result (string_bytes text.new ≡ string_bytes text.old
         ++ hint (option_map near_shown near.entry)) }
 {
     match near {
-        Some(near) => put_hint_of(text, near),
+        Some(near) => {
+            put_two(text, "; ", near.candidate.name)?;
+            put_nearness(text, near.distance, near.candidate.line)
+        }
         None => Ok(()),
     }
-}
-
-#[tactic(auto, unfolding(crate::specs::NamesNear::hint_of))]
-fn put_hint_of(text: &mut String, near: Near<'_>) -> Result<(), AllocError>
-    ensures { OnOk result (string_bytes text.new ≡ string_bytes text.old
-        ++ hint_of (near_shown near.entry)) }
-{
-    write!(text, "; {}", near.candidate.name)?;
-    put_nearness(text, near.distance, near.candidate.line)
 }
 
 // Where a name is that so many edits lead to.
@@ -169,26 +179,17 @@ fn put_nearness(text: &mut String, edits: usize, line: Option<u32>) -> Result<()
     ensures { OnOk result (string_bytes text.new ≡ string_bytes text.old ++ nearness edits line) }
 {
     match line {
-        Some(line) => put_declared(text, edits, line),
+        Some(line) => put_numbered(text, declared_words(edits), line),
         None => text.push_str(" is near"),
     }
 }
 
-// The line where it is declared.
-fn put_declared(text: &mut String, edits: usize, line: u32) -> Result<(), AllocError>
-    ensures { OnOk result (string_bytes text.new ≡ string_bytes text.old
-        ++ (declared_words edits ++ decimal line)) }
-{
-    put_declared_words(text, edits)?;
-    write!(text, "{}", line)
-}
-
-fn put_declared_words(text: &mut String, edits: usize) -> Result<(), AllocError>
-    ensures { OnOk result (string_bytes text.new ≡ string_bytes text.old
-        ++ declared_words edits) }
+// What is said of a declared name that so many edits lead to.
+fn declared_words(edits: usize) -> &'static str
+    ensures { result.now ≡ declared_words edits }
 {
     match edits {
-        0 => text.push_str(" is declared in line "),
-        _ => text.push_str(" is near, declared in line "),
+        0 => " is declared in line ",
+        _ => " is near, declared in line ",
     }
 }

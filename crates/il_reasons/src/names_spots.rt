@@ -1,9 +1,10 @@
 // Names with the places that tell of them.
 
-ghost use Rattle.std.specs.Prelude.{◌≡◌, ◌++◌, IfOk, OnOk, find, flat_map, map, option_map, bytes_eq};
+ghost use Rattle.std.specs.Prelude.{◌≡◌, ◌++◌, IfOk, OnOk, find, flat_map, map, option_map, option_copied, bytes_eq, slice_get};
 ghost use Rattle.il_rules.specs.Declarations.{names_in, unit_names, labels_of};
 ghost use Rattle.il_reasons.specs.NameSpots.{spot_shown, shown, headings, task_name, line_name, is_at, named_at, first_of};
 
+use il_scope::Scoped;
 use il_spec::tree::{Body, Declaration, Named, Place, ProgramLine, Step, Task, Unit};
 use std::alloc::{AllocError, Global};
 
@@ -26,14 +27,19 @@ pub fn is_at(here: Place, place: Place) -> bool
 pub fn named_at<'c>(spots: &[Spot<'c>], place: Place) -> Option<Spot<'c>>
     ensures { option_map spot_shown result ≡ named_at place (shown spots.now) }
 {
-    find_at(spots, place).copied()
+    find_at(spots, place)
 }
 
-// The same, where it stands in the list.
-fn find_at<'s, 'c>(spots: &'s [Spot<'c>], place: Place) -> Option<&'s Spot<'c>>
-    ensures { option_map (λ s. s.now) result ≡ find (λ s. is_at s.place place) spots.now }
+// The same, as it stands in the list.
+fn find_at<'c>(spots: &[Spot<'c>], place: Place) -> Option<Spot<'c>>
+    ensures { result ≡ find (λ s. is_at s.place place) spots.now }
 {
-    spots.iter().find(|spot| is_at(spot.place, place))
+    'spots: for spot in spots {
+        if is_at(spot.place, place) {
+            return Some(*spot);
+        }
+    }
+    None
 }
 
 /// The first place of a name.
@@ -41,14 +47,19 @@ fn find_at<'s, 'c>(spots: &'s [Spot<'c>], place: Place) -> Option<&'s Spot<'c>>
 pub fn first_of<'c>(spots: &[Spot<'c>], name: &str) -> Option<Spot<'c>>
     ensures { option_map spot_shown result ≡ first_of name.now (shown spots.now) }
 {
-    find_named(spots, name).copied()
+    find_named(spots, name)
 }
 
-// The same, where it stands in the list.
-fn find_named<'s, 'c>(spots: &'s [Spot<'c>], name: &str) -> Option<&'s Spot<'c>>
-    ensures { option_map (λ s. s.now) result ≡ find (λ s. bytes_eq s.name.now name.now) spots.now }
+// The same, as it stands in the list.
+fn find_named<'c>(spots: &[Spot<'c>], name: &str) -> Option<Spot<'c>>
+    ensures { result ≡ find (λ s. bytes_eq s.name.now name.now) spots.now }
 {
-    spots.iter().find(|spot| spot.name == name)
+    'spots: for spot in spots {
+        if spot.name == name {
+            return Some(*spot);
+        }
+    }
+    None
 }
 
 /// The names that declarations give, in the order of the text (IEC 61131-3:2003, 2.4.3).
@@ -122,6 +133,13 @@ fn push_named<'c>(spots: &mut Vec<Spot<'c>>, names: &'c [Named]) -> Result<(), A
         })?;
     }
     Ok(())
+}
+
+/// The unit of a number.
+pub fn unit_at(names: &Scoped, number: usize) -> Option<&Unit>
+    ensures { option_copied result ≡ slice_get names.now.units number }
+{
+    names.config().units.as_slice().get(number)
 }
 
 /// The names of units, each at its heading (2.5).

@@ -4,6 +4,7 @@ ghost use Rattle.std.specs.Prelude.{◌≡◌, ◌++◌, OnOk, string_bytes};
 ghost use Rattle.il_reasons.specs.NamesStores.{input_line, image_line, output_line, literal_line, origin_text, origin_named, variable_text, member_text};
 
 use crate::names_meant::has_output;
+use crate::writing::{put_four, put_two};
 use il_rules::names::Origin;
 use il_scope::UnitScope;
 use std::alloc::AllocError;
@@ -64,10 +65,10 @@ pub(crate) fn put_member(
 fn put_input_line(text: &mut String, name: &str) -> Result<(), AllocError>
     ensures { OnOk result (string_bytes text.new ≡ string_bytes text.old ++ input_line name.now) }
 {
-    writeln!(
+    put_two(
         text,
-        "{} can't be stored into: it is an input of this unit",
-        name
+        name,
+        " can't be stored into: it is an input of this unit\n",
     )
 }
 
@@ -75,10 +76,10 @@ fn put_input_line(text: &mut String, name: &str) -> Result<(), AllocError>
 fn put_image_line(text: &mut String, name: &str) -> Result<(), AllocError>
     ensures { OnOk result (string_bytes text.new ≡ string_bytes text.old ++ image_line name.now) }
 {
-    writeln!(
+    put_two(
         text,
-        "{} can't be stored into: it is an input of the image",
-        name
+        name,
+        " can't be stored into: it is an input of the image\n",
     )
 }
 
@@ -87,10 +88,12 @@ fn put_output_line(text: &mut String, name: &str, word: &str) -> Result<(), Allo
     ensures { OnOk result (string_bytes text.new ≡ string_bytes text.old
         ++ output_line name.now word.now) }
 {
-    writeln!(
+    put_four(
         text,
-        "{}.{} can't be stored into: it is an output of an instance",
-        name, word
+        name,
+        ".",
+        word,
+        " can't be stored into: it is an output of an instance\n",
     )
 }
 
@@ -99,5 +102,5 @@ fn put_output_line(text: &mut String, name: &str, word: &str) -> Result<(), Allo
 pub(crate) fn put_literal_line(text: &mut String) -> Result<(), AllocError>
     ensures { OnOk result (string_bytes text.new ≡ string_bytes text.old ++ literal_line) }
 {
-    writeln!(text, "a literal can't be stored into")
+    text.push_str("a literal can't be stored into\n")
 }

@@ -6,7 +6,9 @@ ghost use Rattle.il_rules.specs.Names.{is_one_of, program_named};
 ghost use Rattle.il_rules.specs.Types.{stored_names, named_variable, argument_targets};
 ghost use Rattle.il_reasons.specs.NamesTasks.{writer_shown, is_external, store_line, first_store, writer_at, writer_of, writers, is_other, are_two, store_of_task, writers_text, stored_text};
 
+use crate::names_spots::unit_at;
 use crate::names_stores::origin_named;
+use crate::writing::{put_in_line, put_two};
 use il_rules::names::Origin;
 use il_scope::{Scoped, UnitScope};
 use il_spec::tree::{Argument, Instruction, ProgramLine, Reference, Step};
@@ -63,8 +65,8 @@ fn put_writer(text: &mut String, name: &str, writer: Writer<'_>) -> Result<(), A
     ensures { OnOk result (string_bytes text.new ≡ string_bytes text.old
         ++ store_of_task name.now (writer_shown writer.entry)) }
 {
-    write!(text, "{} is stored by task {}", name, writer.task)?;
-    writeln!(text, " in line {}", writer.line)
+    put_two(text, name, " is stored by task ")?;
+    put_in_line(text, writer.task, " in line ", writer.line, "\n")
 }
 
 // Whether two of them are different tasks.
@@ -163,7 +165,7 @@ fn store_of_unit(names: &Scoped, name: &str, at: usize) -> Option<u32>
     ensures { result ≡ option_and_then (first_store names.now name.now)
         (slice_get names.now.units at) }
 {
-    match names.config().units.as_slice().get(at) {
+    match unit_at(names, at) {
         Some(unit) => {
             let here = UnitScope::of(names, at, unit);
             first_store(&here, name)

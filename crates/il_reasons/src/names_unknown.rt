@@ -4,12 +4,13 @@ ghost use Rattle.std.specs.Prelude.{◌≡◌, ◌++◌, OnOk, flat_map, is_some
 ghost use Rattle.il_rules.specs.Names.{block_variables, function_named};
 ghost use Rattle.il_reasons.specs.NamesNear.{near_shown, candidate_shown, nearest};
 ghost use Rattle.il_reasons.specs.NamesKnown.{functions_near};
-ghost use Rattle.il_reasons.specs.NamesUnknown.{unknown_line, unseen_line, no_function_line, instance_line, unit_line, standard_line, no_instance_line, no_word_line, unknown_text, unknown_variable, scalar_text, meaning_text, index_text, word_text, member_text, reference_text, read_text, argument_text, function_text, instruction_text, block_text, type_text, global_text, external_text, externals_text, types_text, unit_text, unknown_lines};
+ghost use Rattle.il_reasons.specs.NamesUnknown.{unknown_line, unseen_line, no_function_line, instance_line, unit_line, standard_line, no_instance_line, no_word, unknown_text, unknown_variable, scalar_text, meaning_text, index_text, word_text, member_text, reference_text, read_text, argument_text, function_text, instruction_text, block_text, type_text, global_text, external_text, externals_text, types_text, unit_text, unknown_lines};
 
 use crate::names_known::{blocks_near, functions_near, globals_near, variables_near};
 use crate::names_meant::{Access, Meant, is_visible, meaning_of};
-use crate::names_near::{Candidate, Near, nearest, put_ending};
+use crate::names_near::{Candidate, Near, nearest, put_ended};
 use crate::names_spots::is_at;
+use crate::writing::{put_four, put_two};
 use il_scope::functions::standard_function;
 use il_scope::{Scoped, UnitScope};
 use il_spec::tree::{
@@ -429,7 +430,18 @@ fn put_member(
     }
 }
 
+// What a word behind an instance isn't.
+fn no_word(access: Access) -> &'static str
+    ensures { result.now ≡ no_word access }
+{
+    match access {
+        Access::Reads => " has no output ",
+        Access::Stores => " has no input ",
+    }
+}
+
 // A word behind an instance.
+#[tactic(auto, unfolding(crate::specs::NamesUnknown::no_word_line))]
 fn put_word(
     text: &mut String,
     here: &UnitScope<'_>,
@@ -443,7 +455,7 @@ fn put_word(
     if is_visible(here, access, name, word) {
         Ok(())
     } else {
-        put_no_word_line(text, access, name, word)
+        put_four(text, name, no_word(access), word, "\n")
     }
 }
 
@@ -483,8 +495,7 @@ fn put_unknown_line(text: &mut String, name: &str, near: Option<Near<'_>>) -> Re
     ensures { OnOk result (string_bytes text.new ≡ string_bytes text.old
         ++ unknown_line name.now (option_map near_shown near.entry)) }
 {
-    write!(text, "{} is unknown here", name)?;
-    put_ending(text, near)
+    put_ended(text, name, " is unknown here", near)
 }
 
 #[tactic(auto, unfolding(crate::specs::NamesUnknown::unseen_line))]
@@ -492,10 +503,10 @@ fn put_unseen_line(text: &mut String, name: &str) -> Result<(), AllocError>
     ensures { OnOk result (string_bytes text.new ≡ string_bytes text.old
         ++ unseen_line name.now) }
 {
-    writeln!(
+    put_two(
         text,
-        "{} is a predeclared name that this unit does not see",
-        name
+        name,
+        " is a predeclared name that this unit does not see\n",
     )
 }
 
@@ -508,8 +519,7 @@ fn put_no_function_line(
     ensures { OnOk result (string_bytes text.new ≡ string_bytes text.old
         ++ no_function_line name.now (option_map near_shown near.entry)) }
 {
-    write!(text, "{} is no function", name)?;
-    put_ending(text, near)
+    put_ended(text, name, " is no function", near)
 }
 
 #[tactic(auto, unfolding(crate::specs::NamesUnknown::instance_line))]
@@ -517,14 +527,14 @@ fn put_instance_line(text: &mut String, name: &str) -> Result<(), AllocError>
     ensures { OnOk result (string_bytes text.new ≡ string_bytes text.old
         ++ instance_line name.now) }
 {
-    writeln!(text, "{} is an instance, no scalar variable", name)
+    put_two(text, name, " is an instance, no scalar variable\n")
 }
 
 #[tactic(auto, unfolding(crate::specs::NamesUnknown::unit_line))]
 fn put_unit_line(text: &mut String, name: &str) -> Result<(), AllocError>
     ensures { OnOk result (string_bytes text.new ≡ string_bytes text.old ++ unit_line name.now) }
 {
-    writeln!(text, "{} is a unit, no variable", name)
+    put_two(text, name, " is a unit, no variable\n")
 }
 
 #[tactic(auto, unfolding(crate::specs::NamesUnknown::standard_line))]
@@ -532,10 +542,10 @@ fn put_standard_line(text: &mut String, name: &str) -> Result<(), AllocError>
     ensures { OnOk result (string_bytes text.new ≡ string_bytes text.old
         ++ standard_line name.now) }
 {
-    writeln!(
+    put_two(
         text,
-        "{} is a standard function or block, no variable",
-        name
+        name,
+        " is a standard function or block, no variable\n",
     )
 }
 
@@ -544,21 +554,5 @@ fn put_no_instance_line(text: &mut String, name: &str) -> Result<(), AllocError>
     ensures { OnOk result (string_bytes text.new ≡ string_bytes text.old
         ++ no_instance_line name.now) }
 {
-    writeln!(text, "{} is no instance of a function block", name)
-}
-
-#[tactic(auto, unfolding(crate::specs::NamesUnknown::no_word_line))]
-fn put_no_word_line(
-    text: &mut String,
-    access: Access,
-    name: &str,
-    word: &str,
-) -> Result<(), AllocError>
-    ensures { OnOk result (string_bytes text.new ≡ string_bytes text.old
-        ++ no_word_line access name.now word.now) }
-{
-    match access {
-        Access::Reads => writeln!(text, "{} has no output {}", name, word),
-        Access::Stores => writeln!(text, "{} has no input {}", name, word),
-    }
+    put_two(text, name, " is no instance of a function block\n")
 }

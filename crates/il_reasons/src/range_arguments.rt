@@ -7,6 +7,7 @@ use crate::range_divisors::put_value;
 use crate::range_inputs::put_function;
 use crate::range_operands::{lies_in, range_at};
 use crate::range_words::{put_line_of, put_scalar};
+use crate::writing::{put_three, put_two};
 use il_interval::Interval;
 use il_ranges::PlaceFacts;
 use il_rules::elementary::declared_limits;
@@ -25,8 +26,8 @@ fn put_of(
     ensures { OnOk result (string_bytes text.new ≡ string_bytes text.old
         ++ of_text kind.now word.now instance.now verb.now) }
 {
-    write!(text, "{}{} of ", kind, word)?;
-    write!(text, "{}{}", instance, verb)
+    put_two(text, kind, word)?;
+    put_three(text, " of ", instance, verb)
 }
 
 // `input PV of C takes INT (0..100), and the value N is 0..300`
@@ -75,7 +76,7 @@ fn put_aim(text: &mut String, unit: &Unit, target: &str, aim: Scalar) -> Result<
     ensures { OnOk result (string_bytes text.new ≡ string_bytes text.old
         ++ aim_text unit.now target.now aim) }
 {
-    write!(text, ", and the target is {} : ", target)?;
+    put_three(text, ", and the target is ", target, " : ")?;
     put_scalar(text, aim)?;
     put_line_of(text, unit, target)?;
     text.push_str("\n")

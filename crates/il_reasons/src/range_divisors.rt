@@ -6,7 +6,7 @@ ghost use Rattle.il_reasons.specs.RangeWords.{ends_text, reference_text};
 ghost use Rattle.il_reasons.specs.RangeReasons.{operand_name, divided_by, inner_text, divisor_text, value_text};
 
 use crate::range_operands::range_at;
-use crate::range_words::{put, put_ends, put_reference};
+use crate::range_words::{put_range, put_reference};
 use il_interval::Interval;
 use il_ranges::PlaceFacts;
 use il_run::known::Known;
@@ -36,19 +36,19 @@ fn put_name(text: &mut String, reference: &Reference) -> Result<(), AllocError>
     }
 }
 
-/// ` D is 0..5`
-pub(crate) fn put_named_range(
+// A piece, and ` D is 0..5`
+fn put_named_range(
     text: &mut String,
+    head: &str,
     reference: &Reference,
     range: Interval,
 ) -> Result<(), AllocError>
-    ensures { OnOk result (string_bytes text.new ≡ string_bytes text.old
-        ++ (operand_name reference.now ++ (codes " is " ++ (ends_text range ++ codes "\n")))) }
+    ensures { OnOk result (string_bytes text.new ≡ string_bytes text.old ++ (head.now
+        ++ (operand_name reference.now ++ (codes " is " ++ (ends_text range ++ codes "\n"))))) }
 {
+    text.push_str(head)?;
     put_name(text, reference)?;
-    text.push_str(" is ")?;
-    put_ends(text, range)?;
-    text.push_str("\n")
+    put_range(text, " is ", range, "\n")
 }
 
 /// `, and the value N is 0..5`
@@ -60,22 +60,7 @@ pub(crate) fn put_value(
     ensures { OnOk result (string_bytes text.new ≡ string_bytes text.old
         ++ value_text reference.now range) }
 {
-    put(text, ", and the value")?;
-    put_named_range(text, reference, range)
-}
-
-// `the divisor D is 0..5`
-fn put_divisor_range(
-    text: &mut String,
-    reference: &Reference,
-    range: Interval,
-) -> Result<(), AllocError>
-    ensures { OnOk result (string_bytes text.new ≡ string_bytes text.old
-        ++ (codes "the divisor" ++ (operand_name reference.now ++ (codes " is "
-        ++ (ends_text range ++ codes "\n"))))) }
-{
-    put(text, "the divisor")?;
-    put_named_range(text, reference, range)
+    put_named_range(text, ", and the value", reference, range)
 }
 
 // Whether an operator divides.
@@ -102,7 +87,7 @@ fn put_divided_by(
         return Ok(());
     }
     match range {
-        Some(range) => put_divisor_range(text, reference, range),
+        Some(range) => put_named_range(text, "the divisor", reference, range),
         None => Ok(()),
     }
 }
@@ -112,9 +97,7 @@ fn put_inner_range(text: &mut String, range: Interval) -> Result<(), AllocError>
     ensures { OnOk result (string_bytes text.new ≡ string_bytes text.old
         ++ (codes "the divisor in the parentheses is " ++ (ends_text range ++ codes "\n"))) }
 {
-    put(text, "the divisor in the parentheses is ")?;
-    put_ends(text, range)?;
-    put(text, "\n")
+    put_range(text, "the divisor in the parentheses is ", range, "\n")
 }
 
 // Of what `)` divides by, the current result.

@@ -5,6 +5,7 @@ ghost use Rattle.il_reasons.specs.RangeReasons.{index_range, array_has_text, out
 
 use crate::range_operands::{bounds_named, lies_within, only};
 use crate::range_words::{put, put_ends, put_index_name, put_limits, put_line_of};
+use crate::writing::put_three;
 use il_interval::Interval;
 use il_ranges::PlaceFacts;
 use il_scope::UnitScope;
@@ -31,7 +32,7 @@ fn put_array_has(
     ensures { OnOk result (string_bytes text.new ≡ string_bytes text.old
         ++ array_has_text unit.now name.now bounds) }
 {
-    write!(text, ", and {} has ", name)?;
+    put_three(text, ", and ", name, " has ")?;
     put_limits(text, bounds)?;
     put_line_of(text, unit, name)?;
     text.push_str("\n")

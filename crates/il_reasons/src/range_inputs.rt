@@ -6,7 +6,8 @@ ghost use Rattle.il_reasons.specs.RangeReasons.{first_text, first_by, further_te
 
 use crate::range_divisors::put_value;
 use crate::range_operands::{lies_in, range_at};
-use crate::range_words::{put, put_ends, put_scalar};
+use crate::range_words::{put_range, put_scalar};
+use crate::writing::put_three;
 use il_interval::Interval;
 use il_ranges::PlaceFacts;
 use il_rules::elementary::declared_limits;
@@ -25,11 +26,9 @@ fn put_first_input(
     ensures { OnOk result (string_bytes text.new ≡ string_bytes text.old
         ++ first_text name.now scalar range) }
 {
-    write!(text, "the first input of {} takes ", name)?;
+    put_three(text, "the first input of ", name, " takes ")?;
     put_scalar(text, scalar)?;
-    text.push_str(", and the result is ")?;
-    put_ends(text, range)?;
-    text.push_str("\n")
+    put_range(text, ", and the result is ", range, "\n")
 }
 
 // The same, where both have a range, and the current result may leave the input.
@@ -65,9 +64,7 @@ fn put_further_input(
     ensures { OnOk result (string_bytes text.new ≡ string_bytes text.old
         ++ further_text name.now scalar reference.now range) }
 {
-    put(text, "an input of ")?;
-    put(text, name)?;
-    put(text, " takes ")?;
+    put_three(text, "an input of ", name, " takes ")?;
     put_scalar(text, scalar)?;
     put_value(text, reference, range)
 }

@@ -8,7 +8,7 @@ ghost use Rattle.il_reasons.specs.RangeWords.{scalar_text};
 ghost use Rattle.il_reasons.specs.RangeReasons.{sign_text, is_end, is_operand, given_from, left_text, operated_text, operated_by, sides_text, operator_text, known_range, evaluated_text, converted_unless, absolute_text, absolute_of, function_text, invoked_text, overflow_text};
 
 use crate::range_operands::{lies_in, range_at};
-use crate::range_words::{put, put_ends, put_scalar};
+use crate::range_words::{put, put_ends, put_range, put_scalar};
 use il_interval::Interval;
 use il_ranges::PlaceFacts;
 use il_rules::elementary::limits;
@@ -101,9 +101,7 @@ fn put_left(text: &mut String, elementary: Elementary, range: Interval) -> Resul
     ensures { OnOk result (string_bytes text.new ≡ string_bytes text.old
         ++ left_text elementary range) }
 {
-    text.push_str(" gives ")?;
-    put_ends(text, range)?;
-    text.push_str(", outside ")?;
+    put_range(text, " gives ", range, ", outside ")?;
     put_scalar(text, plain(elementary))?;
     text.push_str("\n")
 }

@@ -6,6 +6,7 @@ ghost use Rattle.il_rules.specs.Names.{or_else};
 ghost use Rattle.il_reasons.specs.RangeWords.{both_text, ends_text, limits_text, within_text, scalar_text, index_text, index_name, reference_text, line_among, line_in, result_line, declared_line, declared_text, instance_text, where_text};
 
 use crate::types_operands::type_word;
+use crate::writing::{put_numbered, put_three, put_two};
 use il_interval::Interval;
 use il_rules::elementary::declared_limits;
 use il_spec::tree::{Declaration, Index, Named, Reference, Scalar, Subrange, Unit, UnitKind};
@@ -43,6 +44,21 @@ pub(crate) fn put_ends(text: &mut String, range: Interval) -> Result<(), AllocEr
     } else {
         put_both(text, range)
     }
+}
+
+/// A range between two pieces.
+pub(crate) fn put_range(
+    text: &mut String,
+    before: &str,
+    range: Interval,
+    after: &str,
+) -> Result<(), AllocError>
+    ensures { OnOk result (string_bytes text.new ≡ string_bytes text.old
+        ++ (before.now ++ (ends_text range ++ after.now))) }
+{
+    text.push_str(before)?;
+    put_ends(text, range)?;
+    text.push_str(after)
 }
 
 /// `LO..HI` of written limits.
@@ -90,8 +106,7 @@ fn put_spaced_name(text: &mut String, name: &str) -> Result<(), AllocError>
     ensures { OnOk result (string_bytes text.new ≡ string_bytes text.old
         ++ (codes " " ++ name.now)) }
 {
-    text.push_str(" ")?;
-    text.push_str(name)
+    put_two(text, " ", name)
 }
 
 /// An index, as it is written.
@@ -109,7 +124,7 @@ fn put_element(text: &mut String, name: &str, index: &Index) -> Result<(), Alloc
     ensures { OnOk result (string_bytes text.new ≡ string_bytes text.old
         ++ (name.now ++ (codes "[" ++ (index_text index.now ++ codes "]")))) }
 {
-    write!(text, "{}[", name)?;
+    put_two(text, name, "[")?;
     put_index(text, index)?;
     text.push_str("]")
 }
@@ -119,7 +134,7 @@ fn put_member(text: &mut String, name: &str, word: &str) -> Result<(), AllocErro
     ensures { OnOk result (string_bytes text.new ≡ string_bytes text.old
         ++ (name.now ++ (codes "." ++ word.now))) }
 {
-    write!(text, "{}.{}", name, word)
+    put_three(text, name, ".", word)
 }
 
 /// What an operand names, as it is written; a literal names nothing.
@@ -203,7 +218,7 @@ fn put_declared(text: &mut String, line: Option<u32>) -> Result<(), AllocError>
     ensures { OnOk result (string_bytes text.new ≡ string_bytes text.old ++ declared_text line) }
 {
     match line {
-        Some(line) => write!(text, ", declared in line {}", line),
+        Some(line) => put_numbered(text, ", declared in line ", line),
         None => Ok(()),
     }
 }
@@ -221,7 +236,7 @@ fn put_in_line(text: &mut String, line: u32) -> Result<(), AllocError>
     ensures { OnOk result (string_bytes text.new ≡ string_bytes text.old
         ++ (codes " declared in line " ++ decimal line)) }
 {
-    write!(text, " declared in line {}", line)
+    put_numbered(text, " declared in line ", line)
 }
 
 // `, C declared in line N`
@@ -229,8 +244,7 @@ fn put_declared_name(text: &mut String, name: &str, line: u32) -> Result<(), All
     ensures { OnOk result (string_bytes text.new ≡ string_bytes text.old
         ++ (codes ", " ++ (name.now ++ (codes " declared in line " ++ decimal line)))) }
 {
-    put(text, ", ")?;
-    put(text, name)?;
+    put_two(text, ", ", name)?;
     put_in_line(text, line)
 }
 

@@ -3,9 +3,11 @@
 ghost use Rattle.std.specs.Prelude.{◌≡◌, ◌++◌, ◌+◌, [], None, length, string_bytes, OnOk};
 ghost use Rattle.il_rules.specs.Names.{standard_function, further_arguments, function_named};
 ghost use Rattle.il_rules.specs.Types as rules;
-ghost use Rattle.il_reasons.specs.ArgumentReasons.{taken_count, arguments_text, standing_text, with_result, count_line, is_given, twice_line, has_input, has_output, no_input_line, no_output_line, word_line, argument_lines, arguments_lines, call_lines, taken_lines};
+ghost use Rattle.il_reasons.specs.ArgumentReasons.{taken_count, arguments_text, standing_text, with_result, count_line, is_given, twice_line, no_input_line, no_output_line, word_line, argument_lines, arguments_lines, call_lines, taken_lines};
 
+use crate::names_meant::{has_input, has_output};
 use crate::types_words::put_block;
+use crate::writing::{put_four, put_two};
 use il_rules::names::StandardFunction;
 use il_scope::UnitScope;
 use il_scope::functions::standard_function;
@@ -91,7 +93,7 @@ fn put_count(
 {
     match taken {
         Some(taken) => {
-            write!(text, "{} takes ", name)?;
+            put_two(text, name, " takes ")?;
             put_arguments_count(text, taken)?;
             text.push_str(", ")?;
             put_standing(text, standing)?;
@@ -129,26 +131,10 @@ fn put_twice(text: &mut String, given: bool, word: &str) -> Result<(), AllocErro
         ++ twice_line given word.now) }
 {
     if given {
-        writeln!(text, "{} stands twice", word)
+        put_two(text, word, " stands twice\n")
     } else {
         Ok(())
     }
-}
-
-// Whether the block of an instance has an input of this word.
-fn has_input(scope: &UnitScope<'_>, instance: &str, word: &str) -> bool
-    ensures { result ≡ has_input
-        (rules.instance_block scope.now.config scope.now.unit instance.now) word.now }
-{
-    scope.input(instance, word).is_some()
-}
-
-// Whether the block of an instance has an output of this word.
-fn has_output(scope: &UnitScope<'_>, instance: &str, word: &str) -> bool
-    ensures { result ≡ has_output
-        (rules.instance_block scope.now.config scope.now.unit instance.now) word.now }
-{
-    scope.output(instance, word).is_some()
 }
 
 // `Q1 is no input of C1`
@@ -159,7 +145,7 @@ fn put_no_input(text: &mut String, has: bool, word: &str, instance: &str) -> Res
     if has {
         Ok(())
     } else {
-        writeln!(text, "{} is no input of {}", word, instance)
+        put_four(text, word, " is no input of ", instance, "\n")
     }
 }
 
@@ -171,7 +157,7 @@ fn put_no_output(text: &mut String, has: bool, word: &str, instance: &str) -> Re
     if has {
         Ok(())
     } else {
-        writeln!(text, "{} is no output of {}", word, instance)
+        put_four(text, word, " is no output of ", instance, "\n")
     }
 }
 

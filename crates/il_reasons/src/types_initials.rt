@@ -3,7 +3,8 @@
 ghost use Rattle.std.specs.Prelude.{◌≡◌, ◌++◌, Some, flat_map, OnOk, string_bytes};
 ghost use Rattle.il_reasons.specs.InitialReasons.{declared_line, initial_lines, declaration_lines, declarations_lines, unit_initials, initials_lines};
 
-use crate::types_operands::{put_is, put_literal};
+use crate::types_operands::{put_literal, type_word};
+use crate::writing::{put_four, put_two};
 use il_spec::tree::{Config, Declaration, Form, Initial, Named, Unit};
 use std::alloc::AllocError;
 
@@ -12,11 +13,11 @@ fn put_declared(text: &mut String, form: &Form, named: &Named) -> Result<(), All
     ensures { OnOk result (string_bytes text.new ≡ string_bytes text.old
         ++ declared_line form.now named.now) }
 {
-    text.push_str(named.name.as_str())?;
+    let name = named.name.as_str();
     match form {
-        Form::Scalar(scalar) => put_is(text, scalar.elementary),
-        Form::Array { .. } => text.push_str(" is an array\n"),
-        Form::Block(_) => text.push_str(" is an instance\n"),
+        Form::Scalar(scalar) => put_four(text, name, " is ", type_word(scalar.elementary), "\n"),
+        Form::Array { .. } => put_two(text, name, " is an array\n"),
+        Form::Block(_) => put_two(text, name, " is an instance\n"),
     }
 }
 

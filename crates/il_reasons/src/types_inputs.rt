@@ -6,6 +6,7 @@ ghost use Rattle.il_rules.specs.Types.{scalar_type};
 ghost use Rattle.il_reasons.specs.TypeReasons.{input_line, declared_lines, inputs_lines, called_lines};
 
 use crate::types_operands::put_is;
+use crate::writing::put_three;
 use il_scope::Scoped;
 use il_spec::tree::{Declaration, Elementary, Form, Instruction, Named, Unit};
 use std::alloc::AllocError;
@@ -32,7 +33,7 @@ fn put_input(
 {
     match found {
         Some(found) => {
-            write!(text, "{} of {}", named.name.as_str(), function)?;
+            put_three(text, named.name.as_str(), " of ", function)?;
             put_is(text, found)
         }
         None => Ok(()),

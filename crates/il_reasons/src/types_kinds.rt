@@ -6,6 +6,7 @@ ghost use Rattle.il_rules.specs.Declarations.{scalar_numbers, array_numbers, cal
 ghost use Rattle.il_declare.specs.Mentions.{scalar_of, array_of, called_of};
 ghost use Rattle.il_reasons.specs.KindReasons.{is_other_kind, array_line, no_array_line, no_instance_line, index_kind, reference_kind, operand_kinds, argument_kind, argument_kinds, kind_lines};
 
+use crate::writing::put_two;
 use il_scope::UnitScope;
 use il_scope::entry::{Binding, VariableType};
 use il_spec::tree::{Argument, Index, Instruction, Operand, Reference};
@@ -75,7 +76,7 @@ fn put_array(text: &mut String, scope: &UnitScope<'_>, name: &str) -> Result<(),
         ++ array_line scope.now.config scope.now.unit name.now) }
 {
     if names_array(scope, name) {
-        writeln!(text, "{} is an array", name)
+        put_two(text, name, " is an array\n")
     } else {
         Ok(())
     }
@@ -87,7 +88,7 @@ fn put_no_array(text: &mut String, scope: &UnitScope<'_>, name: &str) -> Result<
         ++ no_array_line scope.now.config scope.now.unit name.now) }
 {
     if names_no_array(scope, name) {
-        writeln!(text, "{} is no array", name)
+        put_two(text, name, " is no array\n")
     } else {
         Ok(())
     }
@@ -99,7 +100,7 @@ fn put_no_instance(text: &mut String, scope: &UnitScope<'_>, name: &str) -> Resu
         ++ no_instance_line scope.now.config scope.now.unit name.now) }
 {
     if names_no_instance(scope, name) {
-        writeln!(text, "{} is no instance of a function block", name)
+        put_two(text, name, " is no instance of a function block\n")
     } else {
         Ok(())
     }

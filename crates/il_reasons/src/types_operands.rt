@@ -5,6 +5,7 @@ ghost use Rattle.il_reasons.specs.TypeWords.{type_word, truth_word, is_text, lit
 ghost use Rattle.il_reasons.specs.TypeReasons.{name_line, index_line, element_line, member_line, reference_lines, operands_lines, argument_lines, arguments_lines, operand_lines};
 
 use crate::range_words::put_index;
+use crate::writing::{put_four, put_three};
 use il_spec::tree::{Argument, Elementary, Index, Instruction, Literal, Operand, Reference};
 use il_typed::scope::Scope;
 use std::alloc::AllocError;
@@ -36,7 +37,7 @@ fn truth_word(value: bool) -> &'static str
 pub(crate) fn put_is(text: &mut String, found: Elementary) -> Result<(), AllocError>
     ensures { OnOk result (string_bytes text.new ≡ string_bytes text.old ++ is_text found) }
 {
-    writeln!(text, " is {}", type_word(found))
+    put_three(text, " is ", type_word(found), "\n")
 }
 
 /// `5 is a bare number`, `INT#5 is INT`
@@ -45,12 +46,8 @@ pub(crate) fn put_literal(text: &mut String, literal: Literal) -> Result<(), All
 {
     match literal {
         Literal::Truth(value) => {
-            writeln!(
-                text,
-                "{} is {}",
-                truth_word(value),
-                type_word(Elementary::Bool)
-            )
+            text.push_str(truth_word(value))?;
+            put_is(text, Elementary::Bool)
         }
         Literal::Bare(value) => writeln!(text, "{} is a bare number", value),
         Literal::Whole(written, value) => {
@@ -70,7 +67,7 @@ fn put_name<S: Scope>(text: &mut String, scope: &S, name: &str) -> Result<(), Al
         ++ name_line (S.config scope.now) (S.unit scope.now) name.now) }
 {
     match scope.name_type(name) {
-        Some(found) => writeln!(text, "{} is {}", name, type_word(found)),
+        Some(found) => put_four(text, name, " is ", type_word(found), "\n"),
         None => Ok(()),
     }
 }
@@ -121,7 +118,7 @@ fn put_member<S: Scope>(
 {
     match scope.member_type(name, word) {
         Some(found) => {
-            write!(text, "{}.{}", name, word)?;
+            put_three(text, name, ".", word)?;
             put_is(text, found)
         }
         None => Ok(()),

@@ -6,6 +6,7 @@ ghost use Rattle.il_rules.specs.Types.{opener, IsResultAt, IsDeferredAt};
 ghost use Rattle.il_reasons.specs.ResultReasons.{result_line, aside_line, deferred_lines, tested_line, result_lines, IsResultOf, IsResultTold};
 
 use crate::types_operands::type_word;
+use crate::writing::put_three;
 use il_scope::{Scoped, UnitScope};
 use il_spec::tree::{Body, Condition, Elementary, Instruction, Operator, Step};
 use il_typed::places::{fresh, innermost, pass_on, result_at, set_aside};
@@ -57,8 +58,8 @@ fn put_result(text: &mut String, found: Option<Elementary>) -> Result<(), AllocE
     ensures { OnOk result (string_bytes text.new ≡ string_bytes text.old ++ result_line found) }
 {
     match found {
-        Some(found) => writeln!(text, "the current result is {}", type_word(found)),
-        None => writeln!(text, "there is no current result of one type on all paths"),
+        Some(found) => put_three(text, "the current result is ", type_word(found), "\n"),
+        None => text.push_str("there is no current result of one type on all paths\n"),
     }
 }
 
@@ -67,15 +68,13 @@ fn put_aside(text: &mut String, found: Option<Elementary>) -> Result<(), AllocEr
     ensures { OnOk result (string_bytes text.new ≡ string_bytes text.old ++ aside_line found) }
 {
     match found {
-        Some(found) => writeln!(
+        Some(found) => put_three(
             text,
-            "the result before the parenthesis is {}",
-            type_word(found)
+            "the result before the parenthesis is ",
+            type_word(found),
+            "\n",
         ),
-        None => writeln!(
-            text,
-            "before the parenthesis there is none of one type on all paths"
-        ),
+        None => { text.push_str("before the parenthesis there is none of one type on all paths\n") }
     }
 }
 

@@ -13,6 +13,7 @@ ghost use Rattle.il_typed.specs.Types.{elementary_of};
 ghost use Rattle.il_reasons.specs.TypeReasons.{tested_type, stored_type, operated_type, standard_type, first_type, function_type, wanted_type, IsWanted, wanted_line};
 
 use crate::types_operands::type_word;
+use crate::writing::put_three;
 use il_rules::names::StandardFunction;
 use il_scope::UnitScope;
 use il_scope::functions::standard_function;
@@ -145,7 +146,7 @@ fn put_must(text: &mut String, wanted: Option<Elementary>) -> Result<(), AllocEr
     ensures { OnOk result (string_bytes text.new ≡ string_bytes text.old ++ wanted_line wanted) }
 {
     match wanted {
-        Some(wanted) => writeln!(text, "the result must be {}", type_word(wanted)),
+        Some(wanted) => put_three(text, "the result must be ", type_word(wanted), "\n"),
         None => Ok(()),
     }
 }

@@ -6,6 +6,8 @@ ghost use Rattle.il_scope.specs.Views.{variables_of_block};
 ghost use Rattle.il_scope.specs.declared.entry.BlockType.TheVariants.{Own as OwnBlock};
 ghost use Rattle.il_reasons.specs.ArgumentReasons.{words_of, words_text, inputs_line, outputs_line, block_lines};
 
+use crate::names_spots::unit_at;
+use crate::writing::{put_three, put_two};
 use il_rules::names::StandardBlock;
 use il_rules::standard::{BlockWord, words_of};
 use il_scope::Scoped;
@@ -19,8 +21,7 @@ fn put_others(text: &mut String, words: &[&str]) -> Result<(), AllocError>
         ++ flat_map (λ w. codes ", " ++ w) (map (λ w. w.now) words.now)) }
 {
     'words: for word in words {
-        text.push_str(", ")?;
-        text.push_str(*word)?;
+        put_two(text, ", ", *word)?;
     }
     Ok(())
 }
@@ -39,14 +40,23 @@ fn put_words(text: &mut String, words: &[&str]) -> Result<(), AllocError>
     }
 }
 
+// `inputs of C1: CU, R, PV`, or `outputs of ..`
+fn put_line(text: &mut String, head: &str, instance: &str, words: &[&str]) -> Result<(), AllocError>
+    ensures { OnOk result (string_bytes text.new ≡ string_bytes text.old ++ (head.now
+        ++ (instance.now ++ (codes ": " ++ (words_text (map (λ w. w.now) words.now)
+        ++ codes "\n"))))) }
+{
+    put_three(text, head, instance, ": ")?;
+    put_words(text, words)?;
+    text.push_str("\n")
+}
+
 // `inputs of C1: CU, R, PV`
 fn put_inputs(text: &mut String, instance: &str, words: &[&str]) -> Result<(), AllocError>
     ensures { OnOk result (string_bytes text.new ≡ string_bytes text.old
         ++ inputs_line instance.now (map (λ w. w.now) words.now)) }
 {
-    write!(text, "inputs of {}: ", instance)?;
-    put_words(text, words)?;
-    text.push_str("\n")
+    put_line(text, "inputs of ", instance, words)
 }
 
 // `outputs of C1: Q, CV`
@@ -54,9 +64,7 @@ fn put_outputs(text: &mut String, instance: &str, words: &[&str]) -> Result<(), 
     ensures { OnOk result (string_bytes text.new ≡ string_bytes text.old
         ++ outputs_line instance.now (map (λ w. w.now) words.now)) }
 {
-    write!(text, "outputs of {}: ", instance)?;
-    put_words(text, words)?;
-    text.push_str("\n")
+    put_line(text, "outputs of ", instance, words)
 }
 
 // The words of a standard block.
@@ -140,7 +148,7 @@ fn put_own(
     ensures { OnOk result (string_bytes text.new ≡ string_bytes text.old
         ++ block_lines instance.now (variables_of_block names.now (OwnBlock number))) }
 {
-    match names.config().units.as_slice().get(number) {
+    match unit_at(names, number) {
         Some(unit) => put_unit_words(alloc, text, instance, unit),
         None => Ok(()),
     }

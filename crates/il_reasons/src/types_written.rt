@@ -6,6 +6,7 @@ ghost use Rattle.il_reasons.specs.WrittenReasons.{written_scalar, form_text, for
 
 use crate::range_words::{put, put_limits, put_within};
 use crate::types_operands::type_word;
+use crate::writing::put_two;
 use il_rules::elementary::is_whole;
 use il_spec::tree::{Config, Declaration, Form, Named, Scalar, Unit, UnitKind};
 use std::alloc::AllocError;
@@ -31,8 +32,7 @@ fn put_instance(text: &mut String, block: &str) -> Result<(), AllocError>
     ensures { OnOk result (string_bytes text.new ≡ string_bytes text.old
         ++ (codes "an instance of " ++ block.now)) }
 {
-    put(text, "an instance of ")?;
-    put(text, block)
+    put_two(text, "an instance of ", block)
 }
 
 // `INT (0..5)`, `ARRAY [1..4] OF INT`, `an instance of TON`
@@ -56,8 +56,7 @@ fn put_form_words(text: &mut String, form: &Form, named: &Named) -> Result<(), A
     ensures { OnOk result (string_bytes text.new ≡ string_bytes text.old
         ++ form_words form.now named.now) }
 {
-    text.push_str(named.name.as_str())?;
-    text.push_str(" is ")?;
+    put_two(text, named.name.as_str(), " is ")?;
     put_form(text, form)
 }
 
@@ -86,8 +85,7 @@ fn put_subrange(text: &mut String, scalar: Scalar) -> Result<(), AllocError>
     ensures { OnOk result (string_bytes text.new ≡ string_bytes text.old ++ subrange_line scalar) }
 {
     if scalar.subrange.is_some() && !is_whole(scalar.elementary) {
-        text.push_str(type_word(scalar.elementary))?;
-        text.push_str(" has no subranges\n")
+        put_two(text, type_word(scalar.elementary), " has no subranges\n")
     } else {
         Ok(())
     }

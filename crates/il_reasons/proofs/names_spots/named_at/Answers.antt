@@ -4,4 +4,4 @@ use Rattle.il_reasons.proofs.Spots.{spot_found}
 use Rattle.il_reasons.proofs.names_spots.named_at.Goals as goal
 
 pub returns : goal.returns
-returns c = ap (option_map spot_shown) (c.copied.ensures ∙ c.find_at.ensures) ∙ spot_found (λ n. is_at n.place c.args.place) c.args.spots.now
+returns c = ap (option_map spot_shown) c.find_at.ensures ∙ spot_found (λ n. is_at n.place c.args.place) c.args.spots.now
