@@ -6,7 +6,6 @@ use Rattle.il_scope.proofs.Seen.{read_at}
 use Rattle.il_reasons.specs.CostReasons.{heading_lines}
 use Rattle.il_reasons.proofs.TypeTexts.{item_more}
 use Rattle.il_reasons.proofs.PathRuns.{heading_is}
-use Rattle.il_spec.specs.declared.tree.Unit.{Unit as ProgramUnit}
 use Rattle.il_reasons.proofs.costs.put_units.Goals as goal
 
 pub units-preserved : goal.units-preserved
@@ -14,7 +13,7 @@ units-preserved c =
     let config = c.args.names.now in
     let units = config.units in
     let listed = c.as_slice-units.ensures ∙ ap (λ (k : Config). k.units) c.config.ensures in
-    let stands = read_at {A = ProgramUnit} c.as_slice-units.result.now units c.units.at c.index-units-at.result listed c.units-test.true c.index-units-at.is in
+    let stands = read_at c.as_slice-units.result.now units c.units.at c.index-units-at.result listed c.units-test.true c.index-units-at.is in
     item_more (heading_lines config c.args.offset) units c.units.at c.index-units-at.result (string_bytes c.args.text.now) (string_bytes c.units.text) (string_bytes c.put_heading.new.text) stands c.units.invariant
     (heading_is config c.args.offset c.as_slice-units.result.now c.args.costs.now c.as_slice-all.result.now c.units.at c.index-units-at.result c.index-all-at.result (string_bytes c.units.text) (string_bytes c.put_heading.new.text) listed c.requires.costs (c.as_slice-all.ensures ∙ c.requires.ways) stands c.index-all-at.is c.in_ok-put_heading.ensures)
 

@@ -2,7 +2,6 @@ use Rattle.std.proofs.Common.{◌++◌, ◌≡◌, flat_map, length, subst, ap, 
 use Rattle.std.proofs.lemmas.List.{take_all}
 use Rattle.std.specs.Prelude.{string_bytes}
 use Rattle.il_spec.specs.declared.tree.Config.{Config}
-use Rattle.il_spec.specs.declared.tree.Unit.{Unit as ProgramUnit}
 use Rattle.il_scope.proofs.Seen.{read_at}
 use Rattle.il_reasons.specs.TreeReasons.{unit_lines}
 use Rattle.il_reasons.proofs.TypeTexts.{item_more}
@@ -11,7 +10,7 @@ use Rattle.il_reasons.proofs.tree.put_units.Goals as goal
 pub units-preserved : goal.units-preserved
 units-preserved c =
     let units = c.args.names.now.units in
-    let stands = read_at {A = ProgramUnit} c.as_slice-units.result.now units c.units.at c.index-units-at.result (c.as_slice-units.ensures ∙ ap (λ (k : Config). k.units) c.config.ensures) c.units-test.true c.index-units-at.is in
+    let stands = read_at c.as_slice-units.result.now units c.units.at c.index-units-at.result (c.as_slice-units.ensures ∙ ap (λ (k : Config). k.units) c.config.ensures) c.units-test.true c.index-units-at.is in
     item_more (unit_lines c.args.names.now c.args.number c.args.offset) units c.units.at c.index-units-at.result (string_bytes c.args.text.now) (string_bytes c.units.text) (string_bytes c.put_unit.new.text) stands c.units.invariant c.in_ok-put_unit.ensures
 
 pub returns : goal.returns
