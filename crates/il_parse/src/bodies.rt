@@ -1,20 +1,17 @@
 // Bodies (IEC 61131-3:2003, 3.2.1 and 3.2.2).
 
+ghost use Rattle.std.specs.Prelude.{◌≡◌, ◌⊎◌, ◌<◌, ◌≤◌, length, IsTrue, IsFalse, IfOk, IfErr, false};
+ghost use Rattle.il_spec.specs.Grammar.{TheLineEnd, depth_after, needs_load, SpellsBody};
 ghost use Rattle.il_spec.specs.declared.keyword.Keyword.{Keyword};
-ghost use Rattle.std.specs.Prelude.{false};
-ghost use Rattle.il_spec.specs.Grammar.{SpellsBody};
 ghost use Rattle.il_grammar_laws.specs.GoesOn.{always};
-ghost use Rattle.il_read.specs.Reads.{BreaksOff};
-ghost use Rattle.il_parse.specs.GoesOn.{SpellsFrom, SpellsPlacedFrom};
-ghost use Rattle.std.specs.Prelude.{◌≡◌, ◌⊎◌, ◌<◌, ◌≤◌, length, IsTrue, IsFalse, IfOk, IfErr};
-ghost use Rattle.il_spec.specs.Grammar.{TheLineEnd, depth_after, needs_load};
 ghost use Rattle.il_read.specs.Lead.{lead_at};
-ghost use Rattle.il_read.specs.Reads.{Reads, Refuses, Eats, fault_at};
+ghost use Rattle.il_read.specs.Reads.{Reads, Refuses, Eats, fault_at, BreaksOff};
 ghost use Rattle.il_read.specs.declared.lead.Lead.TheVariants as begins;
 ghost use Rattle.il_read.specs.declared.stop.SyntaxError.TheVariants.{Unexpected, TooMany};
 ghost use Rattle.il_read.specs.declared.stop.Stop.TheVariants.{Memory};
 ghost use Rattle.il_parse.specs.Ahead.{RefusesAhead};
 ghost use Rattle.il_parse.specs.Bodies.{closes_lead, leaves_lead, ends_lead, loads_lead, may_begin, SpellsPlaced, RefusesPlaced, HasLabels, TakesEnd, SpellsNext, Shortens, IsLast, SpellsSteps, SpellsSmallBody};
+ghost use Rattle.il_parse.specs.GoesOn.{SpellsFrom, SpellsPlacedFrom};
 
 use il_read::{Lead, Source, Stop, SyntaxError, Tokens};
 use il_spec::keyword::Keyword;

@@ -1,12 +1,11 @@
 // The units of a text.
 
-ghost use Rattle.il_grammar_laws.specs.GoesOn.{always};
-ghost use Rattle.il_read.specs.Reads.{BreaksOff};
-ghost use Rattle.il_parse.specs.GoesOn.{SpellsAllUnits};
 ghost use Rattle.std.specs.Prelude.{◌≡◌, length, IsTrue, IsFalse, IfOk, IfErr};
-ghost use Rattle.il_read.specs.Reads.{Reads, Refuses, fault_at, turn};
+ghost use Rattle.il_grammar_laws.specs.GoesOn.{always};
+ghost use Rattle.il_read.specs.Reads.{Reads, Refuses, fault_at, turn, BreaksOff};
 ghost use Rattle.il_read.specs.declared.stop.SyntaxError.{SyntaxError};
 ghost use Rattle.il_parse.specs.Parts.{SpellsFewUnits};
+ghost use Rattle.il_parse.specs.GoesOn.{SpellsAllUnits};
 
 use crate::one_unit::unit;
 use il_read::{Lead, Source, Stop, SyntaxError, Tokens};
