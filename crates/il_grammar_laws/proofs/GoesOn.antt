@@ -31,10 +31,6 @@ pub samples_apart : (other : List ℕ) (ss zs : List Sample) (vs rest : List Tok
 samples_apart other [] zs vs rest a = (vs, refl, a)
 samples_apart other (s ∷ ss) zs vs rest a = let b = samples_apart other ss zs a.1 rest a.4 in (b.0, (a.0, a.1, a.2, a.3, b.1), b.2)
 
-pub samples_together : (other : List ℕ) (ss zs : List Sample) (vs mid rest : List Token) → AreOf other ss vs mid → AreOf other zs mid rest → AreOf other (ss ++ zs) vs rest
-samples_together other [] zs vs mid rest a b = subst (λ x. AreOf other zs x rest) (sym a) b
-samples_together other (s ∷ ss) zs vs mid rest a b = (a.0, a.1, a.2, a.3, samples_together other ss zs a.1 mid rest a.4 b)
-
 -- whether the first sample is there, and no line end
 abbrev pub is_solid : List Sample → Bool
 is_solid [] = false
@@ -220,9 +216,6 @@ pub map_sampled : {A B : Type 0} {P : List ℕ → A → Front} {Q : List ℕ �
     → ((x : A) (other : List ℕ) (us r : List Token) → P other x us r → Q other (h x) us r) → IsSampled test P ss → IsSampled test Q ss
 map_sampled h f p = record { stands = λ other vs rest a t. let x = p.stands other vs rest a t in (h x.0, f x.0 other vs rest x.1) }
 
-pub under_sampled : {A : Type 0} {P : List ℕ → A → Front} {weak strong : Test} {ss : List Sample} → ((other : List ℕ) (vs : List Token) → strong other vs → weak other vs) → IsSampled weak P ss → IsSampled strong P ss
-under_sampled more p = record { stands = λ other vs rest a t. p.stands other vs rest a (more other rest t) }
-
 pub any_sampled : {A : Type 0} {P : List ℕ → A → Front} {test : Test} {ss : List Sample} → IsSampled always P ss → IsSampled test P ss
 any_sampled p = record { stands = λ other vs rest a t. p.stands other vs rest a tt }
 
@@ -340,13 +333,6 @@ pub begins_behind : {B : Type 0} {F : List ℕ → Front} {Q : List ℕ → B �
 begins_behind {B = B} {F = F} {Q = Q} {gap = gap} cut far one here q passes stays b =
     begins_as {P = λ text (x : Unit {0} × B). F text ⟨ gap ⟩ Q text x.1} {Q = λ text (y : B). F text ⟨ gap ⟩ Q text y} (λ x. x.1) (λ x other us r w. w)
     (begins_later {P = λ text (u : Unit {0}). F text} {Q = Q} {x = tt} cut far (record { one = λ u. one }) here q passes stays b)
-
--- a part without a value breaks off
-pub begins_first_part : {B : Type 0} {F : List ℕ → Front} {Q : List ℕ → B → Front} {first second : Test} {zs : List Sample} {text : List ℕ} {ts at : List Token} (gap : Gap)
-    → IsSampled second Q zs → Passes first zs second → Stays gap zs second → Begins first (λ text (u : Unit {0}). F text) text ts at → Begins second (λ text (y : B). F text ⟨ gap ⟩ Q text y) text ts at
-begins_first_part {B = B} {F = F} {Q = Q} gap q passes stays b =
-    begins_as {P = λ text (x : Unit {0} × B). F text ⟨ gap ⟩ Q text x.1} {Q = λ text (y : B). F text ⟨ gap ⟩ Q text y} (λ x. x.1) (λ x other us r w. w)
-    (begins_first {P = λ text (u : Unit {0}). F text} {Q = Q} gap q passes stays b)
 
 -- one more at the end
 pub one_more : {A : Type 0} (xs : List A) (x : A) (more : List A) → xs ++ (x ∷ more) ≡ (xs ++ x ∷ []) ++ more

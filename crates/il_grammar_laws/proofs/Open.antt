@@ -37,14 +37,13 @@ use Rattle.il_spec.specs.declared.tree.Unit.{Unit as ProgramUnit}
 use Rattle.il_spec.specs.declared.tree.Size.{Size}
 use Rattle.il_spec.specs.declared.tree.Task.{Task}
 use Rattle.il_spec.specs.declared.tree.ProgramLine.{ProgramLine}
-use Rattle.il_spec.specs.declared.tree.Config.{Config}
 use Rattle.il_spec.specs.Text.{is_grouped}
 use Rattle.std.specs.Char.{is_ascii_digit}
 use Rattle.il_spec.specs.Words.{IsName}
 use Rattle.il_spec.specs.Grammar.{Front, Gap, tight, loose, is_line_end, skip_line_ends, ◌⟨◌⟩◌, ◌⨾◌, ◌⋯◌, AfterLines, Nothing, No, One, At, Repeats, Listed, unit_word, end_word}
-use Rattle.il_spec.specs.Grammar.{TheSign, TheLineEnd, ANumber, ATyped, TheWord, AWord, AName, TheName, SomeName, TheText, ADecimal, ALiteral, SpellsSubrange, SpellsScalar, SpellsForm, SpellsType, SpellsInitial, SpellsDeclaration, SpellsExternal, SpellsList, SpellsFilledList, SpellsOptionalList, SpellsIndex, SpellsReference, SpellsOperand, SpellsTarget, TheLetterN, BehindAmpersand, SpellsAmpersand, SpellsShortly, SpellsOperator, SpellsArgument, SpellsArguments, SpellsOperands, SpellsFirst, SpellsInstruction, SpellsLabel, SpellsLabelled, SpellsStep, SpellsLabelLine, SpellsBody, SpellsNoExternals, SpellsExternals, SpellsResult, SpellsUnit, SpellsSize, SpellsGlobals, SpellsTask, SpellsProgramLine, SpellsSizes, SpellsResource}
+use Rattle.il_spec.specs.Grammar.{TheSign, TheLineEnd, ANumber, ATyped, TheWord, AWord, AName, TheName, SomeName, TheText, ADecimal, ALiteral, SpellsSubrange, SpellsScalar, SpellsForm, SpellsType, SpellsInitial, SpellsDeclaration, SpellsExternal, SpellsList, SpellsFilledList, SpellsOptionalList, SpellsIndex, SpellsReference, SpellsOperand, SpellsTarget, TheLetterN, BehindAmpersand, SpellsAmpersand, SpellsShortly, SpellsOperator, SpellsArgument, SpellsArguments, SpellsOperands, SpellsFirst, SpellsInstruction, SpellsLabel, SpellsLabelled, SpellsStep, SpellsLabelLine, SpellsBody, SpellsNoExternals, SpellsExternals, SpellsResult, SpellsUnit, SpellsSize, SpellsGlobals, SpellsTask, SpellsProgramLine}
 use Rattle.il_grammar_laws.specs.Alike.{HasSameBytes, IsEndOf, IsGap}
-use Rattle.il_grammar_laws.specs.GoesOn.{IsCut, Test, always, stops, lacks, quiet, calm, settled, IsOpen}
+use Rattle.il_grammar_laws.specs.GoesOn.{IsCut, Test, always, stops, lacks, quiet, calm, settled}
 use Rattle.il_grammar_laws.proofs.Alike.{end_length, end_of_end, end_same, tight_gap, loose_gap, gap_length, skip_length}
 use Rattle.il_grammar_laws.proofs.Local.{same_name, word_same}
 
@@ -68,18 +67,6 @@ pub cut_end : (text other : List ℕ) (at ts us vs : List Token) → IsCut text 
 cut_end text other at [] us vs c = c.0
 cut_end text other at (t ∷ ts) us vs (inl c) = inl c.0
 cut_end text other at (t ∷ ts) us vs (inr c) = inr (cut_end text other at ts c.0 vs c.3)
-
--- an end that is no shorter is the whole
-end_whole : (at ts : List Token) → IsEndOf at ts → length ts ≤ length at → at ≡ ts
-end_whole at [] e l = e
-end_whole at (t ∷ ts) (inl e) l = e
-end_whole at (t ∷ ts) (inr p) l = let less = end_length at ts p in absurd (omega (arith, less, l))
-
--- tokens that are cut at the front are others
-cut_first : (text other : List ℕ) (at ts us vs : List Token) → IsCut text other at ts us vs → length ts ≤ length at → us ≡ vs
-cut_first text other at [] us vs c l = c.1
-cut_first text other at (t ∷ ts) us vs (inl c) l = c.1
-cut_first text other at (t ∷ ts) us vs (inr c) l = let less = end_length at ts (cut_end text other at ts c.0 vs c.3) in absurd (omega (arith, less, l))
 
 -- tokens that are cut behind the front have the same first token
 cut_later : (text other : List ℕ) (at : List Token) (t : Token) (ts us vs : List Token) → IsCut text other at (t ∷ ts) us vs → length at ≤ length ts
@@ -172,11 +159,6 @@ one_opens {P = P} same = record { ends = ends; keeps = go }
         let here = ap length p.1 in
         let k = cut_later text other at t ts us vs c (omega (arith, less, here)) in
         (k.0, subst (λ x. One (P other) x k.0) (sym k.1) (same text other t k.2 p.0, refl), subst (λ x. IsCut text other at x k.0 vs) p.1 k.3)
-
--- where no such token stands behind line ends, none stands at the front
-here_none : {P : Token → Type 0} → ((t : Token) → P t → is_line_end t.kind ≡ false) → (vs : List Token) → ((rest : List Token) → AfterLines (One P) vs rest → ⊥) → (rest : List Token) → One P vs rest → ⊥
-here_none {P = P} solid [] none rest p = p
-here_none {P = P} solid (t ∷ ts) none rest p = none ts (subst (λ (b : Bool). One P (if b then skip_line_ends ts else t ∷ ts) ts) (sym (solid t p.0)) (p.0, refl))
 
 -- no such token
 pub no_opens : {P : List ℕ → Token → Type 0} → ((text other : List ℕ) (t : Token) → HasSameBytes text other t → P text t → P other t)
@@ -792,194 +774,3 @@ pub program_line_fills : (p : ProgramLine) → Fills tight always (λ text. Spel
 program_line_fills p =
     next loose_open (fill_placed p.place (word_fills word.Program)) (next loose_open (the_name_fills p.name) (next loose_open (word_fills word.With)
     (next loose_open (the_name_fills p.task) (next loose_open (sign_fills Colon) (next loose_open (the_name_fills p.program) (sign_fills Semicolon))))))
-
-pub sizes_fill : (c : Config) → Fills tight always (λ text. SpellsSizes text c)
-sizes_fill c =
-    next loose_open (word_fills word.VarGlobal) (next loose_open (word_fills word.Constant) (next loose_open (size_fills (codes "CARS") c.cars)
-    (next loose_open (size_fills (codes "FLOORS") c.floors) (next loose_open (size_fills (codes "SLOTS") c.slots) (word_fills word.EndVar)))))
-
-pub programs_fill : (ps : List ProgramLine) (place : Place) → Fills tight always (λ text. Repeats (SpellsProgramLine text) ps (At place (TheWord text word.EndResource)))
-programs_fill ps place = repeated {first = always} (λ p. fill_any (program_line_fills p)) (fill_placed place (word_fills word.EndResource)) ps
-
-pub tasks_fill : (ts : List Task) (ps : List ProgramLine) (place : Place) → Fills tight always (λ text. Repeats (SpellsTask text) ts (Repeats (SpellsProgramLine text) ps (At place (TheWord text word.EndResource))))
-tasks_fill ts ps place = repeated {first = always} (λ t. fill_any (task_fills t)) (programs_fill ps place) ts
-
-pub resource_fills : (c : Config) → Fills tight always (λ text. SpellsResource text c)
-resource_fills c =
-    next loose_open (word_fills word.Resource) (next loose_open some_name_fills (next loose_open (word_fills word.On) (next loose_open some_name_fills (tasks_fill c.tasks c.programs c.end_resource))))
-
--- what opens is open
-pub opened : {A : Type 0} {P : List ℕ → A → Front} {test : Test} → ((x : A) → Opens loose test (λ text. P text x)) → IsOpen test P
-opened one = record { keeps = λ x text other at ts us vs m p e c d. (one x).keeps text other at ts us vs m p e c d }
-
-pub filled : {A : Type 0} {P : List ℕ → A → Front} {test : Test} → ((x : A) → Fills tight test (λ text. P text x)) → IsOpen test P
-filled one = opened (λ x. loosely (one x).opens)
-
-pub filled_lines : {A : Type 0} {P : List ℕ → A → Front} {test : Test} → ((x : A) → Fills loose test (λ text. P text x)) → IsOpen test P
-filled_lines one = opened (λ x. (one x).opens)
-
--- what is quiet is calm
-pub quiet_calm : (other : List ℕ) (vs : List Token) → quiet other vs → calm other vs
-quiet_calm other vs q = record {
-  bracket = λ rest p. here_none (λ t p. ap is_line_end p) vs q.bracket rest p;
-  dot = λ rest p. here_none (λ t p. ap is_line_end p) vs q.dot rest p;
-  letter = λ at rest p. here_none (λ t p. ap is_line_end p.0) vs (q.letter at) rest p;
-}
-
--- where more is asked
-pub open_under : {A : Type 0} {P : List ℕ → A → Front} {weak strong : Test} → ((other : List ℕ) (vs : List Token) → strong other vs → weak other vs) → IsOpen weak P → IsOpen strong P
-open_under more one = record { keeps = λ x text other at ts us vs m p e c d. one.keeps x text other at ts us vs m p e c (either d (λ k. more other vs k)) }
-
--- the rules
-pub sign_open : (s : Sign) → IsOpen always (λ text (u : Unit {0}). TheSign s)
-sign_open s = filled (λ u. sign_fills s)
-
-pub line_end_open : IsOpen always (λ text (u : Unit {0}). TheLineEnd)
-line_end_open = filled (λ u. line_end_fills)
-
-pub word_open : (k : Keyword) → IsOpen always (λ text (u : Unit {0}). TheWord text k)
-word_open k = filled (λ u. word_fills k)
-
-pub number_open : IsOpen always (λ text. ANumber)
-number_open = filled number_fills
-
-pub name_open : IsOpen always (λ text. AName text)
-name_open = filled name_fills
-
-pub any_word_open : IsOpen always (λ text. AWord text)
-any_word_open = filled any_word_fills
-
-pub the_name_open : IsOpen always (λ text. TheName text)
-the_name_open = filled the_name_fills
-
-pub some_name_open : IsOpen always (λ text (u : Unit {0}). SomeName text)
-some_name_open = filled (λ u. some_name_fills)
-
-pub text_open : (n : List ℕ) → IsOpen always (λ text (u : Unit {0}). TheText text n)
-text_open n = filled (λ u. text_fills n)
-
-pub decimal_open : IsOpen always (λ text. ADecimal text)
-decimal_open = filled decimal_fills
-
-pub interval_open : IsOpen always (λ text (v : ℤ). ATyped (literal.Time v))
-interval_open = filled (λ v. typed_fills (literal.Time v))
-
-pub literal_open : IsOpen always (λ text. ALiteral text)
-literal_open = filled literal_fills
-
-pub subrange_open : IsOpen quiet (λ text. SpellsSubrange text)
-subrange_open = opened subrange_opens
-
-pub scalar_open : IsOpen quiet (λ text. SpellsScalar text)
-scalar_open = filled_lines scalar_fills
-
-pub form_open : IsOpen quiet (λ text. SpellsForm text)
-form_open = filled_lines form_fills
-
-pub type_open : IsOpen quiet (λ text. SpellsType text)
-type_open = filled_lines type_fills
-
-pub initial_open : IsOpen always (λ text. SpellsInitial text)
-initial_open = filled initial_fills
-
-pub names_open : IsOpen always (λ text (ns : List Named). Listed loose (TheName text) ns (TheSign Colon))
-names_open = filled names_fill
-
-pub declaration_open : IsOpen always (λ text. SpellsDeclaration text)
-declaration_open = filled declaration_fills
-
-pub external_open : IsOpen always (λ text. SpellsExternal text)
-external_open = filled external_fills
-
-pub declarations_open : (k : Keyword) → IsOpen always (λ text. SpellsList text k (SpellsDeclaration text))
-declarations_open k = filled (list_fills k declaration_fills)
-
-pub externals_open : (k : Keyword) → IsOpen always (λ text. SpellsList text k (SpellsExternal text))
-externals_open k = filled (list_fills k external_fills)
-
-pub filled_list_open : (k : Keyword) → IsOpen (lacks k) (λ text. SpellsFilledList text k)
-filled_list_open k = opened (filled_opens k)
-
-pub optional_list_open : (k : Keyword) → IsOpen (lacks k) (λ text. SpellsOptionalList text k (SpellsDeclaration text))
-optional_list_open k = opened (optional_opens k declaration_fills)
-
-pub index_open : IsOpen always (λ text. SpellsIndex text)
-index_open = filled index_fills
-
-pub reference_open : IsOpen calm (λ text. SpellsReference text tight)
-reference_open = filled reference_fills
-
-pub loose_reference_open : IsOpen settled (λ text. SpellsReference text loose)
-loose_reference_open = filled_lines loose_reference_fills
-
-pub operand_open : IsOpen calm (λ text. SpellsOperand text tight)
-operand_open = filled operand_fills
-
-pub loose_operand_open : IsOpen settled (λ text. SpellsOperand text loose)
-loose_operand_open = filled_lines loose_operand_fills
-
-pub target_open : IsOpen calm (λ text. SpellsTarget text)
-target_open = filled target_fills
-
-pub operator_open : IsOpen calm (λ text. SpellsOperator text)
-operator_open = filled operator_fills
-
-pub argument_open : IsOpen settled (λ text. SpellsArgument text)
-argument_open = filled_lines argument_fills
-
-pub arguments_open : IsOpen always (λ text. SpellsArguments text)
-arguments_open = filled arguments_fill
-
-pub operands_open : IsOpen always (λ text. SpellsOperands text)
-operands_open = filled operands_fill
-
-pub first_open : IsOpen always (λ text. SpellsFirst text)
-first_open = filled first_fills
-
-pub instruction_open : IsOpen always (λ text. SpellsInstruction text)
-instruction_open = filled instruction_fills
-
-pub label_open : IsOpen always (λ text. SpellsLabel text)
-label_open = filled label_fills
-
-pub label_line_open : IsOpen always (λ text. SpellsLabelLine text)
-label_line_open = filled label_line_fills
-
-pub step_open : IsOpen always (λ text. SpellsStep text)
-step_open = filled step_fills
-
-pub ends_open : (k : Keyword) → IsOpen always (λ text (x : List Named × Place). Repeats (SpellsLabelLine text) x.0 (At x.1 (TheWord text k)))
-ends_open k = filled (λ x. ends_fill k x.1 x.0)
-
-pub body_open : (k : Keyword) → IsOpen always (λ text. SpellsBody text k)
-body_open k = filled (body_fills k)
-
-pub unit_externals_open : (kind : UnitKind) → IsOpen (lacks word.VarExternal) (λ text. SpellsExternals text kind)
-unit_externals_open kind = opened (unit_externals_opens kind)
-
-pub result_open : IsOpen quiet (λ text (x : Place × Scalar). SpellsResult text (unit.Function x.1 x.0))
-result_open = opened (λ x. result_opens (unit.Function x.1 x.0))
-
-pub unit_open : IsOpen always (λ text. SpellsUnit text)
-unit_open = filled unit_fills
-
-pub size_open : (n : List ℕ) → IsOpen always (λ text. SpellsSize text n)
-size_open n = filled (size_fills n)
-
-pub globals_open : IsOpen (lacks word.VarGlobal) (λ text (x : Option Place × List Declaration). SpellsGlobals text x.0 x.1)
-globals_open = opened (λ x. globals_open_at x.0 x.1)
-
-pub task_open : IsOpen always (λ text. SpellsTask text)
-task_open = filled task_fills
-
-pub program_line_open : IsOpen always (λ text. SpellsProgramLine text)
-program_line_open = filled program_line_fills
-
-pub placed_word_open : (k : Keyword) → IsOpen always (λ text place. At place (TheWord text k))
-placed_word_open k = filled (λ place. fill_placed place (word_fills k))
-
-pub sizes_open : IsOpen always (λ text. SpellsSizes text)
-sizes_open = filled sizes_fill
-
-pub resource_open : IsOpen always (λ text. SpellsResource text)
-resource_open = filled resource_fills

@@ -13,14 +13,12 @@ use Rattle.il_spec.specs.declared.token.Kind.{Kind}
 use Rattle.il_spec.specs.declared.token.Kind.TheVariants as kind
 use Rattle.il_spec.specs.declared.token.Sign.{Sign}
 use Rattle.il_spec.specs.declared.token.Sign.TheVariants.{Assign, Arrow, Range, Colon, Semicolon, Comma, OpenParenthesis, CloseParenthesis, OpenBracket, CloseBracket, Dot, Ampersand}
-use Rattle.il_spec.specs.declared.tree.Config.{Config}
-use Rattle.il_spec.specs.Grammar.{AfterLines, SpellsConfig, Spells}
 use Rattle.il_spec.specs.Text.{byte_at, begins_word, is_word_byte, is_literal_byte, hash, minus, space, tab, line_feed, carriage_return, star, open_parenthesis, close_parenthesis, run_end, after_minus, upper_case, number_value, IsTyped, is_identifier, goes_on, IsLexeme, IsComment, IsBlank, AreBlanks, line_at, IsToken, AreTokens}
 use Rattle.il_text.proofs.Places.{passes_in_text, run_from, run_some, minus_from}
 use Rattle.il_text.proofs.Lexemes.{lexeme_within}
 use Rattle.il_text.proofs.Blanks.{blank_within}
 use Rattle.il_grammar_laws.specs.Alike.{IsEndOf}
-use Rattle.il_grammar_laws.specs.GoesOn.{Sample, AreOf, IsCut, Begins, ended}
+use Rattle.il_grammar_laws.specs.GoesOn.{Sample, AreOf, IsCut}
 
 -- A TEXT THAT IS CUT, WITH A SPACE THERE
 
@@ -193,11 +191,6 @@ module _ (front tail behind : List ℕ) where
 pub last_end : ℕ → List Token → ℕ
 last_end at [] = at
 last_end at (t ∷ ts) = last_end t.end ts
-
-pub last_end_is : (at : ℕ) (ts : List Token) (t : Token) → last_end at (ts ++ t ∷ []) ≡ t.end
-unfolding last_end
-last_end_is at [] t = refl
-last_end_is at (u ∷ ts) t = last_end_is u.end ts t
 
 -- that is behind the place from which they are read, and within the text
 ends_rise : (text : List ℕ) (at : ℕ) (ts back : List Token) → AreTokens text at (ts ++ back) → at ≤ last_end at ts
@@ -378,11 +371,3 @@ goes_on_with text ts at samples tokens end =
     let front = before_end at ts end in
     let k = goes_on_behind text front.0 at samples (subst (λ xs. AreTokens text 0 xs) front.1 tokens) in
     (k.0, front.0 ++ k.1, k.1, k.2, subst (λ xs. IsCut text k.0 at xs (front.0 ++ k.1) k.1) (sym front.1) k.3, k.4)
-
--- Tokens that begin a configuration are those of a text that spells one.
-pub spelled_on : (text : List ℕ) (ts at : List Token) → AreTokens text 0 ts → (b : Begins ended (λ text (c : Config). AfterLines (SpellsConfig text c)) text ts at)
-    → (other : List ℕ) × (others : List Token) × (vs : List Token) × AreTokens other 0 others × IsCut text other at ts others vs × ((c : Config) × Spells other c)
-spelled_on text ts at tokens b =
-    let k = goes_on_with text ts at b.samples tokens b.inside in
-    let w = b.goes k.0 k.1 k.2 [] k.4 k.5 refl in
-    (k.0, k.1, k.2, k.3, k.4, (w.0, (k.1, k.3, w.1)))

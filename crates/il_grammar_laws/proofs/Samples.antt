@@ -33,7 +33,6 @@ use Rattle.il_spec.specs.declared.tree.Store.TheVariants.{Plain, Negated, Set, R
 use Rattle.il_spec.specs.declared.tree.Condition.TheVariants.{Always, WhenTrue, WhenFalse}
 use Rattle.il_spec.specs.declared.tree.Argument.{Argument}
 use Rattle.il_spec.specs.declared.tree.Argument.TheVariants as argument
-use Rattle.il_spec.specs.declared.tree.Instruction.{Instruction}
 use Rattle.il_spec.specs.declared.tree.Instruction.TheVariants as instruction
 use Rattle.il_spec.specs.declared.tree.Step.{Step}
 use Rattle.il_spec.specs.declared.tree.Body.{Body}
@@ -46,7 +45,7 @@ use Rattle.il_spec.specs.Text.{entry_of, upper_case, name_of, sign_bytes, is_gro
 use Rattle.std.specs.Char.{is_ascii_digit}
 use Rattle.il_spec.specs.Words.{keyword_of}
 use Rattle.il_spec.specs.Grammar.{Front, Gap, tight, loose, is_line_end, skip_line_ends, ◌⟨◌⟩◌, ◌⨾◌, ◌⋯◌, AfterLines, No, One, At, Repeats, Listed, TheEnd, is_nested, end_word}
-use Rattle.il_spec.specs.Grammar.{TheSign, TheLineEnd, ANumber, ATyped, TheWord, AWord, AName, TheName, SomeName, TheText, ADecimal, ALiteral, SpellsSubrange, SpellsScalar, SpellsForm, SpellsType, SpellsInitial, SpellsDeclaration, SpellsExternal, SpellsList, SpellsFilledList, SpellsOptionalList, SpellsIndex, SpellsReference, SpellsOperand, SpellsTarget, TheLetterN, SpellsOperator, SpellsArgument, SpellsArguments, SpellsOperands, SpellsFirst, SpellsInstruction, SpellsLabel, SpellsStep, SpellsLabelLine, SpellsBody, SpellsNoExternals, SpellsExternals, SpellsResult, SpellsUnit, SpellsSize, SpellsGlobals, SpellsTask, SpellsProgramLine, SpellsConfig}
+use Rattle.il_spec.specs.Grammar.{TheSign, TheLineEnd, ANumber, ATyped, TheWord, AWord, AName, TheName, SomeName, TheText, ADecimal, ALiteral, SpellsSubrange, SpellsScalar, SpellsForm, SpellsType, SpellsInitial, SpellsDeclaration, SpellsExternal, SpellsList, SpellsFilledList, SpellsOptionalList, SpellsIndex, SpellsReference, SpellsOperand, SpellsTarget, TheLetterN, SpellsArgument, SpellsArguments, SpellsOperands, SpellsFirst, SpellsInstruction, SpellsStep, SpellsLabelLine, SpellsBody, SpellsNoExternals, SpellsExternals, SpellsResult, SpellsUnit, SpellsSize, SpellsGlobals, SpellsTask, SpellsProgramLine}
 use Rattle.il_grammar_laws.specs.GoesOn.{Sample, IsOf, AreOf, Test, always, stops, lacks, quiet, calm, settled, IsSampled, ended}
 
 -- the bytes of a reserved word
@@ -414,11 +413,6 @@ begins_quiet s ss solid still no_letter other us rest a =
           cc;
     }
 
--- behind an operand of an argument
-pub begins_settled : (s : Sample) (ss : List Sample) → is_line_end s.kind ≡ false → is_calm s.kind ≡ true → bytes_eq (upper_case s.bytes) (codes "N") ≡ false
-    → (other : List ℕ) (us rest : List Token) → AreOf other (s ∷ ss) us rest → settled other us
-begins_settled s ss solid still no_letter other us rest a = (begins_calm s ss still no_letter other us rest a, begins_solid s ss solid other us rest a)
-
 -- where another word stands, this one doesn't
 pub begins_lacking : (s : Sample) (ss : List Sample) (k : Keyword) → is_line_end s.kind ≡ false → ((s.kind ≡ kind.Word) → (keyword_of (upper_case s.bytes) ≡ Some k) → ⊥)
     → (other : List ℕ) (us rest : List Token) → AreOf other (s ∷ ss) us rest → lacks k other us
@@ -475,10 +469,6 @@ next_lines {more = more} {s = s} solid one two = in_turn loose (λ other us rest
 -- a value made of another
 pub reading : {A B : Type 0} {P : List ℕ → B → Front} {test : Test} {ss : List Sample} (f : A → B) → IsSampled test (λ text (x : A). P text (f x)) ss → IsSampled test P ss
 reading f one = record { stands = λ other vs rest a k. let p = one.stands other vs rest a k in (f p.0, p.1) }
-
--- where more is asked
-pub sampled_under : {A : Type 0} {P : List ℕ → A → Front} {weak strong : Test} {ss : List Sample} → ((other : List ℕ) (vs : List Token) → strong other vs → weak other vs) → IsSampled weak P ss → IsSampled strong P ss
-sampled_under more one = record { stands = λ other vs rest a k. one.stands other vs rest a (more other rest k) }
 
 -- behind any number of line ends
 pub after_lines : {A : Type 0} {P : List ℕ → A → Front} {test : Test} {s : Sample} {ss : List Sample} → is_line_end s.kind ≡ false → IsSampled test P (s ∷ ss) → IsSampled test (λ text (x : A). AfterLines (P text x)) (s ∷ ss)
@@ -554,9 +544,6 @@ interval_sampled = token time_sample (λ text t is. (pos 1000, is.0))
 pub literal_sampled : IsSampled always (λ text. ALiteral text) (true_sample ∷ [])
 literal_sampled = reading (λ (u : Unit {0}). literal.Truth true) (word_sampled (word.Truth true))
 
-pub number_literal_sampled : IsSampled always (λ text. ALiteral text) (number_sample ∷ [])
-number_literal_sampled = reading (λ (v : ℤ). literal.Bare v) number_sampled
-
 -- TYPES AND DECLARATIONS
 
 pub subrange_sampled : IsSampled quiet (λ text. SpellsSubrange text) []
@@ -600,18 +587,6 @@ pub declaration_sampled : IsSampled always (λ text. SpellsDeclaration text) dec
 declaration_sampled =
     reading (λ (x : List Named × (WrittenType × Option Initial)). record { names = x.0; declared = x.1.0; initial = x.1.1 }) (next_lines refl names_sampled typed_sampled)
 
-pub external_sampled : IsSampled always (λ text. SpellsExternal text) declaration_samples
-external_sampled = record {
-  stands = λ other vs rest a k.
-      let n = (next_lines refl (next_lines refl the_name_sampled (sign_sampled Colon)) (next_lines_quiet)).stands other vs rest a k in
-      (record { names = n.0.0.0 ∷ []; declared = n.0.1.0; initial = None }, (refl, refl, n.1));
-}
-  where
-    next_lines_quiet : IsSampled always (λ text (x : WrittenType × Unit {0}). SpellsType text x.0 ⋯ TheSign Semicolon) (word_sample (word.Elementary elementary.Bool) ∷ sign_sample Semicolon ∷ [])
-    next_lines_quiet =
-        in_turn loose (λ other us rest a k. begins_quiet (sign_sample Semicolon) [] refl refl refl other us rest a) (λ other us rest a. begins_solid (sign_sample Semicolon) [] refl other us rest a)
-        type_sampled (sign_sampled Semicolon)
-
 -- the rest of a list, behind its word or a declaration
 pub list_end_sampled : IsSampled always (λ text (ds : List Declaration). Repeats (SpellsDeclaration text) ds (TheWord text word.EndVar)) (word_sample word.EndVar ∷ [])
 list_end_sampled = no_more (word_sampled word.EndVar)
@@ -622,13 +597,6 @@ externals_end_sampled = no_more (word_sampled word.EndVar)
 -- a list of one declaration, behind its word
 pub filled_end_sampled : IsSampled always (λ text (x : Declaration × List Declaration). Repeats (SpellsDeclaration text) (x.0 ∷ x.1) (TheWord text word.EndVar)) (declaration_samples ++ word_sample word.EndVar ∷ [])
 filled_end_sampled = next_lines refl declaration_sampled list_end_sampled
-
--- an empty list
-pub list_sampled : (k : Keyword) → IsSampled always (λ text. SpellsList text k (SpellsDeclaration text)) (word_sample k ∷ word_sample word.EndVar ∷ [])
-list_sampled k = reading (λ (x : Unit {0} × List Declaration). x.1) (after_lines refl (next_lines refl (word_sampled k) list_end_sampled))
-
-pub externals_sampled : (k : Keyword) → IsSampled always (λ text. SpellsList text k (SpellsExternal text)) (word_sample k ∷ word_sample word.EndVar ∷ [])
-externals_sampled k = reading (λ (x : Unit {0} × List Declaration). x.1) (after_lines refl (next_lines refl (word_sampled k) externals_end_sampled))
 
 -- a list of one declaration
 pub full_list_sampled : (k : Keyword) → IsSampled always (λ text (x : Declaration × List Declaration). SpellsList text k (SpellsDeclaration text) (x.0 ∷ x.1)) (word_sample k ∷ declaration_samples ++ word_sample word.EndVar ∷ [])
@@ -643,11 +611,6 @@ filled_list_sampled k = reading (λ (u : Unit {0}). []) (lacking_sampled k)
 
 pub optional_list_sampled : (k : Keyword) (P : List ℕ → Declaration → Front) → IsSampled (lacks k) (λ text. SpellsOptionalList text k (P text)) []
 optional_list_sampled k P = record { stands = λ other vs rest a l. let n = (lacking_sampled k).stands other vs rest a l in ([], inr (refl, n.1)) }
-
-pub unit_externals_sampled : (u : UnitKind) → IsSampled (lacks word.VarExternal) (λ text. SpellsExternals text u) []
-unit_externals_sampled (unit.Function result place) = record { stands = λ other vs rest a l. let n = (lacking_sampled word.VarExternal).stands other vs rest a l in ([], (refl, n.1)) }
-unit_externals_sampled unit.FunctionBlock = record { stands = λ other vs rest a l. let n = (lacking_sampled word.VarExternal).stands other vs rest a l in ([], (refl, n.1)) }
-unit_externals_sampled unit.Program = optional_list_sampled word.VarExternal (λ text. SpellsExternal text)
 
 -- OPERANDS AND ARGUMENTS
 
@@ -675,9 +638,6 @@ variable_sampled = record {
       (n.0, (rest, n.1, (whole_sampled.stands other rest rest refl k).1));
 }
 
-pub name_operand_sampled : IsSampled calm (λ text. SpellsOperand text tight) (name_sample ∷ [])
-name_operand_sampled = reading (λ (x : Place × List ℕ). record { place = x.0; reference = reference.Variable x.1 }) (placed variable_sampled)
-
 pub loose_variable_sampled : IsSampled settled (λ text (n : List ℕ). SpellsReference text loose (reference.Variable n)) (name_sample ∷ [])
 loose_variable_sampled = record {
   stands = λ other vs rest a k.
@@ -685,19 +645,11 @@ loose_variable_sampled = record {
       (n.0, (rest, n.1, subst (λ x. (No (TheSign OpenBracket) ⨾ No (TheSign Dot)) x rest) (sym k.1) (whole_sampled.stands other rest rest refl k.0).1));
 }
 
-pub loose_name_operand_sampled : IsSampled settled (λ text. SpellsOperand text loose) (name_sample ∷ [])
-loose_name_operand_sampled = reading (λ (x : Place × List ℕ). record { place = x.0; reference = reference.Variable x.1 }) (placed loose_variable_sampled)
-
 pub target_sampled : IsSampled calm (λ text. SpellsTarget text) (name_sample ∷ [])
 target_sampled = record {
   stands = λ other vs rest a k.
       let n = (placed variable_sampled).stands other vs rest a k in
       (record { place = n.0.0; reference = reference.Variable n.0.1 }, (tt, n.1));
-}
-
-pub operator_sampled : IsSampled always (λ text. SpellsOperator text) (word_sample (word.Operate (operator.Arithmetic Add)) ∷ [])
-operator_sampled = record {
-  stands = λ other vs rest a k. (operator.Arithmetic Add, inl ((word_sampled (word.Operate (operator.Arithmetic Add))).stands other vs rest a k).1);
 }
 
 -- what stands behind an argument's word
@@ -707,16 +659,8 @@ passed_sampled = reading (λ (x : Unit {0} × Operand). x.1) (next_lines refl (s
 pub argument_sampled : IsSampled always (λ text. SpellsArgument text) (name_sample ∷ sign_sample Assign ∷ true_sample ∷ [])
 argument_sampled = reading (λ (x : Named × Operand). argument.Input x.0 x.1) (next_lines refl any_named_sampled passed_sampled)
 
--- arguments, also behind a comma, up to the parenthesis
-pub inside_sampled : IsSampled always (λ text (xs : List Argument). Listed loose (SpellsArgument text) xs (TheSign CloseParenthesis)) (name_sample ∷ sign_sample Assign ∷ true_sample ∷ sign_sample CloseParenthesis ∷ [])
-inside_sampled = reading (λ (x : Argument × Unit {0}). x.0 ∷ []) (next_lines refl argument_sampled (sign_sampled CloseParenthesis))
-
 pub arguments_sampled : IsSampled always (λ text. SpellsArguments text) (line_end_sample ∷ [])
 arguments_sampled = record { stands = λ other vs rest a k. ([], inl (line_end_sampled.stands other vs rest a k).1) }
-
--- operands, also behind a comma, up to the end of the line
-pub listed_operands_sampled : IsSampled always (λ text (xs : List Operand). Listed tight (SpellsOperand text tight) xs TheLineEnd) (true_sample ∷ line_end_sample ∷ [])
-listed_operands_sampled = reading (λ (x : Operand × Unit {0}). x.0 ∷ []) (next (operand_sampled tight) line_end_sampled)
 
 pub operands_sampled : IsSampled always (λ text. SpellsOperands text) (line_end_sample ∷ [])
 operands_sampled = reading (λ (u : Unit {0}). []) line_end_sampled
@@ -739,9 +683,6 @@ name_line_sampled = reading (λ (x : Named × Unit {0}). x.0) (next the_name_sam
 pub called_sampled : IsSampled always (λ text (x : Named × List Argument). TheName text x.0 ⨾ SpellsArguments text x.1) (name_sample ∷ line_end_sample ∷ [])
 called_sampled = next the_name_sampled arguments_sampled
 
-pub instruction_sampled : IsSampled always (λ text. SpellsInstruction text) (word_sample word.Not ∷ line_end_sample ∷ [])
-instruction_sampled = reading (λ (x : Unit {0} × Unit {0}). instruction.Not) (next (word_sampled word.Not) line_end_sampled)
-
 -- the instruction that evaluates
 pub evaluate_sampled : IsSampled always (λ text (u : Unit {0}). SpellsInstruction text instruction.Evaluate) (sign_sample CloseParenthesis ∷ line_end_sample ∷ [])
 evaluate_sampled = reading (λ (x : Unit {0} × Unit {0}). tt) (next (sign_sampled CloseParenthesis) line_end_sampled)
@@ -749,15 +690,6 @@ evaluate_sampled = reading (λ (x : Unit {0} × Unit {0}). tt) (next (sign_sampl
 -- a load
 pub load_sampled : IsSampled always (λ text (o : Operand). SpellsInstruction text (instruction.Load false o)) (word_sample (word.Load false) ∷ true_sample ∷ line_end_sample ∷ [])
 load_sampled = reading (λ (x : Unit {0} × Operand). x.1) (next (word_sampled (word.Load false)) operand_line_sampled)
-
-pub label_sampled : IsSampled always (λ text. SpellsLabel text) (name_sample ∷ sign_sample Colon ∷ [])
-label_sampled = reading (λ (x : Named × Unit {0}). x.0) (next the_name_sampled (sign_sampled Colon))
-
-pub label_line_sampled : IsSampled always (λ text. SpellsLabelLine text) (name_sample ∷ sign_sample Colon ∷ line_end_sample ∷ [])
-label_line_sampled = reading (λ (x : Named × Unit {0}). x.0) (next label_sampled line_end_sampled)
-
-pub step_sampled : IsSampled always (λ text. SpellsStep text) (word_sample word.Not ∷ line_end_sample ∷ [])
-step_sampled = reading (λ (x : Place × Instruction). record { labels = []; place = x.0; instruction = x.1 }) (placed instruction_sampled)
 
 pub ends_sampled : (k : Keyword) → IsSampled always (λ text (x : List Named × Place). Repeats (SpellsLabelLine text) x.0 (At x.1 (TheWord text k))) (word_sample k ∷ [])
 ends_sampled k = none_more (placed_word_sampled k)
@@ -905,34 +837,6 @@ program_sampled = record {
       );
 }
 
-pub block_sampled : IsSampled always (λ text. SpellsUnit text) (word_sample word.FunctionBlock ∷ name_sample ∷ body_samples word.EndFunctionBlock)
-block_sampled = record {
-  stands = λ other vs rest a k.
-      let n = (next_lines refl (placed_word_sampled word.FunctionBlock) (next the_name_sampled (inputs_rest_sampled unit.FunctionBlock))).stands other vs rest a k in (
-        record { place = n.0.0; kind = unit.FunctionBlock; name = n.0.1.0; inputs = []; outputs = []; variables = []; externals = []; body = n.0.1.1 },
-        (tt, (n.1.0, n.1.1, (n.1.2.0, n.1.2.1, (n.1.2.0, refl, n.1.2.2)))),
-      );
-}
-
-pub function_sampled : IsSampled always (λ text. SpellsUnit text)
-    (word_sample word.Function ∷ name_sample ∷ result_samples ++ word_sample word.VarInput ∷ declaration_samples ++ word_sample word.EndVar ∷ body_samples word.EndFunction)
-function_sampled = record {
-  stands = λ other vs rest a k.
-      let n = (next_lines refl (placed_word_sampled word.Function) (next the_name_sampled function_rest_sampled)).stands other vs rest a k in (
-        record {
-          place = n.0.0;
-          kind = unit.Function n.0.1.1.0.1 n.0.1.1.0.0;
-          name = n.0.1.0;
-          inputs = n.0.1.1.1.0.0 ∷ n.0.1.1.1.0.1;
-          outputs = [];
-          variables = [];
-          externals = [];
-          body = n.0.1.1.1.1;
-        },
-        ((omega arith, refl), n.1),
-      );
-}
-
 -- THE CONFIGURATION
 
 -- a size behind its word
@@ -961,23 +865,9 @@ slots_sampled = reading (λ (x : Size × Unit {0}). x.0) (next_lines refl (size_
 pub floors_sampled : IsSampled always (λ text (x : Size × Size). SpellsSize text (codes "FLOORS") x.0 ⋯ SpellsSize text (codes "SLOTS") x.1 ⋯ TheWord text word.EndVar) floors_samples
 floors_sampled = next_lines refl (size_sampled (codes "FLOORS") floors_lexeme refl) slots_sampled
 
-abbrev pub three_samples : List Sample
-three_samples = word_sample word.VarGlobal ∷ word_sample word.Constant ∷ size_samples cars_sample ++ floors_samples
-
--- the three behind CONSTANT
-pub cars_sampled : IsSampled always (λ text (x : Size × (Size × Size)). SpellsSize text (codes "CARS") x.0 ⋯ SpellsSize text (codes "FLOORS") x.1.0 ⋯ SpellsSize text (codes "SLOTS") x.1.1 ⋯ TheWord text word.EndVar) (size_samples cars_sample ++ floors_samples)
-cars_sampled = next_lines refl (size_sampled (codes "CARS") cars_lexeme refl) floors_sampled
-
-pub three_sampled : IsSampled always (λ text (x : Size × (Size × Size)). TheWord text word.VarGlobal ⋯ TheWord text word.Constant ⋯ SpellsSize text (codes "CARS") x.0 ⋯ SpellsSize text (codes "FLOORS") x.1.0 ⋯ SpellsSize text (codes "SLOTS") x.1.1
-    ⋯ TheWord text word.EndVar) three_samples
-three_sampled = reading (λ (x : Unit {0} × (Unit {0} × (Size × (Size × Size)))). x.1.1) (next_lines refl (word_sampled word.VarGlobal) (next_lines refl (word_sampled word.Constant) cars_sampled))
-
 -- no globals, or an empty list of them
 pub no_globals_sampled : IsSampled (lacks word.VarGlobal) (λ text (u : Unit {0}). SpellsGlobals text None []) []
 no_globals_sampled = record { stands = λ other vs rest a l. let n = (lacking_sampled word.VarGlobal).stands other vs rest a l in (tt, (refl, n.1)) }
-
-pub globals_sampled : IsSampled (lacks word.VarGlobal) (λ text (x : Option Place × List Declaration). SpellsGlobals text x.0 x.1) []
-globals_sampled = reading (λ (u : Unit {0}). (None, [])) no_globals_sampled
 
 -- a task, from each of its parts on
 abbrev pub priority_samples : List Sample
@@ -1002,11 +892,6 @@ pub times_sampled : IsSampled always (λ text (x : ℤ × ℤ). TheSign OpenPare
 times_sampled =
     reading (λ (x : Unit {0} × (Unit {0} × (Unit {0} × (ℤ × ℤ)))). x.1.1.1) (next_lines refl (sign_sampled OpenParenthesis) (next_lines refl (word_sampled word.Interval) (next_lines refl (sign_sampled Assign) schedule_sampled)))
 
-pub task_sampled : IsSampled always (λ text. SpellsTask text) (word_sample word.Task ∷ name_sample ∷ times_samples)
-task_sampled =
-    reading (λ (x : Place × (Named × (ℤ × ℤ))). record { place = x.0; name = x.1.0; interval = x.1.1.0; priority = x.1.1.1 })
-    (next_lines refl (placed_word_sampled word.Task) (next_lines refl the_name_sampled times_sampled))
-
 -- a line of a program, from each of its parts on
 pub program_name_sampled : IsSampled always (λ text (n : Named). TheName text n ⋯ TheSign Semicolon) (name_sample ∷ sign_sample Semicolon ∷ [])
 program_name_sampled = reading (λ (x : Named × Unit {0}). x.0) (next_lines refl the_name_sampled (sign_sampled Semicolon))
@@ -1019,11 +904,6 @@ with_samples = word_sample word.With ∷ name_sample ∷ sign_sample Colon ∷ n
 
 pub with_sampled : IsSampled always (λ text (x : Named × Named). TheWord text word.With ⋯ TheName text x.0 ⋯ TheSign Colon ⋯ TheName text x.1 ⋯ TheSign Semicolon) with_samples
 with_sampled = reading (λ (x : Unit {0} × (Named × Named)). x.1) (next_lines refl (word_sampled word.With) bound_sampled)
-
-pub program_line_sampled : IsSampled always (λ text. SpellsProgramLine text) (word_sample word.Program ∷ name_sample ∷ with_samples)
-program_line_sampled =
-    reading (λ (x : Place × (Named × (Named × Named))). record { place = x.0; name = x.1.0; task = x.1.1.0; program = x.1.1.1 })
-    (next_lines refl (placed_word_sampled word.Program) (next_lines refl the_name_sampled with_sampled))
 
 -- the rest of a resource, behind ON and its name, or a task, or a program
 pub programs_end_sampled : IsSampled always (λ text (x : List ProgramLine × Place). Repeats (SpellsProgramLine text) x.0 (At x.1 (TheWord text word.EndResource))) (word_sample word.EndResource ∷ [])
@@ -1044,9 +924,6 @@ on_sampled = reading (λ (x : Unit {0} × (Unit {0} × (List Task × (List Progr
 pub resource_sampled : IsSampled always (λ text (x : List Task × (List ProgramLine × Place)). TheWord text word.Resource ⋯ SomeName text ⋯ TheWord text word.On ⋯ SomeName text
     ⋯ Repeats (SpellsTask text) x.0 (Repeats (SpellsProgramLine text) x.1.0 (At x.1.1 (TheWord text word.EndResource)))) resource_samples
 resource_sampled = reading (λ (x : Unit {0} × (Unit {0} × (List Task × (List ProgramLine × Place)))). x.1.1) (next_lines refl (word_sampled word.Resource) (next_lines refl some_name_sampled on_sampled))
-
-pub the_end_sampled : IsSampled ended (λ text (u : Unit {0}). TheEnd) []
-the_end_sampled = record { stands = λ other vs rest a k. (tt, (a ∙ k, k)) }
 
 pub end_sampled : IsSampled ended (λ text (u : Unit {0}). TheWord text word.EndConfiguration ⋯ TheEnd) (word_sample word.EndConfiguration ∷ [])
 end_sampled = record {
@@ -1070,27 +947,3 @@ globals_ending_sampled =
     reading (λ (x : Unit {0} × (List Task × (List ProgramLine × Place))). x.1)
     (in_turn loose (λ other us rest a k. begins_lacking (word_sample word.Resource) (name_sample ∷ on_samples ++ word_sample word.EndConfiguration ∷ []) word.VarGlobal refl (λ is e. let same : Some word.Resource ≡ Some word.VarGlobal = sym (word_known word.Resource) ∙ e in cc) other us rest a)
     (λ other us rest a. begins_solid (word_sample word.Resource) (name_sample ∷ on_samples ++ word_sample word.EndConfiguration ∷ []) refl other us rest a) no_globals_sampled ending_sampled)
-
--- a configuration, from the word on, and without units
-abbrev pub config_samples : List Sample
-config_samples = word_sample word.Configuration ∷ name_sample ∷ three_samples ++ ending_samples
-
-pub config_sampled : IsSampled ended (λ text. SpellsConfig text) config_samples
-config_sampled = record {
-  stands = λ other vs rest a k.
-      let n = (next_lines refl (word_sampled word.Configuration) (next_lines refl some_name_sampled (next three_sampled globals_ending_sampled))).stands other vs rest a k in
-      let x = n.0.1.1 in (
-        record {
-          units = [];
-          cars = x.0.0;
-          floors = x.0.1.0;
-          slots = x.0.1.1;
-          globals_place = None;
-          globals = [];
-          tasks = x.1.0;
-          programs = x.1.1.0;
-          end_resource = x.1.1.1;
-        },
-        n.1,
-      );
-}

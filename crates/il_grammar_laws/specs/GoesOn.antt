@@ -2,7 +2,7 @@
 --
 -- `at` is the end of a list of tokens, from the token in question on, and `[]` for the end of the text. Another text is cut there
 -- where its tokens are those before the first of `at`, of the same bytes, and then others.
-use Rattle.std.specs.Prelude.{◌≡◌, ◌⊎◌, ◌<◌, ℕ, List, [], ◌∷◌, ◌++◌, length, slice_range, ⊤}
+use Rattle.std.specs.Prelude.{◌≡◌, ◌⊎◌, ℕ, List, [], ◌∷◌, ◌++◌, length, slice_range, ⊤}
 use Rattle.il_spec.specs.declared.token.Token.{Token}
 use Rattle.il_spec.specs.declared.token.Kind.{Kind}
 use Rattle.il_spec.specs.declared.token.Sign.TheVariants.{OpenParenthesis, OpenBracket, Dot}
@@ -75,12 +75,6 @@ settled other vs = IsCalm other vs × (skip_line_ends vs ≡ vs)
 -- nothing stands there (own rule)
 abbrev pub ended : Test
 ended other vs = vs ≡ []
-
--- A rule that holds of tokens holds of those that are cut behind it, if what stands there now passes a test. Where the token behind line ends, the
--- furthest that a rule looks at, is the same, nothing is tested (own rule).
-pub record IsOpen {A : Type 0} (test : Test) (P : List ℕ → A → Front) : Type 0 where
-  pub keeps : (x : A) (text other : List ℕ) (at ts us vs m : List Token) → P text x ts m → IsEndOf at m → IsCut text other at ts us vs
-      → ((length at < length (skip_line_ends m)) ⊎ test other vs) → (n : List Token) × P other x us n × IsCut text other at m n vs
 
 -- A rule has a first sample: tokens of it are a P wherever what stands behind them passes a test (own rule).
 pub record IsSampled {A : Type 0} (test : Test) (P : List ℕ → A → Front) (samples : List Sample) : Type 0 where

@@ -208,17 +208,11 @@ full_sampled k = map_sampled {P = λ text (x : Declaration × List Declaration).
 
 -- UNITS
 
-pub placed_scalar_is : {text : List ℕ} {ts : List Token} {e : Stop} → BreaksOff quiet (λ text (x : Place × Scalar). At x.0 (SpellsScalar text x.1)) text ts e → BreaksOff quiet PlacedScalar text ts e
-placed_scalar_is bad = bad
-
 pub result_sampled_at : IsSampled quiet SpellsResultAt (sign_sample Colon ∷ word_sample (word.Elementary elementary.Bool) ∷ [])
 result_sampled_at = record { stands = λ other vs rest a t. let x = inner.stands other vs rest a t in (x.0, subst (λ k. (TheSign Colon ⋯ PlacedScalar other x.0) k rest) (sym ((stays_loose {samples = sign_sample Colon ∷ word_sample (word.Elementary elementary.Bool) ∷ []} {test = quiet} refl).same other vs rest a t)) x.1) }
   where
     inner : IsSampled quiet (λ text (x : Place × Scalar). TheSign Colon ⋯ PlacedScalar text x) (sign_sample Colon ∷ word_sample (word.Elementary elementary.Bool) ∷ [])
     inner = s_part (sign_sampled Colon) (placed_sampled scalar_filling scalar_sampled) refl
-
-pub program_unit_of : Place × Named × (List Declaration × List Declaration × Body) → ProgramUnit
-program_unit_of x = record { place = x.0; kind = unit.Program; name = x.1; inputs = []; outputs = []; variables = x.2.0; externals = x.2.1; body = x.2.2 }
 
 pub program_is : (x : Place × Named × (List Declaration × List Declaration × Body)) (other : List ℕ) (us r : List Token) → SpellsWholeProgram other x us r
     → SpellsUnit other (record { place = x.0; kind = unit.Program; name = x.1; inputs = []; outputs = []; variables = x.2.0; externals = x.2.1; body = x.2.2 }) us r

@@ -1,19 +1,17 @@
 // Bodies (IEC 61131-3:2003, 3.2.1 and 3.2.2).
 
+ghost use Rattle.std.specs.Prelude.{◌≡◌, ◌⊎◌, ◌<◌, ◌≤◌, length, IsTrue, IsFalse, IfOk, IfErr, false};
+ghost use Rattle.il_spec.specs.Grammar.{TheLineEnd, depth_after, needs_load, SpellsBody};
 ghost use Rattle.il_spec.specs.declared.keyword.Keyword.{Keyword};
-ghost use Rattle.std.specs.Prelude.{false};
-ghost use Rattle.il_spec.specs.Grammar.{SpellsBody};
 ghost use Rattle.il_grammar_laws.specs.GoesOn.{always};
-ghost use Rattle.il_read.specs.Reads.{BreaksOff};
-ghost use Rattle.il_parse.specs.GoesOn.{SpellsFrom, SpellsPlacedFrom};
-ghost use Rattle.std.specs.Prelude.{◌≡◌, ◌⊎◌, ◌<◌, ◌≤◌, length, IsTrue, IsFalse, IfOk, IfErr};
-ghost use Rattle.il_spec.specs.Grammar.{TheLineEnd, depth_after, needs_load};
 ghost use Rattle.il_read.specs.Lead.{lead_at};
-ghost use Rattle.il_read.specs.Reads.{Reads, RefusesBy, Eats, fault_at};
+ghost use Rattle.il_read.specs.Reads.{Reads, RefusesBy, Eats, fault_at, Refuses, BreaksOff};
 ghost use Rattle.il_read.specs.declared.stop.SyntaxError.TheVariants.{Unexpected, TooMany};
 ghost use Rattle.il_read.specs.declared.stop.Stop.TheVariants.{Memory};
-ghost use Rattle.il_parse.specs.Ahead.{RefusesAheadBy};
+ghost use Rattle.il_parse.specs.Ahead.{RefusesAheadBy, RefusesAhead};
 ghost use Rattle.il_parse.specs.Bodies.{closes_lead, leaves_lead, ends_lead, loads_lead, begins_lead, may_begin, SpellsPlaced, RefusesPlaced, HasLabels, TakesEnd, SpellsNext, SpellsNextBy, Shortens, IsLast, SpellsSteps, SpellsStepsBy, SpellsSmallBody, SpellsBodyBy};
+ghost use Rattle.il_read.specs.declared.lead.Lead.TheVariants as begins;
+ghost use Rattle.il_parse.specs.GoesOn.{SpellsFrom, SpellsPlacedFrom};
 
 use il_read::{Lead, Source, Stop, SyntaxError, Tokens};
 use il_spec::keyword::Keyword;

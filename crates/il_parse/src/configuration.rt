@@ -1,14 +1,13 @@
 // The configuration (IEC 61131-3:2003, 2.7).
 
-ghost use Rattle.il_spec.specs.declared.keyword.Keyword.TheVariants as word;
-ghost use Rattle.il_grammar_laws.specs.GoesOn.{always, ended};
-ghost use Rattle.il_read.specs.Reads.{BreaksOff, NamesFirst};
-ghost use Rattle.il_parse.specs.GoesOn.{stopped, SpellsAll};
 ghost use Rattle.std.specs.Prelude.{◌≡◌, ℕ, List, [], IfOk, IfErr};
 ghost use Rattle.il_spec.specs.Grammar.{TheEnd};
-ghost use Rattle.il_read.specs.Reads.{Reads, Refuses, RefusesBy, Stands, Misses};
+ghost use Rattle.il_read.specs.Reads.{Reads, Refuses, RefusesBy, Stands, Misses, BreaksOff, NamesFirst};
 ghost use Rattle.il_parse.specs.Ahead.{RefusesAhead};
 ghost use Rattle.il_parse.specs.Parts.{SpellsGlobalList, SpellsSomeGlobals, SpellsTasks, SpellsPrograms, SpellsLines, SpellsResourceOf, SpellsEnding, SpellsGroup, SpellsSmallConfig, SpellsConfigBy};
+ghost use Rattle.il_spec.specs.declared.keyword.Keyword.TheVariants as word;
+ghost use Rattle.il_grammar_laws.specs.GoesOn.{always, ended};
+ghost use Rattle.il_parse.specs.GoesOn.{stopped, SpellsAll};
 
 use crate::units::units;
 use crate::variables::comes;

@@ -1,11 +1,10 @@
 // Units of each kind (IEC 61131-3:2003, 2.5).
 
-ghost use Rattle.il_grammar_laws.specs.GoesOn.{always, quiet};
-ghost use Rattle.il_read.specs.Reads.{BreaksOff};
-ghost use Rattle.il_parse.specs.GoesOn.{SpellsWholeProgram, SpellsWholeBlock, SpellsWholeFunction};
 ghost use Rattle.std.specs.Prelude.{IfOk, IfErr};
-ghost use Rattle.il_read.specs.Reads.{Reads, Refuses, RefusesBy};
+ghost use Rattle.il_read.specs.Reads.{Reads, Refuses, RefusesBy, BreaksOff};
 ghost use Rattle.il_parse.specs.Headings.{PlacedScalar, SpellsResultAt, SpellsProgram, SpellsBlock, SpellsFunction, SpellsProgramBy, SpellsBlockBy, SpellsFunctionBy};
+ghost use Rattle.il_grammar_laws.specs.GoesOn.{always, quiet};
+ghost use Rattle.il_parse.specs.GoesOn.{SpellsWholeProgram, SpellsWholeBlock, SpellsWholeFunction};
 
 use crate::insides::{block_inside, function_inside, program_inside};
 use il_read::{Source, Stop, Tokens};

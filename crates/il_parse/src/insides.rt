@@ -1,12 +1,11 @@
 // What stands behind the heading of a unit (IEC 61131-3:2003, 2.5).
 
-ghost use Rattle.il_grammar_laws.specs.GoesOn.{always};
-ghost use Rattle.il_read.specs.Reads.{BreaksOff};
-ghost use Rattle.il_parse.specs.GoesOn.{SpellsProgramRest, SpellsBlockRest, SpellsFunctionRest};
 ghost use Rattle.std.specs.Prelude.{IfOk, IfErr};
-ghost use Rattle.il_read.specs.Reads.{Reads};
-ghost use Rattle.il_parse.specs.Ahead.{RefusesAheadBy};
+ghost use Rattle.il_read.specs.Reads.{Reads, Refuses, BreaksOff};
+ghost use Rattle.il_parse.specs.Ahead.{RefusesAheadBy, RefusesAhead};
 ghost use Rattle.il_parse.specs.Insides.{SpellsProgramInside, SpellsBlockInside, SpellsFunctionInside, SpellsProgramInsideBy, SpellsBlockInsideBy, SpellsFunctionInsideBy};
+ghost use Rattle.il_grammar_laws.specs.GoesOn.{always};
+ghost use Rattle.il_parse.specs.GoesOn.{SpellsProgramRest, SpellsBlockRest, SpellsFunctionRest};
 
 use crate::bodies::body;
 use crate::variables::{externals, filled_list, full_list, no_list, optional_list};

@@ -1,16 +1,15 @@
 //! Parser: the tree that the tokens of a text spell.
 #![tactic(auto)]
 
-ghost use Rattle.il_grammar_laws.specs.GoesOn.{ended};
-ghost use Rattle.il_read.specs.Reads.{BreaksOff};
-ghost use Rattle.il_parse.specs.GoesOn.{SpellsAll};
 ghost use Rattle.std.specs.Prelude.{◌≡◌, ◌<◌, ◌≤◌, length, IfOk, IfErr, []};
 ghost use Rattle.il_spec.specs.Text.{AreTokens, upper_case, line_at};
 ghost use Rattle.il_spec.specs.Grammar.{AfterLines, SpellsConfig, Spells, IsWithinLimits};
 ghost use Rattle.il_spec.specs.declared.tree.Config.{Config};
-ghost use Rattle.il_read.specs.Reads.{Reads, Refuses, RefusesBy};
+ghost use Rattle.il_read.specs.Reads.{Reads, Refuses, RefusesBy, BreaksOff};
 ghost use Rattle.il_parse.specs.Refused.{IsFault, IsOfParser, IsSmall, GoesOnNowhere, NoTextGoesOn, GoesOnBefore};
 ghost use Rattle.il_parse.specs.Parts.{SpellsSmallConfig, SpellsConfigBy};
+ghost use Rattle.il_grammar_laws.specs.GoesOn.{ended};
+ghost use Rattle.il_parse.specs.GoesOn.{SpellsAll};
 
 mod bodies;
 mod configuration;

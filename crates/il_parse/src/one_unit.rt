@@ -1,12 +1,11 @@
 // Units (IEC 61131-3:2003, 2.5).
 
-ghost use Rattle.il_spec.specs.Grammar.{SpellsUnit};
-ghost use Rattle.il_grammar_laws.specs.GoesOn.{always};
-ghost use Rattle.il_read.specs.Reads.{BreaksOff};
 ghost use Rattle.std.specs.Prelude.{IfOk, IfErr};
 ghost use Rattle.il_spec.specs.declared.keyword.Keyword.TheVariants as word;
-ghost use Rattle.il_read.specs.Reads.{Reads, RefusesBy};
+ghost use Rattle.il_read.specs.Reads.{Reads, RefusesBy, Refuses, BreaksOff};
 ghost use Rattle.il_parse.specs.Units.{SpellsSmallUnit, SpellsUnitOf, SpellsUnitBy, SpellsUnitOfBy};
+ghost use Rattle.il_spec.specs.Grammar.{SpellsUnit};
+ghost use Rattle.il_grammar_laws.specs.GoesOn.{always};
 
 use crate::headings::{block, function, program};
 use il_read::{Source, Stop, Tokens};

@@ -1,12 +1,10 @@
 // Lists of variables (IEC 61131-3:2003, 2.4.3).
 
-ghost use Rattle.il_spec.specs.Grammar.{skip_line_ends};
-ghost use Rattle.il_grammar_laws.specs.GoesOn.{always};
-ghost use Rattle.il_read.specs.Reads.{BreaksOff, NamesFirst};
 ghost use Rattle.std.specs.Prelude.{◌≡◌, ◌<◌, ◌≤◌, length, IfOk, IfErr};
-ghost use Rattle.il_spec.specs.Grammar.{AfterLines, No, TheWord, SpellsDeclaration, SpellsExternal, SpellsList, SpellsFilledList, SpellsOptionalList};
+ghost use Rattle.il_spec.specs.Grammar.{AfterLines, No, TheWord, SpellsDeclaration, SpellsExternal, SpellsList, SpellsFilledList, SpellsOptionalList, skip_line_ends};
 ghost use Rattle.il_spec.specs.declared.keyword.Keyword.TheVariants as word;
-ghost use Rattle.il_read.specs.Reads.{Reads, Refuses, Stands, Misses, Comes};
+ghost use Rattle.il_grammar_laws.specs.GoesOn.{always};
+ghost use Rattle.il_read.specs.Reads.{Reads, Refuses, Stands, Misses, Comes, BreaksOff, NamesFirst};
 ghost use Rattle.il_read.specs.declared.stop.Stop.TheVariants.{Memory};
 ghost use Rattle.il_parse.specs.Ahead.{RefusesAhead, MissesAhead};
 ghost use Rattle.il_parse.specs.Lists.{SpellsFull, SpellsExternalsInside};

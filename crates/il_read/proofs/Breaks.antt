@@ -31,10 +31,6 @@ pub up_breaks : {X A : Type 0} {test : Test} {P : List ℕ → A → Front} {tex
 up_breaks {test = test} {P = P} {text = text} {ts = ts} (Err y) same bad = subst (λ (z : Stop). BreaksOff test P text ts z) (sym same) bad
 up_breaks (Ok x) same bad = tt
 
-pub up_first : {X : Type 0} (ts : List Token) {e : Stop} (r : Result X Stop) → IsErrAnd r (λ y. y ≡ e) → NamesFirst ts e → IfErr r (λ y. NamesFirst ts y)
-up_first ts (Err y) same bad = subst (λ (z : Stop). NamesFirst ts z) (sym same) bad
-up_first ts (Ok x) same bad = tt
-
 -- another value
 pub map_breaks : {A B : Type 0} {P : List ℕ → A → Front} {Q : List ℕ → B → Front} {test : Test} {text : List ℕ} {ts : List Token} {e : Stop} (h : A → B)
     → ((x : A) (other : List ℕ) (us r : List Token) → P other x us r → Q other (h x) us r) → BreaksOff test P text ts e → BreaksOff test Q text ts e
