@@ -123,7 +123,8 @@ fn placed(
     ensures reads { IfOk result (λ x. Reads (SpellsPlaced source.now depth load full) tokens.old x
         tokens.new) }
     ensures refused { IfErr result (λ e. RefusesPlaced source.now depth load full tokens.old e) }
-    ensures begins { IfErr result (λ e. (last : Keyword) → BreaksOff always (λ text. SpellsPlacedFrom text last depth load) source.now tokens.old e) }
+    ensures begins { IfErr result (λ e. (last : Keyword) → BreaksOff always (λ text.
+        SpellsPlacedFrom text last depth load) source.now tokens.old e) }
     ensures shorter { IfOk result (λ _. length tokens.new < length tokens.old) }
 {
     let Some(place) = tokens.place() else {
@@ -210,7 +211,8 @@ fn outer(
         tokens.new) }
     ensures refused { IfErr result (λ e. RefusesBy
         (SpellsNextBy last 0 load full) source.now tokens.old e) }
-    ensures begins { IfErr result (λ e. BreaksOff always (λ text. SpellsFrom text last 0 load) source.now tokens.old e) }
+    ensures begins { IfErr result (λ e. BreaksOff always (λ text. SpellsFrom text last 0 load)
+        source.now tokens.old e) }
     ensures shorter { IfOk result (λ x. Shortens tokens.old x tokens.new) }
 {
     let (labels, alone) = labels(source, tokens)?;
@@ -242,7 +244,8 @@ fn next_entry(
         tokens.old x tokens.new) }
     ensures refused { IfErr result (λ e. RefusesBy
         (SpellsNextBy last depth load full) source.now tokens.old e) }
-    ensures begins { IfErr result (λ e. BreaksOff always (λ text. SpellsFrom text last depth load) source.now tokens.old e) }
+    ensures begins { IfErr result (λ e. BreaksOff always (λ text. SpellsFrom text last depth load)
+        source.now tokens.old e) }
     ensures shorter { IfOk result (λ x. Shortens tokens.old x tokens.new) }
 {
     if depth == 0 {
@@ -293,7 +296,8 @@ fn steps(source: &Source, tokens: &mut Tokens, last: Keyword) -> Result<Body, St
     ensures reads { IfOk result (λ b. Reads (SpellsSteps source.now last) tokens.old b tokens.new) }
     ensures refused { IfErr result (λ e. RefusesBy
         (SpellsStepsBy last) source.now tokens.old e) }
-    ensures begins { IfErr result (λ e. BreaksOff always (λ text. SpellsFrom text last 0 false) source.now tokens.old e) }
+    ensures begins { IfErr result (λ e. BreaksOff always (λ text. SpellsFrom text last 0 false)
+        source.now tokens.old e) }
 {
     let mut steps = Items::new(source.alloc());
     let mut depth = 0;
@@ -325,7 +329,8 @@ pub fn body(source: &Source, tokens: &mut Tokens, last: Keyword) -> Result<Body,
         tokens.new) }
     ensures refused { IfErr result (λ e. RefusesAheadBy
         (SpellsBodyBy last) source.now tokens.old e) }
-    ensures begins { IfErr result (λ e. BreaksOff always (λ text. SpellsBody text last) source.now tokens.old e) }
+    ensures begins { IfErr result (λ e. BreaksOff always (λ text. SpellsBody text last) source.now
+        tokens.old e) }
 {
     source.line_end(tokens)?;
     tokens.skip_lines();

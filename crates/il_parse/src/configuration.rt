@@ -56,7 +56,8 @@ fn globals(source: &Source, tokens: &mut Tokens) -> Result<Globals, Stop>
 fn tasks(source: &Source, tokens: &mut Tokens) -> Result<Items<Task>, Stop>
     ensures reads { IfOk result (λ xs. Reads (SpellsTasks source.now) tokens.old xs tokens.new) }
     ensures refused { IfErr result (λ e. Refuses SpellsTasks source.now tokens.old e) }
-    ensures begins { IfErr result (λ e. BreaksOff (stopped word.Task) SpellsTasks source.now tokens.old e) }
+    ensures begins { IfErr result (λ e. BreaksOff (stopped word.Task) SpellsTasks source.now
+        tokens.old e) }
 {
     let mut tasks = Items::new(source.alloc());
     'tasks: while source.word_stands(tokens, Keyword::Task) {
@@ -71,7 +72,8 @@ fn tasks(source: &Source, tokens: &mut Tokens) -> Result<Items<Task>, Stop>
 fn programs(source: &Source, tokens: &mut Tokens) -> Result<Items<ProgramLine>, Stop>
     ensures reads { IfOk result (λ xs. Reads (SpellsPrograms source.now) tokens.old xs tokens.new) }
     ensures refused { IfErr result (λ e. Refuses SpellsPrograms source.now tokens.old e) }
-    ensures begins { IfErr result (λ e. BreaksOff (stopped word.Program) SpellsPrograms source.now tokens.old e) }
+    ensures begins { IfErr result (λ e. BreaksOff (stopped word.Program) SpellsPrograms source.now
+        tokens.old e) }
 {
     let mut programs = Items::new(source.alloc());
     'programs: while source.word_stands(tokens, Keyword::Program) {

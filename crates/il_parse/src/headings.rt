@@ -97,7 +97,8 @@ pub fn function(
 >
     ensures reads { IfOk result (λ x. Reads (SpellsFunction source.now) tokens.old x tokens.new) }
     ensures refused { IfErr result (λ e. RefusesBy SpellsFunctionBy source.now tokens.old e) }
-    ensures begins { IfErr result (λ e. BreaksOff always SpellsWholeFunction source.now tokens.old e) }
+    ensures begins { IfErr result (λ e. BreaksOff always SpellsWholeFunction source.now tokens.old
+        e) }
 {
     let place = source.placed_word(tokens, Keyword::Function)?;
     tokens.skip_lines();

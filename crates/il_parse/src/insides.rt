@@ -21,7 +21,8 @@ pub fn program_inside(
 ) -> Result<(Items<Declaration>, Items<Declaration>, Body), Stop>
     ensures reads { IfOk result (λ x. Reads (SpellsProgramInside source.now) tokens.old x
         tokens.new) }
-    ensures refused { IfErr result (λ e. RefusesAheadBy SpellsProgramInsideBy source.now tokens.old e) }
+    ensures refused { IfErr result (λ e. RefusesAheadBy SpellsProgramInsideBy source.now tokens.old
+        e) }
     ensures begins { IfErr result (λ e. BreaksOff always SpellsProgramRest source.now tokens.old e) }
 {
     no_list(source, tokens, Keyword::VarInput)?;

@@ -47,7 +47,8 @@ fn list(source: &Source, tokens: &mut Tokens, keyword: Keyword) -> Result<Items<
         (SpellsList source.now keyword (SpellsDeclaration source.now)) tokens.old ds tokens.new) }
     ensures refused { IfErr result (λ e. RefusesAhead
         (λ text. SpellsList text keyword (SpellsDeclaration text)) source.now tokens.old e) }
-    ensures begins { IfErr result (λ e. BreaksOff always (λ text. SpellsList text keyword (SpellsDeclaration text)) source.now tokens.old e) }
+    ensures begins { IfErr result (λ e. BreaksOff always (λ text. SpellsList text keyword
+        (SpellsDeclaration text)) source.now tokens.old e) }
 {
     tokens.skip_lines();
     source.word(tokens, keyword)?;
@@ -65,7 +66,8 @@ pub fn full_list(
         tokens.new) }
     ensures refused { IfErr result (λ e. RefusesAhead
         (λ text. SpellsFull text keyword) source.now tokens.old e) }
-    ensures begins { IfErr result (λ e. BreaksOff always (λ text. SpellsFull text keyword) source.now tokens.old e) }
+    ensures begins { IfErr result (λ e. BreaksOff always (λ text. SpellsFull text keyword)
+        source.now tokens.old e) }
 {
     tokens.skip_lines();
     source.word(tokens, keyword)?;
@@ -86,7 +88,8 @@ pub fn filled_list(
         tokens.new) }
     ensures refused { IfErr result (λ e. RefusesAhead
         (λ text. SpellsFilledList text keyword) source.now tokens.old e) }
-    ensures begins { IfErr result (λ e. BreaksOff always (λ text. SpellsFilledList text keyword) source.now tokens.old e) }
+    ensures begins { IfErr result (λ e. BreaksOff always (λ text. SpellsFilledList text keyword)
+        source.now tokens.old e) }
 {
     if !comes(source, tokens, keyword) {
         return Ok(Items::new(source.alloc()));
@@ -106,7 +109,8 @@ pub fn optional_list(
     ensures refused { IfErr result (λ e. RefusesAhead
         (λ text. SpellsOptionalList text keyword (SpellsDeclaration text))
         source.now tokens.old e) }
-    ensures begins { IfErr result (λ e. BreaksOff always (λ text. SpellsOptionalList text keyword (SpellsDeclaration text)) source.now tokens.old e) }
+    ensures begins { IfErr result (λ e. BreaksOff always (λ text. SpellsOptionalList text keyword
+        (SpellsDeclaration text)) source.now tokens.old e) }
 {
     if !comes(source, tokens, keyword) {
         return Ok(Items::new(source.alloc()));
@@ -142,7 +146,8 @@ fn externals_inside(source: &Source, tokens: &mut Tokens) -> Result<Items<Declar
     ensures reads { IfOk result (λ ds. Reads (SpellsExternalsInside source.now) tokens.old ds
         tokens.new) }
     ensures refused { IfErr result (λ e. Refuses SpellsExternalsInside source.now tokens.old e) }
-    ensures begins { IfErr result (λ e. BreaksOff always SpellsExternalsInside source.now tokens.old e) }
+    ensures begins { IfErr result (λ e. BreaksOff always SpellsExternalsInside source.now tokens.old
+        e) }
 {
     let mut externals = Items::new(source.alloc());
     'externals: while !source.eat_word(tokens, Keyword::EndVar) {
@@ -160,7 +165,8 @@ fn external_list(source: &Source, tokens: &mut Tokens) -> Result<Items<Declarati
         tokens.new) }
     ensures refused { IfErr result (λ e. RefusesAhead
         (λ text. SpellsList text word.VarExternal (SpellsExternal text)) source.now tokens.old e) }
-    ensures begins { IfErr result (λ e. BreaksOff always (λ text. SpellsList text word.VarExternal (SpellsExternal text)) source.now tokens.old e) }
+    ensures begins { IfErr result (λ e. BreaksOff always (λ text. SpellsList text word.VarExternal
+        (SpellsExternal text)) source.now tokens.old e) }
 {
     tokens.skip_lines();
     source.word(tokens, Keyword::VarExternal)?;
@@ -176,7 +182,8 @@ pub fn externals(source: &Source, tokens: &mut Tokens) -> Result<Items<Declarati
     ensures refused { IfErr result (λ e. RefusesAhead
         (λ text. SpellsOptionalList text word.VarExternal (SpellsExternal text))
         source.now tokens.old e) }
-    ensures begins { IfErr result (λ e. BreaksOff always (λ text. SpellsOptionalList text word.VarExternal (SpellsExternal text)) source.now tokens.old e) }
+    ensures begins { IfErr result (λ e. BreaksOff always (λ text. SpellsOptionalList text
+        word.VarExternal (SpellsExternal text)) source.now tokens.old e) }
 {
     if !comes(source, tokens, Keyword::VarExternal) {
         return Ok(Items::new(source.alloc()));

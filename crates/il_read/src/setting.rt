@@ -176,7 +176,8 @@ impl<'t> Source<'t> {
             tokens.new) }
         ensures refused { IfErr result (λ e. Refuses
             (λ text. SpellsSize text word.now) self.now tokens.old e) }
-        ensures begins { IsSizeWord word.now → IfErr result (λ e. BreaksOff always (λ text. SpellsSize text word.now) self.now tokens.old e) }
+        ensures begins { IsSizeWord word.now → IfErr result (λ e. BreaksOff always (λ text.
+            SpellsSize text word.now) self.now tokens.old e) }
         ensures shorter { IfOk result (λ _. length tokens.new < length tokens.old) }
     {
         self.plain_word(tokens, word)?;
@@ -279,7 +280,8 @@ impl<'t> Source<'t> {
         ensures reads { IfOk result (λ n. Reads (SpellsProgramName self.now) tokens.old n
             tokens.new) }
         ensures refused { IfErr result (λ e. Refuses SpellsProgramName self.now tokens.old e) }
-        ensures begins { IfErr result (λ e. BreaksOff always SpellsProgramName self.now tokens.old e) }
+        ensures begins { IfErr result (λ e. BreaksOff always SpellsProgramName self.now tokens.old
+            e) }
         ensures shorter { IfOk result (λ _. length tokens.new < length tokens.old) }
     {
         let program = self.named(tokens)?;
@@ -319,7 +321,8 @@ impl<'t> Source<'t> {
         ensures reads { IfOk result (λ p. Reads (SpellsProgramLine self.now) tokens.old p
             tokens.new) }
         ensures refused { IfErr result (λ e. Refuses SpellsProgramLine self.now tokens.old e) }
-        ensures begins { IfErr result (λ e. BreaksOff always SpellsProgramLine self.now tokens.old e) }
+        ensures begins { IfErr result (λ e. BreaksOff always SpellsProgramLine self.now tokens.old
+            e) }
         ensures shorter { IfOk result (λ _. length tokens.new < length tokens.old) }
     {
         let place = self.placed_word(tokens, Keyword::Program)?;
