@@ -93,8 +93,7 @@ fn detector(numbers: &[i64], flags: &[bool], at: usize) -> EdgeDetector
 #[inline(always)]
 fn put_detector(numbers: &mut [i64], flags: &mut [bool], at: usize, block: EdgeDetector)
     requires { IsSome (put_detector block (rows numbers.old flags.old) at) }
-    ensures { put_detector block (rows numbers.old flags.old) at ≡ Some (rows numbers.new flags.new)
-        }
+    ensures { put_detector block (rows numbers.old flags.old) at ≡ Some (rows numbers.new flags.new) }
 {
     put_flag(numbers, flags, at, 1, block.q);
     put_flag(numbers, flags, at, 2, block.m);
@@ -134,8 +133,7 @@ fn down_counter(numbers: &[i64], flags: &[bool], at: usize) -> DownCounter
 #[inline(always)]
 fn put_counter(numbers: &mut [i64], flags: &mut [bool], at: usize, q: bool, cv: i16, m: bool)
     requires { IsSome (put_counter q cv m (rows numbers.old flags.old) at) }
-    ensures { put_counter q cv m (rows numbers.old flags.old) at ≡ Some (rows numbers.new flags.new)
-        }
+    ensures { put_counter q cv m (rows numbers.old flags.old) at ≡ Some (rows numbers.new flags.new) }
 {
     put_flag(numbers, flags, at, 3, q);
     put_number(numbers, flags, at, 4, i64::from(cv));
@@ -164,8 +162,7 @@ fn up_down_counter(numbers: &[i64], flags: &[bool], at: usize) -> UpDownCounter
 #[inline(always)]
 fn put_up_down_counter(numbers: &mut [i64], flags: &mut [bool], at: usize, block: UpDownCounter)
     requires { IsSome (put_up_down_counter block (rows numbers.old flags.old) at) }
-    ensures { put_up_down_counter block (rows numbers.old flags.old) at ≡ Some (rows numbers.new
-        flags.new) }
+    ensures { put_up_down_counter block (rows numbers.old flags.old) at ≡ Some (rows numbers.new flags.new) }
 {
     put_flag(numbers, flags, at, 5, block.qu);
     put_flag(numbers, flags, at, 6, block.qd);
@@ -192,8 +189,7 @@ fn delay_timer(numbers: &[i64], flags: &[bool], at: usize) -> DelayTimer
 #[inline(always)]
 fn put_delay_timer(numbers: &mut [i64], flags: &mut [bool], at: usize, block: DelayTimer)
     requires { IsSome (put_delay_timer block (rows numbers.old flags.old) at) }
-    ensures { put_delay_timer block (rows numbers.old flags.old) at ≡ Some (rows numbers.new
-        flags.new) }
+    ensures { put_delay_timer block (rows numbers.old flags.old) at ≡ Some (rows numbers.new flags.new) }
 {
     put_flag(numbers, flags, at, 2, block.q);
     put_number(numbers, flags, at, 3, i64::from(block.et));
@@ -220,8 +216,7 @@ fn pulse_timer(numbers: &[i64], flags: &[bool], at: usize) -> PulseTimer
 #[inline(always)]
 fn put_pulse_timer(numbers: &mut [i64], flags: &mut [bool], at: usize, block: PulseTimer)
     requires { IsSome (put_pulse_timer block (rows numbers.old flags.old) at) }
-    ensures { put_pulse_timer block (rows numbers.old flags.old) at ≡ Some (rows numbers.new
-        flags.new) }
+    ensures { put_pulse_timer block (rows numbers.old flags.old) at ≡ Some (rows numbers.new flags.new) }
 {
     put_flag(numbers, flags, at, 2, block.q);
     put_number(numbers, flags, at, 3, i64::from(block.et));
@@ -256,8 +251,7 @@ fn call_rs(numbers: &mut [i64], flags: &mut [bool], at: usize)
 #[inline(always)]
 fn call_r_trig(numbers: &mut [i64], flags: &mut [bool], at: usize)
     requires { IsSome (block_at RTrig None (rows numbers.old flags.old) at) }
-    ensures { block_at RTrig None (rows numbers.old flags.old) at ≡ Some (rows numbers.new
-        flags.new) }
+    ensures { block_at RTrig None (rows numbers.old flags.old) at ≡ Some (rows numbers.new flags.new) }
 {
     let mut block = detector(numbers, flags, at);
     block.r_trig();
@@ -268,8 +262,7 @@ fn call_r_trig(numbers: &mut [i64], flags: &mut [bool], at: usize)
 #[inline(always)]
 fn call_f_trig(numbers: &mut [i64], flags: &mut [bool], at: usize)
     requires { IsSome (block_at FTrig None (rows numbers.old flags.old) at) }
-    ensures { block_at FTrig None (rows numbers.old flags.old) at ≡ Some (rows numbers.new
-        flags.new) }
+    ensures { block_at FTrig None (rows numbers.old flags.old) at ≡ Some (rows numbers.new flags.new) }
 {
     let mut block = detector(numbers, flags, at);
     block.f_trig();
@@ -280,8 +273,7 @@ fn call_f_trig(numbers: &mut [i64], flags: &mut [bool], at: usize)
 #[inline(always)]
 fn call_ctu(numbers: &mut [i64], flags: &mut [bool], at: usize)
     requires { IsSome (block_at Ctu None (rows numbers.old flags.old) at) }
-    ensures { block_at Ctu None (rows numbers.old flags.old) at ≡ Some (rows numbers.new flags.new)
-        }
+    ensures { block_at Ctu None (rows numbers.old flags.old) at ≡ Some (rows numbers.new flags.new) }
 {
     let mut block = up_counter(numbers, flags, at);
     block.ctu();
@@ -292,8 +284,7 @@ fn call_ctu(numbers: &mut [i64], flags: &mut [bool], at: usize)
 #[inline(always)]
 fn call_ctd(numbers: &mut [i64], flags: &mut [bool], at: usize)
     requires { IsSome (block_at Ctd None (rows numbers.old flags.old) at) }
-    ensures { block_at Ctd None (rows numbers.old flags.old) at ≡ Some (rows numbers.new flags.new)
-        }
+    ensures { block_at Ctd None (rows numbers.old flags.old) at ≡ Some (rows numbers.new flags.new) }
 {
     let mut block = down_counter(numbers, flags, at);
     block.ctd();
@@ -304,8 +295,7 @@ fn call_ctd(numbers: &mut [i64], flags: &mut [bool], at: usize)
 #[inline(always)]
 fn call_ctud(numbers: &mut [i64], flags: &mut [bool], at: usize)
     requires { IsSome (block_at Ctud None (rows numbers.old flags.old) at) }
-    ensures { block_at Ctud None (rows numbers.old flags.old) at ≡ Some (rows numbers.new flags.new)
-        }
+    ensures { block_at Ctud None (rows numbers.old flags.old) at ≡ Some (rows numbers.new flags.new) }
 {
     let mut block = up_down_counter(numbers, flags, at);
     block.ctud();
@@ -316,8 +306,7 @@ fn call_ctud(numbers: &mut [i64], flags: &mut [bool], at: usize)
 #[inline(always)]
 fn call_tp(numbers: &mut [i64], flags: &mut [bool], now: u32, at: usize)
     requires { IsSome (block_at Tp (Some (pos now)) (rows numbers.old flags.old) at) }
-    ensures { block_at Tp (Some (pos now)) (rows numbers.old flags.old) at ≡ Some (rows numbers.new
-        flags.new) }
+    ensures { block_at Tp (Some (pos now)) (rows numbers.old flags.old) at ≡ Some (rows numbers.new flags.new) }
 {
     let mut block = pulse_timer(numbers, flags, at);
     block.tp(now);
@@ -328,8 +317,7 @@ fn call_tp(numbers: &mut [i64], flags: &mut [bool], now: u32, at: usize)
 #[inline(always)]
 fn call_ton(numbers: &mut [i64], flags: &mut [bool], now: u32, at: usize)
     requires { IsSome (block_at Ton (Some (pos now)) (rows numbers.old flags.old) at) }
-    ensures { block_at Ton (Some (pos now)) (rows numbers.old flags.old) at ≡ Some (rows numbers.new
-        flags.new) }
+    ensures { block_at Ton (Some (pos now)) (rows numbers.old flags.old) at ≡ Some (rows numbers.new flags.new) }
 {
     let mut block = delay_timer(numbers, flags, at);
     block.ton(now);
@@ -340,8 +328,7 @@ fn call_ton(numbers: &mut [i64], flags: &mut [bool], now: u32, at: usize)
 #[inline(always)]
 fn call_tof(numbers: &mut [i64], flags: &mut [bool], now: u32, at: usize)
     requires { IsSome (block_at Tof (Some (pos now)) (rows numbers.old flags.old) at) }
-    ensures { block_at Tof (Some (pos now)) (rows numbers.old flags.old) at ≡ Some (rows numbers.new
-        flags.new) }
+    ensures { block_at Tof (Some (pos now)) (rows numbers.old flags.old) at ≡ Some (rows numbers.new flags.new) }
 {
     let mut block = delay_timer(numbers, flags, at);
     block.tof(now);
