@@ -208,7 +208,7 @@ roomy_first room bad = as_effect Even (at_first (roomy_sampled room) bad)
 -- what stands behind an operator breaks off at a parenthesis that opens: with it goes on what does not count the parentheses
 pub deep_breaks : {text : List ℕ} {e : Stop} {room : Bool} (op : Operator) (ts m : List Token) → TheSign OpenParenthesis ts m → e ≡ fault_at TooDeep ts → BreaksOffAs (SpellsWorkOf op) room text ts e
 deep_breaks op [] m here same = absurd here
-deep_breaks {text = text} {room = room} op (t ∷ ts) m here same = record { fault = λ is. (TooDeep, t ∷ ts, same, Even, begins_here (work_sampled room op) text (t ∷ ts), (t, ts, refl, (Opening false, behind))) }
+deep_breaks {text = text} {room = room} op (t ∷ ts) m here same = record { fault = λ is. (TooDeep, t ∷ ts, same, Even, begins_here (work_sampled room op) text (t ∷ ts), (t, ts, refl, (refl, Opening false, behind))) }
   where
     behind : Begins always (λ text. SpellsWorkOf op text true (Opening false)) text (t ∷ ts) ts
     behind =
@@ -232,7 +232,7 @@ operator_breaks {text = text} {ts = ts} {m = m} room op here bad = record {
   fault = λ is.
       let b = bad.fault is in
       let g = go room b.1 b.3 b.4 (whole_or b.1 m b.4.inside) in
-      (b.0, b.1, b.2, g.0, g.1, further_as {B = λ error t back. (more : Effect) × Begins always (λ text. SpellsWorkOf op text true more) text m back} b.0 b.1 (λ error t back same k. go true back k.0 k.1 (whole_or back m k.1.inside)) b.5);
+      (b.0, b.1, b.2, g.0, g.1, further_as {B = λ error t back. (error ≡ TooDeep) × (more : Effect) × Begins always (λ text. SpellsWorkOf op text true more) text m back} {C = λ error t back. (error ≡ TooDeep) × (more : Effect) × Begins always (λ text. SpellsRoomyOf text true more) text ts back} b.0 b.1 (λ error t back same k. let g = go true back k.1 k.2 (whole_or back m k.2.inside) in (k.0, g.0, g.1)) b.5);
 }
   where
     seen : (room : Bool) (effect : Effect) (at : List Token) → Begins always (λ text (i : Instruction). SpellsOperator text op ⨾ SpellsWorkOf op text room effect i) text ts at → Begins always (λ text. SpellsRoomyOf text room effect) text ts at
