@@ -1,7 +1,7 @@
 -- Samples: tokens by which each rule of the grammar can be completed.
-use Rattle.std.proofs.Common.{◌≡◌, ℕ, zero, suc, pos, Bool, true, false, List, [], ◌∷◌, ◌++◌, refl, sym, ◌∙◌, ap, subst, inl, inr, arith, Option, Some, None, length}
+use Rattle.std.proofs.Common.{◌≡◌, ◌≤◌, ℕ, zero, suc, pos, Bool, true, false, List, [], ◌∷◌, ◌++◌, refl, sym, ◌∙◌, ap, subst, inl, inr, arith, Option, Some, None, length}
 use Rattle.std.proofs.lemmas.Int.{ints}
-use Rattle.std.specs.Prelude.{ℤ, IsTrue, bytes_eq, codes, if◌then◌else◌}
+use Rattle.std.specs.Prelude.{ℤ, IsTrue, max, bytes_eq, codes, if◌then◌else◌}
 use Rattle.il_spec.specs.declared.token.Token.{Token}
 use Rattle.il_spec.specs.declared.token.Kind.{Kind}
 use Rattle.il_spec.specs.declared.token.Kind.TheVariants as kind
@@ -44,7 +44,7 @@ use Rattle.il_spec.specs.declared.tree.ProgramLine.{ProgramLine}
 use Rattle.il_spec.specs.Text.{entry_of, upper_case, name_of, sign_bytes, is_grouped, is_grouped_after, is_identifier, magnitude, number_value, duration_value, parts_value, run_end, IsLexeme}
 use Rattle.std.specs.Char.{is_ascii_digit}
 use Rattle.il_spec.specs.Words.{keyword_of}
-use Rattle.il_spec.specs.Grammar.{Front, Gap, tight, loose, is_line_end, skip_line_ends, ◌⟨◌⟩◌, ◌⨾◌, ◌⋯◌, AfterLines, No, One, At, Repeats, Listed, TheEnd, is_nested, end_word}
+use Rattle.il_spec.specs.Grammar.{Front, Gap, tight, loose, is_line_end, skip_line_ends, ◌⟨◌⟩◌, ◌⨾◌, ◌⋯◌, AfterLines, No, One, At, Repeats, Listed, TheEnd, is_nested, greatest_depth, end_word}
 use Rattle.il_spec.specs.Grammar.{TheSign, TheLineEnd, ANumber, ATyped, TheWord, AWord, AName, TheName, SomeName, TheText, ADecimal, ALiteral, SpellsSubrange, SpellsScalar, SpellsForm, SpellsType, SpellsInitial, SpellsDeclaration, SpellsExternal, SpellsList, SpellsFilledList, SpellsOptionalList, SpellsIndex, SpellsReference, SpellsOperand, SpellsTarget, TheLetterN, SpellsArgument, SpellsArguments, SpellsOperands, SpellsFirst, SpellsInstruction, SpellsStep, SpellsLabelLine, SpellsBody, SpellsNoExternals, SpellsExternals, SpellsResult, SpellsUnit, SpellsSize, SpellsGlobals, SpellsTask, SpellsProgramLine}
 use Rattle.il_grammar_laws.specs.GoesOn.{Sample, IsOf, AreOf, Test, always, stops, lacks, quiet, calm, settled, IsSampled, ended}
 
@@ -694,10 +694,10 @@ load_sampled = reading (λ (x : Unit {0} × Operand). x.1) (next (word_sampled (
 pub ends_sampled : (k : Keyword) → IsSampled always (λ text (x : List Named × Place). Repeats (SpellsLabelLine text) x.0 (At x.1 (TheWord text k))) (word_sample k ∷ [])
 ends_sampled k = none_more (placed_word_sampled k)
 
--- What stands in a body behind some of its instructions, where `depth` parentheses are open and `load` says that a load has to follow.
+-- What stands in a body behind some of its instructions, where `depth` parentheses are open and `load` says that a load has to follow, and where no more open.
 abbrev pub SpellsRest : Keyword → ℕ → Bool → List ℕ → List Step × (List Named × Place) → Front
 SpellsRest last depth load text x ts rest =
-    IsTrue (is_nested depth load x.0) × Repeats (SpellsStep text) x.0 (Repeats (SpellsLabelLine text) x.1.0 (At x.1.1 (TheWord text last))) ts rest
+    IsTrue (is_nested depth load x.0) × Repeats (SpellsStep text) x.0 (Repeats (SpellsLabelLine text) x.1.0 (At x.1.1 (TheWord text last))) ts rest × (greatest_depth depth x.0 ≤ depth)
 
 -- its samples: a load if one has to follow, a line for each parenthesis, and the word that ends the unit
 abbrev pub closing_samples : Keyword → ℕ → List Sample
@@ -709,23 +709,27 @@ rest_samples last zero load = word_sample last ∷ []
 rest_samples last (suc depth) false = closing_samples last (suc depth)
 rest_samples last (suc depth) true = word_sample (word.Load false) ∷ true_sample ∷ line_end_sample ∷ closing_samples last (suc depth)
 
+-- behind no more open parentheses, no more open
+deeper : (below depth : ℕ) (steps : List Step) → greatest_depth below steps ≤ below → below ≤ depth → max depth (greatest_depth below steps) ≤ depth
+deeper below depth steps less under = omega (arith, less, under)
+
 closing_solid : (last : Keyword) (depth : ℕ) (other : List ℕ) (us rest : List Token) → AreOf other (closing_samples last depth) us rest → skip_line_ends us ≡ us
 closing_solid last zero other us rest a = begins_solid (word_sample last) [] refl other us rest a
 closing_solid last (suc depth) other us rest a = begins_solid (sign_sample CloseParenthesis) (line_end_sample ∷ closing_samples last depth) refl other us rest a
 
 pub closing_sampled : (last : Keyword) (depth : ℕ) → IsSampled always (SpellsRest last depth false) (closing_samples last depth)
-closing_sampled last zero = record { stands = λ other vs rest a k. let e = (ends_sampled last).stands other vs rest a k in (([], e.0), (refl, e.1)) }
+closing_sampled last zero = record { stands = λ other vs rest a k. let e = (ends_sampled last).stands other vs rest a k in (([], e.0), (refl, e.1, omega arith)) }
 closing_sampled last (suc depth) = record {
   stands = λ other vs rest a k.
       let m = of_both other (sign_sample CloseParenthesis ∷ line_end_sample ∷ []) (closing_samples last depth) vs rest a in
       let i = (placed evaluate_sampled).stands other vs m.0 m.1 tt in
       let r = (closing_sampled last depth).stands other m.0 rest m.2 tt in
       let step : Step = record { labels = []; place = i.0.0; instruction = instruction.Evaluate } in
-      ((step ∷ r.0.0, r.0.1), (r.1.0, (m.0, i.1, subst (λ x. Repeats (SpellsStep other) r.0.0 (Repeats (SpellsLabelLine other) r.0.1.0 (At r.0.1.1 (TheWord other last))) x rest) (sym (closing_solid last depth other m.0 rest m.2)) r.1.1)));
+      ((step ∷ r.0.0, r.0.1), (r.1.0, (m.0, i.1, subst (λ x. Repeats (SpellsStep other) r.0.0 (Repeats (SpellsLabelLine other) r.0.1.0 (At r.0.1.1 (TheWord other last))) x rest) (sym (closing_solid last depth other m.0 rest m.2)) r.1.1), deeper depth (suc depth) r.0.0 r.1.2 (omega arith)));
 }
 
 pub rest_sampled : (last : Keyword) (depth : ℕ) (load : Bool) → IsSampled always (SpellsRest last depth load) (rest_samples last depth load)
-rest_sampled last zero load = record { stands = λ other vs rest a k. let e = (ends_sampled last).stands other vs rest a k in (([], e.0), (refl, e.1)) }
+rest_sampled last zero load = record { stands = λ other vs rest a k. let e = (ends_sampled last).stands other vs rest a k in (([], e.0), (refl, e.1, omega arith)) }
 rest_sampled last (suc depth) false = closing_sampled last (suc depth)
 rest_sampled last (suc depth) true = record {
   stands = λ other vs rest a k.
@@ -733,7 +737,7 @@ rest_sampled last (suc depth) true = record {
       let i = (placed load_sampled).stands other vs m.0 m.1 tt in
       let r = (closing_sampled last (suc depth)).stands other m.0 rest m.2 tt in
       let step : Step = record { labels = []; place = i.0.0; instruction = instruction.Load false i.0.1 } in
-      ((step ∷ r.0.0, r.0.1), (r.1.0, (m.0, i.1, subst (λ x. Repeats (SpellsStep other) r.0.0 (Repeats (SpellsLabelLine other) r.0.1.0 (At r.0.1.1 (TheWord other last))) x rest) (sym (closing_solid last (suc depth) other m.0 rest m.2)) r.1.1)));
+      ((step ∷ r.0.0, r.0.1), (r.1.0, (m.0, i.1, subst (λ x. Repeats (SpellsStep other) r.0.0 (Repeats (SpellsLabelLine other) r.0.1.0 (At r.0.1.1 (TheWord other last))) x rest) (sym (closing_solid last (suc depth) other m.0 rest m.2)) r.1.1), deeper (suc depth) (suc depth) r.0.0 r.1.2 (omega arith)));
 }
 
 -- an empty body

@@ -1,6 +1,7 @@
 -- Bodies that break off.
-use Rattle.std.proofs.Common.{◌≡◌, ℕ, zero, suc, pred, ◌<◌, Bool, true, false, ◌&&◌, List, [], ◌∷◌, ◌++◌, length, refl, sym, ◌∙◌, ap, subst, inl, inr, arith, Some, None}
+use Rattle.std.proofs.Common.{◌≡◌, ℕ, zero, suc, pred, ◌<◌, ◌≤◌, Bool, true, false, ◌&&◌, List, [], ◌∷◌, ◌++◌, length, refl, sym, ◌∙◌, ap, subst, inl, inr, arith, Some, None}
 use Rattle.std.specs.Prelude.{◌⊎◌, IsTrue}
+use Rattle.std.specs.List.{slice_get}
 use Rattle.il_spec.specs.declared.token.Token.{Token}
 use Rattle.il_spec.specs.declared.keyword.Keyword.{Keyword}
 use Rattle.il_spec.specs.declared.keyword.Keyword.TheVariants as word
@@ -11,24 +12,29 @@ use Rattle.il_spec.specs.declared.tree.Reference.TheVariants as reference
 use Rattle.il_spec.specs.declared.tree.Instruction.{Instruction}
 use Rattle.il_spec.specs.declared.tree.Instruction.TheVariants as instruction
 use Rattle.il_spec.specs.declared.tree.Step.{Step}
+use Rattle.il_spec.specs.declared.tree.Body.{Body}
 use Rattle.il_spec.specs.Words.{keyword_of}
-use Rattle.il_spec.specs.Grammar.{tight, loose, skip_line_ends, ◌⋯◌, At, TheLineEnd, SpellsInstruction, SpellsLabelled, SpellsStep, SpellsBody, depth_after, needs_load, may_stand, is_nested}
+use Rattle.il_spec.specs.Grammar.{Front, Gap, tight, loose, skip_line_ends, greatest_depth, ◌⋯◌, At, TheLineEnd, SpellsInstruction, SpellsLabelled, SpellsStep, SpellsBody, depth_after, needs_load, may_stand, is_nested}
 use Rattle.il_grammar_laws.specs.Alike.{IsEndOf}
-use Rattle.il_grammar_laws.specs.GoesOn.{Sample, IsCut, always, IsSampled, Begins}
-use Rattle.il_grammar_laws.proofs.Alike.{end_of_end}
+use Rattle.il_grammar_laws.specs.GoesOn.{Sample, Test, IsCut, always, IsSampled, Begins}
+use Rattle.il_grammar_laws.proofs.Alike.{end_length, end_of_end}
+use Rattle.il_grammar_laws.proofs.Bodies.{skip_one}
 use Rattle.il_grammar_laws.proofs.Local.{same_name}
 use Rattle.il_grammar_laws.proofs.Open.{instruction_fills, line_end_fills}
-use Rattle.il_grammar_laws.proofs.Samples.{word_sample, true_sample, line_end_sample, closing_samples, closing_sampled, rest_samples, rest_sampled, load_sampled, word_sampled, line_end_sampled}
-use Rattle.il_grammar_laws.proofs.GoesOn.{whole_or, cut_here, cut_one, samples_apart, is_solid, stays_loose, passes_always, then_sampled, at_sampled, map_sampled, IsFilling, begins_here}
+use Rattle.il_grammar_laws.proofs.Samples.{word_sample, true_sample, line_end_sample, closing_samples, closing_sampled, rest_samples, rest_sampled, load_sampled, word_sampled, line_end_sampled, body_samples}
+use Rattle.il_grammar_laws.proofs.GoesOn.{whole_or, cut_here, cut_one, samples_apart, is_solid, stays_loose, passes_always, then_sampled, at_sampled, map_sampled, IsFilling, begins_here, begins_as, begins_behind, begins_inside, loose_cut, reach_tight}
 use Rattle.il_read.specs.Lead.{lead_at, lead_of}
-use Rattle.il_read.specs.Reads.{Stands, BreaksOff, BreaksOffAs, SpellsRoomyOf, Effect, effect_of, kept}
+use Rattle.il_read.specs.declared.stop.SyntaxError.{SyntaxError}
+use Rattle.il_read.specs.declared.stop.SyntaxError.TheVariants.{Unexpected, TooDeep, TooMany}
+use Rattle.il_read.specs.Reads.{Stands, BreaksOff, BreaksOffAs, HasRoom, SpellsRoomyOf, Effect, effect_of}
 use Rattle.il_read.specs.Reads.Effect.{Even, Opening, Closing}
 use Rattle.il_read.specs.declared.stop.Stop.{Stop}
 use Rattle.il_read.proofs.Chain.{HasRead}
-use Rattle.il_read.proofs.Breaks.{as_breaks, map_breaks, part_loose, s_part_tight}
-use Rattle.il_read.proofs.Completions.{place_at, placed_read}
+use Rattle.il_read.proofs.Breaks.{s_part, s_part_tight}
+use Rattle.il_read.proofs.Completions.{place_at, placed_read, further_as}
 use Rattle.il_parse.specs.Bodies.{may_begin, bare, HasLabels}
-use Rattle.il_parse.specs.GoesOn.{Rest, SpellsRestLines, SpellsFrom, SpellsPlacedFrom}
+use Rattle.il_parse.specs.GoesOn.{Rest, SpellsRestLines, SpellsFrom, SpellsPlacedFrom, Within, BreaksOffBy, StaysShallow, BeginsSurplus, all_steps, BreaksFrom, BreaksPlaced, BreaksSteps, BreaksWith}
+use Rattle.il_parse.specs.Refused.{HasSurplus}
 use Rattle.il_read.proofs.Nesting.{IsOpen}
 use Rattle.il_parse.proofs.Entries.{may_so, TheEnds}
 
@@ -80,9 +86,12 @@ rest_solid last zero load = refl
 rest_solid last (suc depth) false = refl
 rest_solid last (suc depth) true = refl
 
--- the rest of a body, of its own samples
-pub from_sampled : (last : Keyword) (depth : ℕ) (load : Bool) → IsSampled always (λ text. SpellsFrom text last depth load) (rest_samples last depth load)
-from_sampled last depth load = record { stands = λ other vs rest a t. (rest_sampled last depth load).stands other vs rest a t }
+-- the rest of a body, of its own samples: no more parentheses open
+pub from_sampled : (last : Keyword) (depth : ℕ) (load : Bool) → depth ≤ 16 → IsSampled always (Within (λ x. StaysShallow depth x.0) (λ text. SpellsFrom text last depth load)) (rest_samples last depth load)
+from_sampled last depth load few = record { stands = λ other vs rest a t. let x = (rest_sampled last depth load).stands other vs rest a t in (x.0, ((x.1.0, x.1.1), within depth (greatest_depth depth x.0.0) x.1.2 few)) }
+  where
+    within : (depth most : ℕ) → most ≤ depth → depth ≤ 16 → most ≤ 16
+    within depth most less few = omega (arith, less, few)
 
 -- an instruction that may stand in any parentheses
 abbrev first_samples : Bool → List Sample
@@ -110,13 +119,24 @@ nested_first : (depth : ℕ) (load : Bool) (p : Place) (o : Operand) (steps : Li
 nested_first depth true p o steps h = ap (λ b. b && is_nested depth false steps) (may_first depth true p o) ∙ h
 nested_first depth false p o steps h = ap (λ b. b && is_nested depth false steps) (may_first depth false p o) ∙ h
 
-pub placed_from_sampled : (last : Keyword) (depth : ℕ) (load : Bool) → IsSampled always (λ text. SpellsPlacedFrom text last depth load) (first_samples load ++ closing_samples last depth)
-placed_from_sampled last depth load =
-    map_sampled {P = λ text (x : (Place × Operand) × Rest). At x.0.0 (SpellsInstruction text (first_of load x.0.1)) ⋯ SpellsFrom text last depth false x.1} {Q = λ text. SpellsPlacedFrom text last depth load}
-    (λ x. ((x.0.0, first_of load x.0.1), x.1)) (λ x other us r w. (nested_first depth load x.0.0 x.0.1 x.1.0 w.2.0, (w.0, w.1, w.2.1)))
-    (then_sampled {P = λ text (y : Place × Operand). At y.0 (SpellsInstruction text (first_of load y.1))} {Q = λ text. SpellsFrom text last depth false} loose
-    (at_sampled (λ o. (instruction_fills (first_of load o)).takes) (first_sampled load)) (record { stands = λ other vs rest a t. (closing_sampled last depth).stands other vs rest a t }) passes_always
-    (stays_loose (closing_solid last depth)))
+shallow_first : (depth : ℕ) (load : Bool) (p : Place) (o : Operand) (steps : List Step) → StaysShallow depth steps → depth ≤ 16 → StaysShallow depth (bare p (first_of load o) ∷ steps)
+shallow_first depth true p o steps h few = omega (arith, h, few)
+shallow_first depth false p o steps h few = omega (arith, h, few)
+
+pub placed_from_sampled : (last : Keyword) (depth : ℕ) (load : Bool) → depth ≤ 16
+    → IsSampled always (Within (λ x. StaysShallow depth (all_steps x)) (λ text. SpellsPlacedFrom text last depth load)) (first_samples load ++ closing_samples last depth)
+placed_from_sampled last depth load few =
+    map_sampled {P = λ text (x : (Place × Operand) × Rest). At x.0.0 (SpellsInstruction text (first_of load x.0.1)) ⋯ Within (λ y. StaysShallow depth y.0) (λ text. SpellsFrom text last depth false) text x.1}
+    {Q = Within (λ x. StaysShallow depth (all_steps x)) (λ text. SpellsPlacedFrom text last depth load)}
+    (λ x. ((x.0.0, first_of load x.0.1), x.1)) (λ x other us r w. ((nested_first depth load x.0.0 x.0.1 x.1.0 w.2.0.0, (w.0, w.1, w.2.0.1)), shallow_first depth load x.0.0 x.0.1 x.1.0 w.2.1 few))
+    (then_sampled {P = λ text (y : Place × Operand). At y.0 (SpellsInstruction text (first_of load y.1))} {Q = Within (λ y. StaysShallow depth y.0) (λ text. SpellsFrom text last depth false)} loose
+    (at_sampled (λ o. (instruction_fills (first_of load o)).takes) (first_sampled load)) closing passes_always (stays_loose (closing_solid last depth)))
+  where
+    within : (most : ℕ) → most ≤ depth → most ≤ 16
+    within most less = omega (arith, less, few)
+
+    closing : IsSampled always (Within (λ y. StaysShallow depth y.0) (λ text. SpellsFrom text last depth false)) (closing_samples last depth)
+    closing = record { stands = λ other vs rest a t. let x = (closing_sampled last depth).stands other vs rest a t in (x.0, ((x.1.0, x.1.1), within (greatest_depth depth x.0.0) x.1.2)) }
 
 -- tokens that are cut behind the front begin with the same
 lead_cut : (text other : List ℕ) (at ts us vs : List Token) → IsCut text other at ts us vs → length at < length ts → lead_at other us ≡ lead_at text ts
@@ -128,116 +148,248 @@ lead_cut text other at (t ∷ ts) us vs (inr c) l = ap (lead_at other) c.1 ∙ a
 instruction_filling : IsFilling tight always (λ text. SpellsInstruction text)
 instruction_filling = record { one = instruction_fills }
 
--- an instruction that may stand there begins the rest of a body
-pub placed_begins : {text : List ℕ} {ts : List Token} {room : Bool} (depth : ℕ) (load : Bool) (last : Keyword) → may_begin depth load (lead_at text ts) ≡ true
-    → (at : List Token) (effect : Effect) → Begins always (λ text. SpellsRoomyOf text room effect) text ts at → Begins always (λ text. SpellsPlacedFrom text last depth load) text ts at
-placed_begins {text = text} {ts = ts} {room = room} depth load last may at effect b = go (whole_or at ts b.inside)
-  where
-    go : ((at ≡ ts) ⊎ (length at < length ts)) → Begins always (λ text. SpellsPlacedFrom text last depth load) text ts at
-    go (inl edge) = subst (λ k. Begins always (λ text. SpellsPlacedFrom text last depth load) text ts k) (sym edge) (begins_here (placed_from_sampled last depth load) text ts)
-    go (inr less) = record {
-      inside = b.inside;
-      samples = b.samples ++ rest_samples last (depth_of depth effect) (load_of effect);
-      goes = λ other us vs rest c a t.
-          let mid = samples_apart other b.samples (rest_samples last (depth_of depth effect) (load_of effect)) vs rest a in
-          let x = b.goes other us vs mid.0 c mid.1 tt in
-          let y = (rest_sampled last (depth_of depth effect) (load_of effect)).stands other mid.0 rest mid.2 tt in
-          let stays = (stays_loose {test = always} (rest_solid last (depth_of depth effect) (load_of effect))).same other mid.0 rest mid.2 tt in
-          let there = placed_read instruction_filling (record { found = x.1.1.1 }) in
-          let may_here = sym (may_so other depth load (place_at us) x.0 us mid.0 x.1.1.1) ∙ ap (λ l. may_begin depth load l) (lead_cut text other at ts us vs c less) ∙ may in
-          let deep = depth_is depth x.0 ∙ ap (depth_of depth) x.1.0 in
-          let loads = load_is x.0 ∙ ap load_of x.1.0 in
-          let nested = ap (λ b. b && is_nested (depth_after depth x.0) (needs_load x.0) y.0.0) may_here ∙ ap (λ d. is_nested d (needs_load x.0) y.0.0) deep ∙ ap (λ l. is_nested (depth_of depth effect) l y.0.0) loads ∙ y.1.0 in
-          (((place_at us, x.0), y.0), (nested, (mid.0, there.found, subst (λ k. SpellsRestLines other last y.0 k rest) (sym stays) y.1.1)));
-    }
+-- and at the same place
+place_cut : (text other : List ℕ) (at ts us vs : List Token) → IsCut text other at ts us vs → length at < length ts → place_at us ≡ place_at ts
+place_cut text other at [] us vs c l = absurd (omega (arith, l))
+place_cut text other at (t ∷ ts) us vs (inl c) l = let same = ap length c.0 in absurd (omega (arith, l, same))
+place_cut text other at (t ∷ ts) us vs (inr c) l = ap place_at c.1
 
--- an instruction breaks off
-pub instruction_breaks : {text : List ℕ} {ts : List Token} {e : Stop} {room : Bool} (depth : ℕ) (load : Bool) (last : Keyword) → may_begin depth load (lead_at text ts) ≡ true → BreaksOffAs (λ text. SpellsRoomyOf text room) text ts e
-    → BreaksOff always (λ text. SpellsPlacedFrom text last depth load) text ts e
-instruction_breaks depth load last may bad = record {
-  fault = λ is.
-      let b = bad.fault is in
-      (b.0, b.1, b.2, b.3, placed_begins depth load last may b.1 b.4 b.5, placed_begins depth load last may (kept b.0 b.1) b.6 b.7);
+-- An instruction that may stand there begins the rest of a body, once a token of it is read.
+pub placed_inside : {text : List ℕ} {ts : List Token} {room : Bool} (depth : ℕ) (load : Bool) (last : Keyword) (K : List Step → Type 0) → may_begin depth load (lead_at text ts) ≡ true
+    → (at : List Token) (effect : Effect) → ((i : Instruction) (steps : List Step) → HasRoom room i → greatest_depth (depth_after depth i) steps ≤ depth_after depth i → K (bare (place_at ts) i ∷ steps))
+    → Begins always (λ text. SpellsRoomyOf text room effect) text ts at → length at < length ts → Begins always (Within (λ x. K (all_steps x)) (λ text. SpellsPlacedFrom text last depth load)) text ts at
+placed_inside {text = text} {ts = ts} {room = room} depth load last K may at effect keeps b less = record {
+  inside = b.inside;
+  samples = b.samples ++ rest_samples last (depth_of depth effect) (load_of effect);
+  goes = λ other us vs rest c a t.
+      let mid = samples_apart other b.samples (rest_samples last (depth_of depth effect) (load_of effect)) vs rest a in
+      let x = b.goes other us vs mid.0 c mid.1 tt in
+      let y = (rest_sampled last (depth_of depth effect) (load_of effect)).stands other mid.0 rest mid.2 tt in
+      let stays = (stays_loose {test = always} (rest_solid last (depth_of depth effect) (load_of effect))).same other mid.0 rest mid.2 tt in
+      let there = placed_read instruction_filling (record { found = x.1.1.1 }) in
+      let may_here = sym (may_so other depth load (place_at us) x.0 us mid.0 x.1.1.1) ∙ ap (λ l. may_begin depth load l) (lead_cut text other at ts us vs c less) ∙ may in
+      let deep = depth_is depth x.0 ∙ ap (depth_of depth) x.1.0 in
+      let loads = load_is x.0 ∙ ap load_of x.1.0 in
+      let nested = ap (λ b. b && is_nested (depth_after depth x.0) (needs_load x.0) y.0.0) may_here ∙ ap (λ d. is_nested d (needs_load x.0) y.0.0) deep ∙ ap (λ l. is_nested (depth_of depth effect) l y.0.0) loads ∙ y.1.0 in
+      let shallow = subst (λ d. greatest_depth d y.0.0 ≤ d) (sym deep) y.1.2 in (
+        ((place_at us, x.0), y.0),
+        ((nested, (mid.0, there.found, subst (λ k. SpellsRestLines other last y.0 k rest) (sym stays) y.1.1)), subst (λ p. K (bare p x.0 ∷ y.0.0)) (sym (place_cut text other at ts us vs c less)) (keeps x.0 y.0.0 x.1.1.0 shallow)),
+      );
 }
 
--- behind labels
-pub outer_breaks : {text : List ℕ} {start m : List Token} {ns : List Named} {alone : Bool} {e : Stop} (last : Keyword) (load : Bool) → HasLabels text start ns alone m → BreaksOff always (λ text. SpellsPlacedFrom text last 0 load) text m e
-    → BreaksOff always (λ text. SpellsFrom text last 0 load) text start e
-outer_breaks {text = text} {start = start} {m = m} {ns = ns} last load labels bad = as_breaks (λ at b. go at b (whole_or at m b.inside)) bad
+-- in the room that there is no parenthesis opens too deep
+stays_within : (room : Bool) (depth : ℕ) (i : Instruction) → depth ≤ 16 → (IsTrue room → depth < 16) → HasRoom room i → depth_after depth i ≤ 16
+stays_within room depth (instruction.Defer op o) few fits has = let l = fits has in omega (arith, l)
+stays_within room zero instruction.Evaluate few fits has = few
+stays_within room (suc depth) instruction.Evaluate few fits has = omega (arith, few)
+stays_within room depth (instruction.Load n o) few fits has = few
+stays_within room depth (instruction.Store k o) few fits has = few
+stays_within room depth instruction.Not few fits has = few
+stays_within room depth (instruction.Operate op o) few fits has = few
+stays_within room depth (instruction.Jump k n) few fits has = few
+stays_within room depth (instruction.Return k) few fits has = few
+stays_within room depth (instruction.Call k n a) few fits has = few
+stays_within room depth (instruction.Invoke f a) few fits has = few
+
+-- what is shallow behind an instruction is with it
+shallow_with : (depth : ℕ) (p : Place) (i : Instruction) (steps : List Step) → depth ≤ 16 → depth_after depth i ≤ 16 → greatest_depth (depth_after depth i) steps ≤ depth_after depth i → StaysShallow depth (bare p i ∷ steps)
+shallow_with depth p i steps few after most = omega (arith, few, after, most)
+
+-- so does one of which nothing is read yet
+placed_begins : {text : List ℕ} {ts : List Token} {room : Bool} (depth : ℕ) (load : Bool) (last : Keyword) → depth ≤ 16 → (IsTrue room → depth < 16) → may_begin depth load (lead_at text ts) ≡ true
+    → (at : List Token) (effect : Effect) → Begins always (λ text. SpellsRoomyOf text room effect) text ts at → Begins always (Within (λ x. StaysShallow depth (all_steps x)) (λ text. SpellsPlacedFrom text last depth load)) text ts at
+placed_begins {text = text} {ts = ts} {room = room} depth load last few fits may at effect b = go (whole_or at ts b.inside)
   where
+    go : ((at ≡ ts) ⊎ (length at < length ts)) → Begins always (Within (λ x. StaysShallow depth (all_steps x)) (λ text. SpellsPlacedFrom text last depth load)) text ts at
+    go (inl edge) = subst (λ k. Begins always (Within (λ x. StaysShallow depth (all_steps x)) (λ text. SpellsPlacedFrom text last depth load)) text ts k) (sym edge) (begins_here (placed_from_sampled last depth load few) text ts)
+    go (inr less) =
+        placed_inside depth load last (λ steps. StaysShallow depth steps) may at effect (λ i steps has most. shallow_with depth (place_at ts) i steps few (stays_within room depth i few fits has) most) b less
+
+-- what stands behind the first of the tokens of an end is shorter than all
+pub shorter_behind : (at ts back : List Token) (t : Token) → IsEndOf at ts → at ≡ t ∷ back → length back < length ts
+shorter_behind at ts back t end same = let l = end_length at ts end in let k = ap length same in omega (arith, l, k)
+
+-- an instruction breaks off
+pub instruction_breaks : {text : List ℕ} {ts : List Token} {e : Stop} {room : Bool} (depth : ℕ) (load full : Bool) (last : Keyword) → depth ≤ 16 → (IsTrue room → depth < 16) → may_begin depth load (lead_at text ts) ≡ true
+    → BreaksOffAs SpellsRoomyOf room text ts e → BreaksPlaced last depth load full text ts e
+instruction_breaks {text = text} {ts = ts} depth load full last few fits may bad = record {
+  fault = λ is.
+      let b = bad.fault is in (
+        b.0,
+        b.1,
+        b.2,
+        placed_begins depth load last few fits may b.1 b.3 b.4,
+        further_as {B = λ error t back. (error ≡ TooDeep) × (more : Effect) × Begins always (λ text. SpellsRoomyOf text true more) text ts back}
+            {C = λ error t back. (length back < length ts) × Begins always (Within (λ x. BeginsSurplus full error t (all_steps x)) (λ text. SpellsPlacedFrom text last depth load)) text ts back} b.0 b.1
+            (λ error t back same k.
+            let less = shorter_behind b.1 ts back t b.4.inside same in
+            (less, placed_inside depth load last (λ steps. BeginsSurplus full error t steps) may back k.1 (λ i steps has most. subst (λ x. BeginsSurplus full x t (bare (place_at ts) i ∷ steps)) (sym k.0) tt) k.2 less)) b.5,
+      );
+}
+
+-- what holds of all of a P that breaks off, once something of it is read
+module _ {A B : Type 0} {P : List ℕ → A → Front} {Q : List ℕ → B → Front} {K : A → Type 0} {M : B → Type 0} {L : SyntaxError → Token → A → Type 0} {N : SyntaxError → Token → B → Type 0} {look gap : Gap} {test other_test : Test}
+    {text : List ℕ} {ts us : List Token} {e : Stop} where
+  pub by_breaks : ((at : List Token) → Begins test (Within K P) text ts at → Begins other_test (Within M Q) text us at)
+      → ((error : SyntaxError) (t : Token) (back : List Token) → IsEndOf back ts → length back < length (look ts) → Begins test (Within (L error t) P) text ts back
+      → (length back < length (gap us)) × Begins other_test (Within (N error t) Q) text us back)
+      → BreaksOffBy look test K L P text ts e → BreaksOffBy gap other_test M N Q text us e
+  by_breaks f g bad = record {
+    fault = λ is.
+        let b = bad.fault is in (
+          b.0,
+          b.1,
+          b.2,
+          f b.1 b.3,
+          further_as {B = λ error t back. (length back < length (look ts)) × Begins test (Within (L error t) P) text ts back} {C = λ error t back. (length back < length (gap us)) × Begins other_test (Within (N error t) Q) text us back}
+              b.0 b.1 (λ error t back same k. g error t back k.1.inside k.0 k.1) b.4,
+        );
+  }
+
+-- a fault of an unexpected token
+pub plainly : {A : Type 0} {P : List ℕ → A → Front} {K : A → Type 0} {L : SyntaxError → Token → A → Type 0} {look : Gap} {test : Test} {text : List ℕ} {ts : List Token} {e : Stop} → BreaksOff test (Within K P) text ts e
+    → BreaksOffBy look test K L P text ts e
+plainly bad = record { fault = λ is. let b = bad.fault is in (Unexpected, b.0, b.1, b.2, tt) }
+
+-- a body that is full is the same with labels
+labelled_surplus : (full : Bool) (error : SyntaxError) (t : Token) (s : Step) (steps : List Step) → BeginsSurplus full error t (bare s.place s.instruction ∷ steps) → BeginsSurplus full error t (s ∷ steps)
+labelled_surplus full Unexpected t s steps w = w
+labelled_surplus full TooDeep t s steps w = w
+labelled_surplus full TooMany t s steps w = w
+
+-- behind labels
+pub outer_breaks : {text : List ℕ} {start m : List Token} {ns : List Named} {alone : Bool} {e : Stop} (last : Keyword) (load full : Bool) → HasLabels text start ns alone m → BreaksPlaced last 0 load full text m e
+    → BreaksFrom last 0 load full text start e
+outer_breaks {text = text} {start = start} {m = m} {ns = ns} last load full labels bad =
+    by_breaks (λ at b. go at b (whole_or at m b.inside)) (λ error t back end less b. (short back less, inner (λ steps. BeginsSurplus full error t steps) (λ s steps w. labelled_surplus full error t s steps w) back b less)) bad
+  where
+    short : (back : List Token) → length back < length m → length back < length start
+    short back less = let l = end_length m start labels.inside in omega (arith, less, l)
+
     solid : (load : Bool) → is_solid (first_samples load ++ closing_samples last 0) ≡ true
     solid true = refl
     solid false = refl
 
-    labelled : (other : List ℕ) (us n r : List Token) (x : (Place × Instruction) × Rest)
-        → ((p : Place) (i : Instruction) (r : List Token) → At p (SpellsInstruction other i) n r → SpellsLabelled other ns (At p (SpellsInstruction other i)) us r) → SpellsPlacedFrom other last 0 load x n r
-        → (y : Rest) × SpellsFrom other last 0 load y us r
-    labelled other us n r x f w =
+    labelled : (K : List Step → Type 0) → ((s : Step) (steps : List Step) → K (bare s.place s.instruction ∷ steps) → K (s ∷ steps)) → (other : List ℕ) (us n r : List Token) (x : (Place × Instruction) × Rest)
+        → ((p : Place) (i : Instruction) (r : List Token) → At p (SpellsInstruction other i) n r → SpellsLabelled other ns (At p (SpellsInstruction other i)) us r) → Within (λ x. K (all_steps x)) (λ text. SpellsPlacedFrom text last 0 load) other x n r
+        → (y : Rest) × Within (λ y. K y.0) (λ text. SpellsFrom text last 0 load) other y us r
+    labelled K keeps other us n r x f w =
         let step : Step = record { labels = ns; place = x.0.0; instruction = x.0.1 } in
-        ((step ∷ x.1.0, x.1.1), (w.0, (w.1.0, f x.0.0 x.0.1 w.1.0 w.1.1, w.1.2)))
+        ((step ∷ x.1.0, x.1.1), ((w.0.0, (w.0.1.0, f x.0.0 x.0.1 w.0.1.0 w.0.1.1, w.0.1.2)), keeps step x.1.0 w.1))
 
-    go : (at : List Token) → Begins always (λ text. SpellsPlacedFrom text last 0 load) text m at → ((at ≡ m) ⊎ (length at < length m)) → Begins always (λ text. SpellsFrom text last 0 load) text start at
+    inner : (K : List Step → Type 0) → ((s : Step) (steps : List Step) → K (bare s.place s.instruction ∷ steps) → K (s ∷ steps)) → (at : List Token)
+        → Begins always (Within (λ x. K (all_steps x)) (λ text. SpellsPlacedFrom text last 0 load)) text m at → length at < length m → Begins always (Within (λ y. K y.0) (λ text. SpellsFrom text last 0 load)) text start at
+    inner K keeps at b less = record {
+      inside = end_of_end at m start labels.inside b.inside;
+      samples = b.samples;
+      goes = λ other us vs rest c a t.
+          let n = labels.gone other at us vs b.inside c (inl less) in
+          let x = b.goes other n.0 vs rest n.1 a tt in
+          labelled K keeps other us n.0 rest x.0 n.2 x.1;
+    }
+
+    go : (at : List Token) → Begins always (Within (λ x. StaysShallow 0 (all_steps x)) (λ text. SpellsPlacedFrom text last 0 load)) text m at → ((at ≡ m) ⊎ (length at < length m))
+        → Begins always (Within (λ y. StaysShallow 0 y.0) (λ text. SpellsFrom text last 0 load)) text start at
     go at b (inl edge) =
-        let q = placed_from_sampled last 0 load in
+        let q = placed_from_sampled last 0 load (omega arith) in
         record {
           inside = end_of_end at m start labels.inside b.inside;
           samples = first_samples load ++ closing_samples last 0;
           goes = λ other us vs rest c a t.
               let n = labels.gone other at us vs b.inside c (inr ((stays_loose {test = always} (solid load)).same other vs rest a tt)) in
               let x = q.stands other vs rest a tt in
-              labelled other us n.0 rest x.0 n.2 (subst (λ k. SpellsPlacedFrom other last 0 load x.0 k rest) (sym (cut_here text other at m n.0 vs n.1 edge)) x.1);
+              labelled (λ steps. StaysShallow 0 steps) (λ s steps w. w) other us n.0 rest x.0 n.2
+              (subst (λ k. Within (λ x. StaysShallow 0 (all_steps x)) (λ text. SpellsPlacedFrom text last 0 load) other x.0 k rest) (sym (cut_here text other at m n.0 vs n.1 edge)) x.1);
         }
-    go at b (inr less) = record {
-      inside = end_of_end at m start labels.inside b.inside;
-      samples = b.samples;
-      goes = λ other us vs rest c a t.
-          let n = labels.gone other at us vs b.inside c (inl less) in
-          let x = b.goes other n.0 vs rest n.1 a tt in
-          labelled other us n.0 rest x.0 n.2 x.1;
-    }
+    go at b (inr less) = inner (λ steps. StaysShallow 0 steps) (λ s steps w. w) at b less
 
 -- in parentheses stand no labels
-pub inner_breaks : {text : List ℕ} {ts : List Token} {e : Stop} (last : Keyword) (depth : ℕ) (load : Bool) → BreaksOff always (λ text. SpellsPlacedFrom text last depth load) text ts e
-    → BreaksOff always (λ text. SpellsFrom text last depth load) text ts e
-inner_breaks last depth load bad =
-    map_breaks {P = λ text. SpellsPlacedFrom text last depth load} {Q = λ text. SpellsFrom text last depth load} (λ x. (bare x.0.0 x.0.1 ∷ x.1.0, x.1.1)) (λ x other us r w. w) bad
+pub inner_breaks : {text : List ℕ} {ts : List Token} {e : Stop} (last : Keyword) (depth : ℕ) (load full : Bool) → BreaksPlaced last depth load full text ts e → BreaksFrom last depth load full text ts e
+inner_breaks {text = text} {ts = ts} last depth load full bad = by_breaks (λ at b. as_rest (λ steps. StaysShallow depth steps) at b) (λ error t back end less b. (less, as_rest (λ steps. BeginsSurplus full error t steps) back b)) bad
+  where
+    as_rest : (K : List Step → Type 0) (at : List Token) → Begins always (Within (λ x. K (all_steps x)) (λ text. SpellsPlacedFrom text last depth load)) text ts at
+        → Begins always (Within (λ y. K y.0) (λ text. SpellsFrom text last depth load)) text ts at
+    as_rest K at b =
+        begins_as {P = Within (λ x. K (all_steps x)) (λ text. SpellsPlacedFrom text last depth load)} {Q = Within (λ y. K y.0) (λ text. SpellsFrom text last depth load)} (λ x. (bare x.0.0 x.0.1 ∷ x.1.0, x.1.1)) (λ x other us r w. w) b
+
+-- the one behind so many
+pub behind_all : {A : Type 0} (xs : List A) (x : A) (more : List A) (n : ℕ) → length xs ≡ n → slice_get (xs ++ x ∷ more) n ≡ Some x
+behind_all [] x more zero same = refl
+behind_all [] x more (suc n) same = absurd (omega (arith, same))
+behind_all (y ∷ xs) x more zero same = absurd (omega (arith, same))
+behind_all (y ∷ xs) x more (suc n) same = behind_all xs x more n (omega (arith, same))
+
+surplus_behind : (full : Bool) (xs : List Step) → (IsTrue full → length xs ≡ 4096) → (error : SyntaxError) (t : Token) (more : List Step) → BeginsSurplus full error t more → HasSurplus error t (xs ++ more)
+surplus_behind full xs is Unexpected t more w = tt
+surplus_behind full xs is TooDeep t more w = tt
+surplus_behind full xs is TooMany t [] w = absurd w
+surplus_behind full xs is TooMany t (s ∷ more) w = (s, behind_all xs s more 4096 (is w.0), w.1)
 
 -- behind the instructions that a loop has read
-pub steps_breaks : {text : List ℕ} {start ts : List Token} {xs : List Step} {most : ℕ} {e : Stop} (last : Keyword) (depth : ℕ) (load : Bool) → IsOpen xs depth load most
-    → ((b : List Named × Place) → HasRead SpellsStep (λ text. TheEnds text last b) text start xs ts) → BreaksOff always (λ text. SpellsFrom text last depth load) text ts e → BreaksOff always (λ text. SpellsFrom text last 0 false) text start e
-steps_breaks {text = text} {start = start} {ts = ts} {xs = xs} last depth load opens so_far bad = as_breaks (λ at b. go at b (whole_or at ts b.inside)) bad
+pub steps_breaks : {text : List ℕ} {start ts : List Token} {xs : List Step} {most : ℕ} {e : Stop} (last : Keyword) (depth : ℕ) (load full : Bool) → depth ≤ 16 → most ≤ 16 → (IsTrue full → length xs ≡ 4096) → IsOpen xs depth load most
+    → ((b : List Named × Place) → HasRead SpellsStep (λ text. TheEnds text last b) text start xs ts) → BreaksFrom last depth load full text ts e → BreaksSteps last text start e
+steps_breaks {text = text} {start = start} {ts = ts} {xs = xs} {most = most} last depth load full few at_most is_full opens so_far bad =
+    by_breaks (λ at b. go at b (whole_or at ts b.inside))
+    (λ error t back end less b. (short back less, inner (λ more. BeginsSurplus full error t more) (λ steps. HasSurplus error t steps) (λ more w. surplus_behind full xs is_full error t more w) back b less)) bad
   where
     none : List Named × Place
     none = ([], record { offset = 0; line = 0 })
 
-    whole : (other : List ℕ) (at us vs n rest : List Token) → IsEndOf at ts → IsCut text other at start us vs → ((length at < length ts) ⊎ (skip_line_ends vs ≡ vs)) → IsCut text other at ts n vs
-        → (x : Rest) → SpellsFrom other last depth load x n rest → (y : Rest) × SpellsFrom other last 0 false y us rest
-    whole other at us vs n rest e c d k x w =
+    short : (back : List Token) → length back < length ts → length back < length start
+    short back less = let l = end_length ts start (so_far none).inside in omega (arith, less, l)
+
+    shallow : (more : List Step) → StaysShallow depth more → StaysShallow 0 (xs ++ more)
+    shallow more w = let e = opens.deep more in omega (arith, e, w, at_most)
+
+    whole : (K M : List Step → Type 0) → ((more : List Step) → K more → M (xs ++ more)) → (other : List ℕ) (at us vs n rest : List Token) → IsEndOf at ts → IsCut text other at start us vs
+        → ((length at < length ts) ⊎ (skip_line_ends vs ≡ vs)) → IsCut text other at ts n vs
+        → (x : Rest) → Within (λ y. K y.0) (λ text. SpellsFrom text last depth load) other x n rest → (y : Rest) × Within (λ y. M y.0) (λ text. SpellsFrom text last 0 false) other y us rest
+    whole K M keeps other at us vs n rest e c d k x w =
         let g = (so_far x.1).gone.on other at us vs e c d in
         let same = cut_one text other at ts n g.0 vs k g.1 in
-        ((xs ++ x.0, x.1), (opens.nested x.0 ∙ w.0, g.2 x.0 rest (subst (λ j. SpellsRestLines other last x j rest) same w.1)))
+        ((xs ++ x.0, x.1), ((opens.nested x.0 ∙ w.0.0, g.2 x.0 rest (subst (λ j. SpellsRestLines other last x j rest) same w.0.1)), keeps x.0 w.1))
 
-    go : (at : List Token) → Begins always (λ text. SpellsFrom text last depth load) text ts at → ((at ≡ ts) ⊎ (length at < length ts)) → Begins always (λ text. SpellsFrom text last 0 false) text start at
+    inner : (K M : List Step → Type 0) → ((more : List Step) → K more → M (xs ++ more)) → (at : List Token) → Begins always (Within (λ y. K y.0) (λ text. SpellsFrom text last depth load)) text ts at → length at < length ts
+        → Begins always (Within (λ y. M y.0) (λ text. SpellsFrom text last 0 false)) text start at
+    inner K M keeps at b less = record {
+      inside = end_of_end at ts start (so_far none).inside b.inside;
+      samples = b.samples;
+      goes = λ other us vs rest c a t.
+          let g = (so_far none).gone.on other at us vs b.inside c (inl less) in
+          let x = b.goes other g.0 vs rest g.1 a tt in
+          whole K M keeps other at us vs g.0 rest b.inside c (inl less) g.1 x.0 x.1;
+    }
+
+    go : (at : List Token) → Begins always (Within (λ y. StaysShallow depth y.0) (λ text. SpellsFrom text last depth load)) text ts at → ((at ≡ ts) ⊎ (length at < length ts))
+        → Begins always (Within (λ y. StaysShallow 0 y.0) (λ text. SpellsFrom text last 0 false)) text start at
     go at b (inl edge) = record {
       inside = end_of_end at ts start (so_far none).inside b.inside;
       samples = rest_samples last depth load;
       goes = λ other us vs rest c a t.
           let still = (stays_loose {test = always} (rest_solid last depth load)).same other vs rest a tt in
           let g = (so_far none).gone.on other at us vs b.inside c (inr still) in
-          let x = (from_sampled last depth load).stands other vs rest a tt in
-          whole other at us vs g.0 rest b.inside c (inr still) g.1 x.0 (subst (λ k. SpellsFrom other last depth load x.0 k rest) (sym (cut_here text other at ts g.0 vs g.1 edge)) x.1);
+          let x = (from_sampled last depth load few).stands other vs rest a tt in
+          whole (λ more. StaysShallow depth more) (λ steps. StaysShallow 0 steps) shallow other at us vs g.0 rest b.inside c (inr still) g.1 x.0
+          (subst (λ k. Within (λ y. StaysShallow depth y.0) (λ text. SpellsFrom text last depth load) other x.0 k rest) (sym (cut_here text other at ts g.0 vs g.1 edge)) x.1);
     }
-    go at b (inr less) = record {
-      inside = end_of_end at ts start (so_far none).inside b.inside;
-      samples = b.samples;
-      goes = λ other us vs rest c a t.
-          let g = (so_far none).gone.on other at us vs b.inside c (inl less) in
-          let x = b.goes other g.0 vs rest g.1 a tt in
-          whole other at us vs g.0 rest b.inside c (inl less) g.1 x.0 x.1;
-    }
+    go at b (inr less) = inner (λ more. StaysShallow depth more) (λ steps. StaysShallow 0 steps) shallow at b less
+
+-- the same of a body, as its parts
+body_of : (K : List Step → Type 0) (last : Keyword) {text : List ℕ} {ts at : List Token} → Begins always (λ text (x : Rest). TheLineEnd ⋯ Within (λ y. K y.0) (λ text. SpellsFrom text last 0 false) text x) text ts at
+    → Begins always (Within (λ (b : Body). K b.steps) (λ text. SpellsBody text last)) text ts at
+body_of K last b =
+    begins_as {P = λ text (x : Rest). TheLineEnd ⋯ Within (λ y. K y.0) (λ text. SpellsFrom text last 0 false) text x} {Q = Within (λ (b : Body). K b.steps) (λ text. SpellsBody text last)}
+    (λ x. record { steps = x.0; last_labels = x.1.0; end = x.1.1 }) (λ x other us r w. ((w.2.0.0, (w.0, w.1, w.2.0.1)), w.2.1)) b
+
+-- a shallow body, of its own samples
+pub body_within : (last : Keyword) → IsSampled always (Within (λ (b : Body). StaysShallow 0 b.steps) (λ text. SpellsBody text last)) (body_samples last)
+body_within last =
+    map_sampled {P = λ text (x : Rest). TheLineEnd ⋯ Within (λ y. StaysShallow 0 y.0) (λ text. SpellsFrom text last 0 false) text x} {Q = Within (λ (b : Body). StaysShallow 0 b.steps) (λ text. SpellsBody text last)}
+    (λ x. record { steps = x.0; last_labels = x.1.0; end = x.1.1 }) (λ x other us r w. ((w.2.0.0, (w.0, w.1, w.2.0.1)), w.2.1))
+    (s_part line_end_sampled (from_sampled last 0 false (omega arith)) refl)
 
 -- a body
-pub body_breaks : {text : List ℕ} {ts m : List Token} {e : Stop} (last : Keyword) → Stands TheLineEnd ts m → BreaksOff always (λ text. SpellsFrom text last 0 false) text (skip_line_ends m) e → BreaksOff always (λ text. SpellsBody text last) text ts e
-body_breaks last here bad =
-    map_breaks {P = λ text (x : Rest). TheLineEnd ⋯ SpellsFrom text last 0 false x} {Q = λ text. SpellsBody text last} (λ x. record { steps = x.0; last_labels = x.1.0; end = x.1.1 }) (λ x other us r w. (w.2.0, (w.0, w.1, w.2.1)))
-    (part_loose line_end_fills here (from_sampled last 0 false) refl bad)
+pub body_breaks : {text : List ℕ} {ts m : List Token} {e : Stop} (last : Keyword) → Stands TheLineEnd ts m → BreaksSteps last text (skip_line_ends m) e → BreaksWith loose (λ b. b) (λ text. SpellsBody text last) text ts e
+body_breaks {text = text} {ts = ts} {m = m} last here bad =
+    by_breaks (λ at b. body_of (λ steps. StaysShallow 0 steps) last (begins_behind loose_cut (reach_tight loose_cut) line_end_fills here.found (from_sampled last 0 false (omega arith)) passes_always (stays_loose refl) b))
+    (λ error t back end less b. (subst (λ k. length back < length k) (sym (skip_one ts m here.found)) less, body_of (λ steps. HasSurplus error t steps) last (begins_inside loose_cut (reach_tight loose_cut) line_end_fills.opens here.found less b))) bad

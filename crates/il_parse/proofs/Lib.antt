@@ -10,6 +10,7 @@ pub mod OneUnit
 pub mod Turn
 pub mod Begun
 pub mod Rests
+pub mod Shallow
 pub mod Surplus
 pub mod ByError
 pub mod UnitsByError

@@ -207,7 +207,7 @@ module _ (text : List ℕ) where
   are_short E [] ts r w = All-nil IsShort
   are_short E (u ∷ us) ts r w = All-cons IsShort u us w.1.1.0 (are_short E us (skip_line_ends w.0) r w.2)
 
-  are_shallow : (E : Front) (us : List ProgramUnit) (ts r : List Token) → Repeats (SpellsSmallUnit text) us E ts r → All IsShallow us
+  pub are_shallow : (E : Front) (us : List ProgramUnit) (ts r : List Token) → Repeats (SpellsSmallUnit text) us E ts r → All IsShallow us
   are_shallow E [] ts r w = All-nil IsShallow
   are_shallow E (u ∷ us) ts r w = All-cons IsShallow u us w.1.1.1 (are_shallow E us (skip_line_ends w.0) r w.2)
 

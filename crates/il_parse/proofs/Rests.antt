@@ -1,6 +1,6 @@
 -- Lists of variables, units and configurations that break off.
-use Rattle.std.proofs.Common.{drop, ◌≡◌, ℕ, ◌<◌, Bool, true, List, [], ◌∷◌, ◌++◌, length, refl, sym, ◌∙◌, ap, subst, inl, inr, arith, Option, Some, None, codes}
-use Rattle.std.specs.Prelude.{◌⊎◌, if◌then◌else◌}
+use Rattle.std.proofs.Common.{◌≡◌, ℕ, ◌<◌, Bool, true, List, [], ◌∷◌, ◌++◌, length, refl, sym, ◌∙◌, ap, subst, inl, inr, arith, Option, Some, None, codes}
+use Rattle.std.specs.Prelude.{◌⊎◌, ⊤, if◌then◌else◌}
 use Rattle.il_spec.specs.declared.token.Token.{Token}
 use Rattle.il_spec.specs.declared.token.Kind.{Kind}
 use Rattle.il_spec.specs.declared.token.Kind.TheVariants as kind
@@ -14,7 +14,6 @@ use Rattle.il_spec.specs.declared.tree.Scalar.{Scalar}
 use Rattle.il_spec.specs.declared.tree.Declaration.{Declaration}
 use Rattle.il_spec.specs.declared.tree.Body.{Body}
 use Rattle.il_spec.specs.declared.tree.UnitKind.TheVariants as unit
-use Rattle.il_spec.specs.declared.tree.Unit.{Unit as ProgramUnit}
 use Rattle.il_spec.specs.declared.tree.Size.{Size}
 use Rattle.il_spec.specs.declared.tree.Task.{Task}
 use Rattle.il_spec.specs.declared.tree.ProgramLine.{ProgramLine}
@@ -28,10 +27,11 @@ use Rattle.il_grammar_laws.proofs.Local.{word_same}
 use Rattle.il_grammar_laws.proofs.Bodies.{skip_one}
 use Rattle.il_grammar_laws.proofs.Open.{Fills, next, follows, loosely, fill_given, fill_placed, fill_any, repeated, no_after_opens, word_fills, some_name_fills, declaration_fills, external_fills, list_fills, filled_opens, optional_opens, scalar_fills, task_fills, program_line_fills, unit_fills, globals_open_at, result_opens, size_fills, loose_open, tight_open, skip_still}
 use Rattle.il_grammar_laws.proofs.Samples.{word_sample, sign_sample, name_sample, cars_sample, floors_sample, slots_sample, word_known, begins_lacking, begins_solid, declaration_samples, word_sampled, sign_sampled, placed_word_sampled, some_name_sampled, scalar_sampled, filled_end_sampled, full_list_sampled, lacking_sampled, filled_list_sampled, optional_list_sampled, body_samples, body_sampled, body_lacks}
-use Rattle.il_grammar_laws.proofs.GoesOn.{whole_or, cut_here, is_solid, Passes, stays_loose, stays_tight, stays_ended, passes_always, passes_quiet, tight_cut, loose_cut, reach_tight, reach_loose, then_sampled, behind_sampled, map_sampled, IsFilling, IsOpening, HasGone, gone_item, begins_here, begins_first, begins_later_open, begins_behind, begins_ahead, begins_later_lax, IsLax, IsLaxPart, lax_chain}
-use Rattle.il_read.specs.Reads.{Reads, Stands, BreaksOff, NamesFirst, kept, HasToken}
+use Rattle.il_grammar_laws.proofs.GoesOn.{whole_or, cut_here, is_solid, Passes, stays_loose, stays_tight, stays_ended, passes_always, passes_quiet, tight_cut, loose_cut, reach_tight, reach_loose, then_sampled, behind_sampled, map_sampled, IsFilling, IsOpening, begins_here, begins_first, begins_later_open, begins_behind, begins_ahead, begins_later_lax, IsLax, IsLaxPart, lax_chain}
+use Rattle.il_read.specs.Reads.{Reads, Stands, BreaksOff, NamesFirst, Further}
 use Rattle.il_read.specs.Settings.{PlacedWord, SpellsThree}
-use Rattle.il_parse.specs.Refused.{IsBegun, GoesOnWith}
+use Rattle.il_parse.specs.Refused.{IsBegun, GoesOnWith, GoesBeyond}
+use Rattle.il_spec.specs.declared.tree.Config.{Config}
 use Rattle.il_read.specs.declared.stop.Stop.{Stop}
 use Rattle.il_read.specs.declared.stop.SyntaxError.{SyntaxError}
 use Rattle.il_read.specs.declared.stop.SyntaxError.TheVariants.{Unexpected, TooDeep, TooMany}
@@ -44,7 +44,7 @@ use Rattle.il_parse.specs.Headings.{PlacedScalar, SpellsResultAt}
 use Rattle.il_read.specs.declared.stop.SyntaxError.{SyntaxError}
 use Rattle.il_parse.specs.Units.{SpellsSmallUnit, SpellsUnitBy}
 use Rattle.il_parse.specs.Parts.{SpellsSomeGlobals, SpellsTasks, SpellsPrograms, SpellsLines, SpellsResourceOf, SpellsEnding, SpellsGroup}
-use Rattle.il_parse.specs.GoesOn.{SpellsProgramRest, SpellsBlockRest, SpellsFunctionRest, SpellsWholeProgram, SpellsWholeBlock, SpellsWholeFunction, SpellsAllUnits, SpellsAll, stopped}
+use Rattle.il_parse.specs.GoesOn.{SpellsProgramRest, SpellsBlockRest, SpellsFunctionRest, SpellsWholeProgram, SpellsWholeBlock, SpellsWholeFunction, SpellsAllUnits, SpellsAll, stopped, Within}
 
 -- a line end
 line_kind : (k : Kind) → is_line_end k ≡ true → k ≡ kind.LineEnd
@@ -201,7 +201,7 @@ module _ {A B : Type 0} {P : List ℕ → A → Front} {Q : List ℕ → B → F
     first_asked q passes bad = as_breaks (λ at b. begins_first tight q passes stays_tight b) bad
 
 pub ahead_first : {A : Type 0} {P : List ℕ → A → Front} {test : Test} {zs : List Sample} {text : List ℕ} {ts : List Token} {e : Stop} → IsSampled test P zs → IsLax P → NamesFirst (skip_line_ends ts) e → BreaksOff test P text ts e
-ahead_first {text = text} {ts = ts} p lax bad = record { fault = λ is. (Unexpected, skip_line_ends ts, bad is, tt, begins_ahead p lax text ts, begins_ahead p lax text ts) }
+ahead_first {text = text} {ts = ts} p lax bad = record { fault = λ is. (skip_line_ends ts, bad is, begins_ahead p lax text ts) }
 
 pub full_sampled : (k : Keyword) → IsSampled always (λ text. SpellsFull text k) (word_sample k ∷ declaration_samples ++ word_sample word.EndVar ∷ [])
 full_sampled k = map_sampled {P = λ text (x : Declaration × List Declaration). SpellsList text k (SpellsDeclaration text) (x.0 ∷ x.1)} {Q = λ text. SpellsFull text k} (λ x. x.0 ∷ x.1) (λ x other us r w. (tt, w)) (full_list_sampled k)
@@ -248,10 +248,6 @@ function_is x other us r h =
     let third = second.2 in
     let fourth = third.2 in
     ((some_inputs x.3.0 i.1.0, refl), (h.0, h.1, (name.0, name.1, (result.0, result.1, (i.0, filled_is word.VarInput x.3.0 other result.0 i.0 i.1, (second.0, second.1, (third.0, third.1, (fourth.0, (refl, fourth.1), fourth.2))))))))
-
--- a unit breaks off behind others
-pub units_break : {text : List ℕ} {start ts : List Token} {us : List ProgramUnit} {e : Stop} → HasGone SpellsUnit (λ text. TheWord text word.Configuration) text start us ts → BreaksOff always SpellsUnit text ts e → BreaksOff always SpellsAllUnits text start e
-units_break so_far bad = as_breaks (λ at b. gone_item (word_sampled word.Configuration) passes_always (stays_loose refl) so_far b) bad
 
 -- THE CONFIGURATION
 
@@ -460,18 +456,18 @@ unit_by_filling error = record {
 }
 
 -- The tokens before the first of `at` are those of a text that spells a configuration.
-pub text_goes_on : (text : List ℕ) (ts at : List Token) → AreTokens text 0 ts → Begins ended SpellsAll text ts at
-    → IsBegun text ts at
-text_goes_on text ts at tokens b =
+pub text_goes_on : (K : Config → Type 0) (text : List ℕ) (ts at : List Token) → AreTokens text 0 ts → Begins ended (Within K SpellsAll) text ts at → IsBegun K text ts at
+text_goes_on K text ts at tokens b =
     let k = goes_on_with text ts at b.samples tokens b.inside in
     let w = b.goes k.0 k.1 k.2 [] k.4 k.5 refl in
-    (k.0, k.1, k.2, k.3, k.4, w.0, w.1)
+    (k.0, k.1, k.2, k.3, k.4, w.0, w.1.0, w.1.1)
 
 -- Where a limit forbids the token of a fault, those with it are those of a text too.
-pub text_goes_on_with : (error : SyntaxError) (text : List ℕ) (ts at : List Token) → AreTokens text 0 ts → HasToken error at → Begins ended SpellsAll text ts (kept error at) → GoesOnWith error text ts at
-text_goes_on_with Unexpected text ts at tokens some b = tt
-text_goes_on_with TooDeep text ts at tokens some b = (some.0, some.1, some.2, text_goes_on text ts some.1 tokens (subst (λ k. Begins ended SpellsAll text ts (drop 1 k)) some.2 b))
-text_goes_on_with TooMany text ts at tokens some b = (some.0, some.1, some.2, text_goes_on text ts some.1 tokens (subst (λ k. Begins ended SpellsAll text ts (drop 1 k)) some.2 b))
+pub text_goes_on_with : (error : SyntaxError) (text : List ℕ) (ts at : List Token) → AreTokens text 0 ts
+    → Further (λ error t back. (length back < length ts) × Begins ended (Within (λ c. GoesBeyond error t c.units) SpellsAll) text ts back) error at → GoesOnWith error text ts at
+text_goes_on_with Unexpected text ts at tokens b = tt
+text_goes_on_with TooDeep text ts at tokens b = (b.0, b.1, b.2, text_goes_on (λ c. ⊤) text ts b.1 tokens b.3.1)
+text_goes_on_with TooMany text ts at tokens b = (b.0, b.1, b.2, text_goes_on (λ c. GoesBeyond TooMany b.0 c.units) text ts b.1 tokens b.3.1)
 
 -- what stands behind a heading, of its own samples
 pub program_rest_sampled : IsSampled always SpellsProgramRest (body_samples word.EndProgram)

@@ -1,5 +1,5 @@
 -- What a limit forbids, and no rule.
-use Rattle.std.proofs.Common.{◌≡◌, ℕ, Bool, true, false, List, [], ◌∷◌, refl, sym, ◌∙◌, ap, subst, inl, inr, drop}
+use Rattle.std.proofs.Common.{◌≡◌, ◌<◌, ◌≤◌, ◌++◌, length, arith, ℕ, Bool, true, false, List, [], ◌∷◌, refl, sym, ◌∙◌, ap, subst, inl, inr, drop}
 use Rattle.std.specs.Prelude.{◌⊎◌, IsTrue, IsFalse}
 use Rattle.il_spec.specs.declared.token.Token.{Token}
 use Rattle.il_spec.specs.declared.token.Sign.TheVariants.{Ampersand, CloseParenthesis}
@@ -17,16 +17,16 @@ use Rattle.il_spec.specs.declared.tree.Scalar.{Scalar}
 use Rattle.il_spec.specs.declared.tree.Declaration.{Declaration}
 use Rattle.il_spec.specs.declared.tree.Body.{Body}
 use Rattle.il_spec.specs.Text.{name_of}
-use Rattle.il_spec.specs.Grammar.{Front, Gap, tight, loose, ◌⨾◌, ◌⋯◌, At, TheSign, TheWord, TheLineEnd, TheName, TheLetterN, SpellsOperands, SpellsUnit}
+use Rattle.il_spec.specs.Grammar.{skip_line_ends, AfterLines, Repeats, greatest_depth, unit_word, Front, Gap, tight, loose, ◌⨾◌, ◌⋯◌, At, TheSign, TheWord, TheLineEnd, TheName, TheLetterN, SpellsOperands, SpellsUnit}
 use Rattle.il_grammar_laws.specs.GoesOn.{Sample, calm, always, IsSampled, Begins}
 use Rattle.il_grammar_laws.proofs.Alike.{end_self}
 use Rattle.il_grammar_laws.proofs.Open.{Fills, sign_fills, word_fills, the_name_fills}
-use Rattle.il_grammar_laws.proofs.Samples.{true_sample, line_end_sample, line_end_sampled, the_name_sampled, operand_line_sampled, target_line_sampled, name_line_sampled, called_sampled, operands_sampled, program_sampled}
+use Rattle.il_grammar_laws.proofs.Samples.{true_sample, line_end_sample, line_end_sampled, the_name_sampled, operand_line_sampled, target_line_sampled, name_line_sampled, called_sampled, operands_sampled}
 use Rattle.il_grammar_laws.proofs.GoesOn.{cut_here, stays_loose, stays_tight, passes_always, passes_calm, begins_here, begins_first, begins_as, begins_at}
 use Rattle.il_read.specs.Lead.{lead_at}
 use Rattle.il_read.specs.declared.lead.Lead.{Lead}
 use Rattle.il_read.specs.declared.lead.Lead.TheVariants as lead
-use Rattle.il_read.specs.Reads.{BreaksOff, fault_at, HasToken, SpellsRoomyOf, Effect, SpellsLine}
+use Rattle.il_read.specs.Reads.{BreaksOff, fault_at, SpellsRoomyOf, Effect, SpellsLine}
 use Rattle.il_read.specs.Reads.Effect.{Even, Closing}
 use Rattle.il_read.specs.Settings.{PlacedWord}
 use Rattle.il_read.specs.declared.stop.Stop.{Stop}
@@ -35,10 +35,30 @@ use Rattle.il_read.proofs.Leaves.{word_there, sign_there, name_there}
 use Rattle.il_read.proofs.Breaks.{at_first, s_tight}
 use Rattle.il_parse.specs.Bodies.{may_begin, begins_lead}
 use Rattle.il_parse.specs.Units.{unit_begins}
-use Rattle.il_parse.specs.GoesOn.{SpellsPlacedFrom, SpellsWholeProgram, SpellsWholeBlock, SpellsWholeFunction, SpellsProgramRest, SpellsBlockRest, SpellsFunctionRest}
+use Rattle.il_parse.specs.GoesOn.{Within, StaysShallow, BeginsSurplus, BreaksPlaced, BreaksWith, BreaksUnits, BreaksAll, SpellsAll, SpellsAllUnits, SpellsWholeProgram, SpellsWholeBlock, SpellsWholeFunction, SpellsProgramRest, SpellsBlockRest, SpellsFunctionRest}
 use Rattle.il_parse.specs.Headings.{SpellsResultAt}
-use Rattle.il_parse.proofs.Begun.{placed_begins, placed_from_sampled}
-use Rattle.il_parse.proofs.Rests.{program_is, block_is, function_is, program_rest_sampled, block_rest_sampled, function_sampled_behind}
+use Rattle.il_parse.proofs.Begun.{placed_inside, placed_from_sampled, plainly, shorter_behind, by_breaks, behind_all}
+use Rattle.il_parse.proofs.Shallow.{Headed, headed_sampled, program_within}
+use Rattle.il_parse.proofs.Parts.{Group, config, whole_config, from_small_units, are_shallow}
+use Rattle.il_parse.specs.Parts.{SpellsGroup, SpellsFewUnits}
+use Rattle.il_parse.specs.Units.{SpellsUnitBy}
+use Rattle.il_parse.specs.Refused.{IsItsPlace, HasSurplus, GoesBeyond}
+use Rattle.il_rules.specs.Written.{IsNested}
+use Rattle.il_spec.specs.declared.tree.Config.{Config}
+use Rattle.il_spec.specs.declared.tree.Unit.{Unit as ProgramUnit}
+use Rattle.std.specs.List.{All}
+use Rattle.std.proofs.lemmas.List.Elements.{All-nil, All-cons}
+use Rattle.il_grammar_laws.proofs.Alike.{end_length, end_of_end, gap_length, loose_gap}
+use Rattle.il_grammar_laws.proofs.GoesOn.{IsFilling, HasGone, gone_item, map_sampled, begins_lines}
+use Rattle.il_grammar_laws.proofs.Open.{loose_open}
+use Rattle.il_grammar_laws.proofs.Samples.{word_sample, name_sample, body_samples, word_sampled}
+use Rattle.il_read.proofs.Breaks.{as_breaks, later_loose, s_loose}
+use Rattle.il_read.proofs.Completions.{place_at, lines_break}
+use Rattle.il_read.specs.Reads.{Reads}
+use Rattle.il_read.specs.declared.stop.SyntaxError.{SyntaxError}
+use Rattle.il_read.specs.declared.stop.SyntaxError.TheVariants.{TooDeep}
+use Rattle.il_grammar_laws.specs.GoesOn.{IsCut, ended}
+use Rattle.il_parse.proofs.Rests.{group_sampled, units_filling, program_is, block_is, function_is, program_rest_sampled, block_rest_sampled, function_sampled_behind}
 
 -- what stands there begins itself
 begins_whole : {A : Type 0} {P : List ℕ → A → Front} {look : Gap} {text : List ℕ} (x : A) (ts m : List Token) → Fills look always (λ text. P text x) → P text x ts m → Begins always P text ts m
@@ -105,19 +125,31 @@ instruction_begun text (lead.Reserved (word.Call k)) ts l begun = (Even, by_word
 instruction_begun text l ts same begun = absurd cc
 
 -- a token stands there
-a_token : (text : List ℕ) (ts : List Token) (begins : Lead → Bool) → begins lead.Nothing ≡ false → begins (lead_at text ts) ≡ true → HasToken TooMany ts
+a_token : (text : List ℕ) (ts : List Token) (begins : Lead → Bool) → begins lead.Nothing ≡ false → begins (lead_at text ts) ≡ true → (t : Token) × (back : List Token) × (ts ≡ t ∷ back)
 unfolding lead_at
 a_token text [] begins none begun = absurd cc
 a_token text (t ∷ ts) begins none begun = (t, ts, refl)
 
+-- a token is at its place
+its_place : (t : Token) (back ts : List Token) → ts ≡ t ∷ back → IsItsPlace t (place_at ts)
+its_place t back ts same = subst (λ x. IsItsPlace t (place_at x)) (sym same) (refl, refl)
+
 -- a body is full
-pub surplus_breaks : {text : List ℕ} {ts : List Token} {e : Stop} (depth : ℕ) (load : Bool) (last : Keyword) (l : Lead) → l ≡ lead_at text ts → may_begin depth load (lead_at text ts) ≡ true
-    → ((e ≡ fault_at TooMany ts) × IsTrue (begins_lead l)) ⊎ ((e ≡ fault_at Unexpected ts) × IsFalse (begins_lead l)) → BreaksOff always (λ text. SpellsPlacedFrom text last depth load) text ts e
-surplus_breaks depth load last l same may (inr here) = at_first (placed_from_sampled last depth load) (λ is. here.0)
-surplus_breaks {text = text} {ts = ts} depth load last l same may (inl here) = record {
+pub surplus_breaks : {text : List ℕ} {ts : List Token} {e : Stop} (depth : ℕ) (load full : Bool) (last : Keyword) (l : Lead) → depth ≤ 16 → full ≡ true → l ≡ lead_at text ts → may_begin depth load (lead_at text ts) ≡ true
+    → ((e ≡ fault_at TooMany ts) × IsTrue (begins_lead l)) ⊎ ((e ≡ fault_at Unexpected ts) × IsFalse (begins_lead l)) → BreaksPlaced last depth load full text ts e
+surplus_breaks depth load full last l few is_full same may (inr here) = plainly (at_first (placed_from_sampled last depth load few) (λ is. here.0))
+surplus_breaks {text = text} {ts = ts} depth load full last l few is_full same may (inl here) = record {
   fault = λ is.
       let b = instruction_begun text l ts (sym same) here.1 in
-      (TooMany, ts, here.0, a_token text ts begins_lead refl (ap begins_lead (sym same) ∙ here.1), begins_here (placed_from_sampled last depth load) text ts, placed_begins depth load last may (drop 1 ts) b.0 b.1);
+      let k = a_token text ts begins_lead refl (ap begins_lead (sym same) ∙ here.1) in
+      let less = shorter_behind ts ts k.1 k.0 (end_self ts) k.2 in
+      let behind = subst (λ x. Begins always (λ text. SpellsRoomyOf text true b.0) text ts (drop 1 x)) k.2 b.1 in (
+        TooMany,
+        ts,
+        here.0,
+        begins_here (placed_from_sampled last depth load few) text ts,
+        (k.0, k.1, k.2, (less, placed_inside depth load last (λ steps. BeginsSurplus full TooMany k.0 steps) may k.1 b.0 (λ i steps has most. (is_full, its_place k.0 k.1 ts k.2)) behind less)),
+      );
 }
 
 -- the word of a unit begins it
@@ -142,10 +174,149 @@ unit_begun text (lead.Reserved word.Function) ts l begun =
     (begins_first loose (s_tight the_name_sampled function_sampled_behind) passes_always (stays_loose refl) (word_begins text word.Function ts l)))
 unit_begun text l ts same begun = absurd cc
 
--- a text is full
-pub surplus_unit_breaks : {text : List ℕ} {ts : List Token} {e : Stop}
-    → ((e ≡ fault_at TooMany ts) × IsTrue (unit_begins (lead_at text ts))) ⊎ ((e ≡ fault_at Unexpected ts) × IsFalse (unit_begins (lead_at text ts))) → BreaksOff always SpellsUnit text ts e
-surplus_unit_breaks (inr here) = at_first program_sampled (λ is. here.0)
-surplus_unit_breaks {text = text} {ts = ts} (inl here) = record {
-  fault = λ is. (TooMany, ts, here.0, a_token text ts unit_begins refl here.1, begins_here program_sampled text ts, unit_begun text (lead_at text ts) ts refl here.1);
+-- UNITS THAT BREAK OFF
+
+-- a unit with a shallow body, of its own samples
+pub unit_within : IsSampled always (Within (λ (u : ProgramUnit). StaysShallow 0 u.body.steps) SpellsUnit) (word_sample word.Program ∷ name_sample ∷ body_samples word.EndProgram)
+unit_within =
+    map_sampled {P = Within (λ (x : Place × (Named × (List Declaration × List Declaration × Body))). StaysShallow 0 x.1.1.2.steps) (Headed word.Program SpellsProgramRest)} {Q = Within (λ (u : ProgramUnit). StaysShallow 0 u.body.steps) SpellsUnit}
+    (λ x. record { place = x.0; kind = unit.Program; name = x.1.0; inputs = []; outputs = []; variables = x.1.1.0; externals = x.1.1.1; body = x.1.1.2 })
+    (λ x other us r w. (program_is (x.0, x.1.0, x.1.1) other us r w.0, w.1)) (headed_sampled word.Program SpellsProgramRest (λ x. x.2) program_within)
+
+-- the place of what begins is that of the first token
+at_place : (F : Front) (p : Place) (ts r : List Token) → At p F ts r → (t : Token) (back : List Token) → ts ≡ t ∷ back → IsItsPlace t p
+at_place F p [] r w t back same = absurd w
+at_place F p (u ∷ ts) r w t back same = let first = its_place t back (u ∷ ts) same in (sym w.0 ∙ first.0, sym w.1 ∙ first.1)
+
+-- units that are shallow
+apart : (ys : List ProgramUnit) (other : List ℕ) (vs r : List Token) → Repeats (SpellsUnitBy TooDeep other) ys (TheWord other word.Configuration) vs r
+    → Within (λ us. All (λ (u : ProgramUnit). greatest_depth 0 u.body.steps ≤ 16) us) SpellsAllUnits other ys vs r
+apart [] other vs r w = (w, All-nil (λ (u : ProgramUnit). greatest_depth 0 u.body.steps ≤ 16))
+apart (y ∷ ys) other vs r w =
+    let more = apart ys other (skip_line_ends w.0) r w.2 in
+    ((w.0, w.1.0, more.0), All-cons (λ (u : ProgramUnit). greatest_depth 0 u.body.steps ≤ 16) y ys w.1.1 more.1)
+
+-- what goes beyond a limit in the last unit
+beyond : (us : List ProgramUnit) (error : SyntaxError) (t : Token) (u : ProgramUnit) → HasSurplus error t u.body.steps → GoesBeyond error t (us ++ u ∷ [])
+beyond us Unexpected t u h = tt
+beyond us TooDeep t u h = tt
+beyond us TooMany t u h = inr (length us, u, behind_all us u [] (length us) refl, h)
+
+-- cut tokens begin with the same one
+first_cut : (text : List ℕ) (at ts vs ws : List Token) (other : List ℕ) (t : Token) (back : List Token) → ts ≡ t ∷ back → length at < length ts → IsCut text other at ts vs ws → (more : List Token) × (vs ≡ t ∷ more)
+first_cut text at [] vs ws other t back same less c = absurd (omega (arith, less))
+first_cut text at (u ∷ ts) vs ws other t back same less (inl c) = let e = ap length c.0 in absurd (omega (arith, less, e))
+first_cut text at (u ∷ ts) vs ws other t back same less (inr c) = (c.0, c.1 ∙ ap (λ (x : Token). x ∷ c.0) (ap (λ x. first_of x u) same))
+  where
+    first_of : List Token → Token → Token
+    first_of [] y = y
+    first_of (x ∷ xs) y = x
+
+unit_placed : {text : List ℕ} {ts : List Token} (t : Token) (back at : List Token) → ts ≡ t ∷ back → length at < length ts → Begins always SpellsUnit text ts at → Begins always (Within (λ (u : ProgramUnit). IsItsPlace t u.place) SpellsUnit) text ts at
+unit_placed {text = text} {ts = ts} t back at same less b = record {
+  inside = b.inside;
+  samples = b.samples;
+  goes = λ other vs ws rest c a k.
+      let x = b.goes other vs ws rest c a k in
+      let first = first_cut text at ts vs ws other t back same less c in
+      (x.0, (x.1, at_place (TheWord other (unit_word x.0.kind)) x.0.place vs x.1.1.0 x.1.1.1 t first.0 first.1));
 }
+
+module _ {text : List ℕ} {start ts : List Token} {us : List ProgramUnit} where
+  shallow_on : HasGone (SpellsUnitBy TooDeep) (λ text. TheWord text word.Configuration) text start us ts → (at : List Token) → Begins always (Within (λ (u : ProgramUnit). StaysShallow 0 u.body.steps) SpellsUnit) text ts at
+      → Begins always (Within (λ us. All (λ (u : ProgramUnit). greatest_depth 0 u.body.steps ≤ 16) us) SpellsAllUnits) text start at
+  shallow_on so_far at b =
+      begins_as {P = λ text ys. Repeats (SpellsUnitBy TooDeep text) ys (TheWord text word.Configuration)} {Q = Within (λ us. All (λ (u : ProgramUnit). greatest_depth 0 u.body.steps ≤ 16) us) SpellsAllUnits} (λ ys. ys)
+      (λ ys other vs r w. apart ys other vs r w) (gone_item {P = SpellsUnitBy TooDeep} (word_sampled word.Configuration) passes_always (stays_loose refl) so_far b)
+
+  -- the last unit keeps something
+  last_on : (K : ProgramUnit → Type 0) (M : List ProgramUnit → Type 0) → ((u : ProgramUnit) → K u → M (us ++ u ∷ [])) → HasGone SpellsUnit (λ text. TheWord text word.Configuration) text start us ts → (at : List Token)
+      → length at < length ts → Begins always (Within K SpellsUnit) text ts at → (length at < length start) × Begins always (Within M SpellsAllUnits) text start at
+  last_on K M keeps so_far at less b =
+      let f = begins_first {P = Within K SpellsUnit} {Q = λ text (u : Unit {0}). TheWord text word.Configuration} loose (word_sampled word.Configuration) passes_always (stays_loose refl) b in
+      let l = end_length ts start so_far.inside in (
+        omega (arith, less, l),
+        record {
+          inside = end_of_end at ts start so_far.inside b.inside;
+          samples = f.samples;
+          goes = λ other vs ws rest c a t.
+              let n = so_far.on other at vs ws b.inside c (inl less) in
+              let x = f.goes other n.0 ws rest n.1 a t in
+              (us ++ x.0.0 ∷ [], (n.2 (x.0.0 ∷ []) rest (x.1.0, x.1.1.0, x.1.2), keeps x.0.0 x.1.1.1));
+        },
+      )
+
+  -- a unit breaks off behind others
+  pub units_break : {e : Stop} → HasGone (SpellsUnitBy TooDeep) (λ text. TheWord text word.Configuration) text start us ts → HasGone SpellsUnit (λ text. TheWord text word.Configuration) text start us ts → BreaksWith tight (λ u. u.body) SpellsUnit text ts e
+      → BreaksUnits text start e
+  units_break shallow so_far bad =
+      by_breaks (λ at b. shallow_on shallow at b) (λ error t back end less b. last_on (λ u. HasSurplus error t u.body.steps) (λ us. GoesBeyond error t us) (λ u h. beyond us error t u h) so_far back less b) bad
+
+  -- a text is full
+  pub units_full_break : {e : Stop} → HasGone (SpellsUnitBy TooDeep) (λ text. TheWord text word.Configuration) text start us ts → HasGone SpellsUnit (λ text. TheWord text word.Configuration) text start us ts → length us ≡ 64
+      → ((e ≡ fault_at TooMany ts) × IsTrue (unit_begins (lead_at text ts))) ⊎ ((e ≡ fault_at Unexpected ts) × IsFalse (unit_begins (lead_at text ts))) → BreaksUnits text start e
+  units_full_break shallow so_far full (inr here) = plainly (as_breaks (λ at b. shallow_on shallow at b) (at_first unit_within (λ is. here.0)))
+  units_full_break shallow so_far full (inl here) = record {
+    fault = λ is.
+        let k = a_token text ts unit_begins refl here.1 in
+        let less = shorter_behind ts ts k.1 k.0 (end_self ts) k.2 in
+        let behind = subst (λ x. Begins always SpellsUnit text ts (drop 1 x)) k.2 (unit_begun text (lead_at text ts) ts refl here.1) in (
+          TooMany,
+          ts,
+          here.0,
+          shallow_on shallow ts (begins_here unit_within text ts),
+          (k.0, k.1, k.2, last_on (λ u. IsItsPlace k.0 u.place) (λ us. GoesBeyond TooMany k.0 us) (λ u h. inl (u, behind_all us u [] 64 full, h)) so_far k.1 less (unit_placed k.0 k.1 k.1 k.2 less behind)),
+        );
+  }
+
+-- THE TEXT
+
+-- units within something hold of cut tokens, as all do
+shallow_filling : IsFilling tight always (Within (λ us. All (λ (u : ProgramUnit). greatest_depth 0 u.body.steps ≤ 16) us) SpellsAllUnits)
+shallow_filling = record {
+  one = λ us. record {
+    opens = record {
+      ends = λ text ts m p. (units_filling.one us).opens.ends text ts m p.0;
+      keeps = λ text other at ts us_ vs m p e c d. let k = (units_filling.one us).opens.keeps text other at ts us_ vs m p.0 e c d in (k.0, (k.1, p.1), k.2);
+    };
+    takes = record { less = λ text ts m p. (units_filling.one us).takes.less text ts m p.0 };
+  };
+}
+
+units_end_within : IsSampled always (Within (λ us. All (λ (u : ProgramUnit). greatest_depth 0 u.body.steps ≤ 16) us) SpellsAllUnits) (word_sample word.Configuration ∷ [])
+units_end_within = record { stands = λ other vs rest a t. ([], (((word_sampled word.Configuration).stands other vs rest a t).1, All-nil (λ (u : ProgramUnit). greatest_depth 0 u.body.steps ≤ 16))) }
+
+module _ {text : List ℕ} {ts : List Token} where
+  as_all : (K : List ProgramUnit → Type 0) {at : List Token} → Begins ended (λ text (x : List ProgramUnit × Group). AfterLines (Within K SpellsAllUnits text x.0 ⋯ SpellsGroup text x.1)) text ts at
+      → Begins ended (Within (λ (c : Config). K c.units) SpellsAll) text ts at
+  as_all K b =
+      begins_as {P = λ text (x : List ProgramUnit × Group). AfterLines (Within K SpellsAllUnits text x.0 ⋯ SpellsGroup text x.1)} {Q = Within (λ (c : Config). K c.units) SpellsAll} (λ x. config x.0 x.1)
+      (λ x other us r w. (whole_config other x.0 x.1 (skip_line_ends us) r (w.0, w.1.0, w.2), w.1.1)) b
+
+  -- its units break off
+  pub text_units_break : {e : Stop} → BreaksUnits text (skip_line_ends ts) e → BreaksAll text ts e
+  text_units_break bad = by_breaks before (λ error t back end less b. with (λ us. GoesBeyond error t us) back less b) bad
+    where
+      before : (at : List Token) → Begins always (Within (λ us. All (λ (u : ProgramUnit). greatest_depth 0 u.body.steps ≤ 16) us) SpellsAllUnits) text (skip_line_ends ts) at → Begins ended (Within (λ c. IsNested c) SpellsAll) text ts at
+      before at b = as_all (λ us. All (λ (u : ProgramUnit). greatest_depth 0 u.body.steps ≤ 16) us) (begins_lines (s_loose units_end_within group_sampled refl) refl (begins_first loose group_sampled passes_always (stays_loose refl) b))
+
+      with : (K : List ProgramUnit → Type 0) (at : List Token) → length at < length (skip_line_ends ts) → Begins always (Within K SpellsAllUnits) text (skip_line_ends ts) at
+          → (length at < length ts) × Begins ended (Within (λ (c : Config). K c.units) SpellsAll) text ts at
+      with K at less b =
+          let f = begins_first {P = Within K SpellsAllUnits} {Q = SpellsGroup} loose group_sampled passes_always (stays_loose refl) b in
+          let l = gap_length loose_gap ts in (
+            omega (arith, less, l),
+            as_all K (record {
+              inside = end_of_end at (skip_line_ends ts) ts (loose_gap.ends ts) f.inside;
+              samples = f.samples;
+              goes = λ other us vs rest c a t. f.goes other (skip_line_ends us) vs rest (loose_open.cut text other at ts us vs c less) a t;
+            }),
+          )
+
+  -- or what stands behind them does
+  pub text_group_break : {e : Stop} {us : List ProgramUnit} {m : List Token} → Reads (SpellsFewUnits text) (skip_line_ends ts) us m → BreaksOff ended SpellsGroup text (skip_line_ends m) e → BreaksAll text ts e
+  text_group_break read bad = plainly
+      (as_breaks {P = λ text (x : List ProgramUnit × Group). AfterLines (Within (λ us. All (λ (u : ProgramUnit). greatest_depth 0 u.body.steps ≤ 16) us) SpellsAllUnits text x.0 ⋯ SpellsGroup text x.1)} {Q = Within (λ c. IsNested c) SpellsAll}
+      (λ at b. as_all (λ us. All (λ (u : ProgramUnit). greatest_depth 0 u.body.steps ≤ 16) us) b)
+      (lines_break (s_loose units_end_within group_sampled refl) refl
+      (later_loose shallow_filling (record { found = (from_small_units text read, are_shallow text (TheWord text word.Configuration) _ _ _ read.found.0) }) group_sampled refl bad)))

@@ -1,5 +1,5 @@
 -- What a reader promises of the tokens before a fault: the rules that they begin have no limits.
-use Rattle.std.specs.Prelude.{◌≡◌, ℕ, Bool, IsTrue, List, ◌∷◌}
+use Rattle.std.specs.Prelude.{◌≡◌, ◌<◌, ◌≤◌, ℕ, Bool, false, IsTrue, List, [], ◌∷◌, length, ⊤}
 use Rattle.il_spec.specs.declared.token.Token.{Token}
 use Rattle.il_spec.specs.declared.keyword.Keyword.{Keyword}
 use Rattle.il_spec.specs.declared.keyword.Keyword.TheVariants as word
@@ -12,13 +12,45 @@ use Rattle.il_spec.specs.declared.tree.Step.{Step}
 use Rattle.il_spec.specs.declared.tree.Body.{Body}
 use Rattle.il_spec.specs.declared.tree.Unit.{Unit as ProgramUnit}
 use Rattle.il_spec.specs.declared.tree.Config.{Config}
-use Rattle.il_spec.specs.Grammar.{Front, skip_line_ends, ◌⨾◌, ◌⋯◌, At, AfterLines, Repeats, TheWord, TheName, SpellsFilledList, SpellsInstruction, SpellsStep, SpellsLabelLine, SpellsBody, SpellsUnit, SpellsConfig, is_nested}
-use Rattle.il_grammar_laws.specs.GoesOn.{Test}
+use Rattle.il_spec.specs.Grammar.{Front, skip_line_ends, ◌⨾◌, ◌⋯◌, At, AfterLines, Repeats, TheWord, TheName, SpellsFilledList, SpellsInstruction, SpellsStep, SpellsLabelLine, SpellsBody, SpellsUnit, SpellsConfig, is_nested, greatest_depth, Gap, tight}
+use Rattle.il_grammar_laws.specs.GoesOn.{Test, always, ended, Begins}
+use Rattle.il_read.specs.declared.stop.SyntaxError.{SyntaxError}
+use Rattle.il_read.specs.declared.stop.SyntaxError.TheVariants.{Unexpected, TooDeep, TooMany}
+use Rattle.il_read.specs.declared.stop.Stop.{Stop}
+use Rattle.il_read.specs.Reads.{IsFault, fault_at, Further}
 use Rattle.il_read.specs.Settings.{PlacedWord}
 use Rattle.il_parse.specs.Bodies.{bare}
+use Rattle.il_parse.specs.Refused.{IsItsPlace, HasSurplus, GoesBeyond}
+use Rattle.il_rules.specs.Written.{IsNested}
+use Rattle.std.specs.List.{All}
 use Rattle.il_parse.specs.Lists.{SpellsFull}
 use Rattle.il_parse.specs.Insides.{LacksList, SpellsVariables, SpellsSomeExternals}
 use Rattle.il_parse.specs.Headings.{SpellsResultAt}
+
+-- A rule, and what its value keeps besides.
+abbrev pub Within : {A : Type 0} → (A → Type 0) → (List ℕ → A → Front) → List ℕ → A → Front
+Within K P text x ts rest = P text x ts rest × K x
+
+-- A fault stands where the tokens before its place are the beginning of a P that keeps K. Where only a limit forbids its token, it stands behind the gap,
+-- and with it others are the beginning of a P that goes beyond the limit as L says.
+pub record BreaksOffBy {A : Type 0} (look : Gap) (test : Test) (K : A → Type 0) (L : SyntaxError → Token → A → Type 0) (P : List ℕ → A → Front) (text : List ℕ) (ts : List Token) (e : Stop) : Type 0 where
+  pub fault : IsFault e → (error : SyntaxError) × (at : List Token) × (e ≡ fault_at error at) × Begins test (Within K P) text ts at
+      × Further (λ error t back. (length back < length (look ts)) × Begins test (Within (L error t) P) text ts back) error at
+
+-- with so many parentheses open, these instructions open at most 16 at once
+abbrev pub StaysShallow : ℕ → List Step → Type 0
+StaysShallow depth steps = greatest_depth depth steps ≤ 16
+
+-- Where one instruction is too many, the first of these is, and stands at the token of the fault, behind its labels: the body is full.
+abbrev pub BeginsSurplus : Bool → SyntaxError → Token → List Step → Type 0
+BeginsSurplus full Unexpected t steps = ⊤
+BeginsSurplus full TooDeep t steps = ⊤
+BeginsSurplus full TooMany t [] = ⊥
+BeginsSurplus full TooMany t (s ∷ steps) = IsTrue full × IsItsPlace t s.place
+
+-- what has a body breaks off
+abbrev pub BreaksWith : {A : Type 0} → Gap → (A → Body) → (List ℕ → A → Front) → List ℕ → List Token → Stop → Type 0
+BreaksWith look body P text ts e = BreaksOffBy look always (λ x. StaysShallow 0 (body x).steps) (λ error t x. HasSurplus error t (body x).steps) P text ts e
 
 -- instructions, and the end of the body with the labels that name it
 abbrev pub Rest : Type 0
@@ -35,6 +67,22 @@ SpellsFrom text last depth load x ts rest = IsTrue (is_nested depth load x.0) ×
 abbrev pub SpellsPlacedFrom : List ℕ → Keyword → ℕ → Bool → (Place × Instruction) × Rest → Front
 SpellsPlacedFrom text last depth load x ts rest =
     IsTrue (is_nested depth load (bare x.0.0 x.0.1 ∷ x.1.0)) × (At x.0.0 (SpellsInstruction text x.0.1) ⋯ SpellsRestLines text last x.1) ts rest
+
+-- all of its instructions
+abbrev pub all_steps : (Place × Instruction) × Rest → List Step
+all_steps x = bare x.0.0 x.0.1 ∷ x.1.0
+
+-- such a body breaks off; `full` says that it has as many instructions as it may have
+abbrev pub BreaksFrom : Keyword → ℕ → Bool → Bool → List ℕ → List Token → Stop → Type 0
+BreaksFrom last depth load full text ts e = BreaksOffBy tight always (λ x. StaysShallow depth x.0) (λ error t x. BeginsSurplus full error t x.0) (λ text. SpellsFrom text last depth load) text ts e
+
+abbrev pub BreaksPlaced : Keyword → ℕ → Bool → Bool → List ℕ → List Token → Stop → Type 0
+BreaksPlaced last depth load full text ts e =
+    BreaksOffBy tight always (λ x. StaysShallow depth (all_steps x)) (λ error t x. BeginsSurplus full error t (all_steps x)) (λ text. SpellsPlacedFrom text last depth load) text ts e
+
+-- all of a body behind its first line end
+abbrev pub BreaksSteps : Keyword → List ℕ → List Token → Stop → Type 0
+BreaksSteps last text ts e = BreaksOffBy tight always (λ x. StaysShallow 0 x.0) (λ error t x. HasSurplus error t x.0) (λ text. SpellsFrom text last 0 false) text ts e
 
 -- what stands behind the heading of a unit
 abbrev pub SpellsProgramRest : List ℕ → List Declaration × List Declaration × Body → Front
@@ -68,3 +116,10 @@ stopped keyword other vs = ((rest : List Token) → TheWord other keyword vs res
 -- a whole text
 abbrev pub SpellsAll : List ℕ → Config → Front
 SpellsAll text c = AfterLines (SpellsConfig text c)
+
+-- units, and a whole text, that break off
+abbrev pub BreaksUnits : List ℕ → List Token → Stop → Type 0
+BreaksUnits text ts e = BreaksOffBy tight always (λ us. All (λ (u : ProgramUnit). greatest_depth 0 u.body.steps ≤ 16) us) GoesBeyond SpellsAllUnits text ts e
+
+abbrev pub BreaksAll : List ℕ → List Token → Stop → Type 0
+BreaksAll text ts e = BreaksOffBy tight ended (λ c. IsNested c) (λ error t c. GoesBeyond error t c.units) SpellsAll text ts e

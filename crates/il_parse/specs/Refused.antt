@@ -1,5 +1,8 @@
 -- Which answer refuses a text, and the limits of a tree.
-use Rattle.std.specs.Prelude.{◌≡◌, ◌<◌, ◌≤◌, ℕ, List, [], ◌∷◌, ◌++◌, take, Result, Ok, Err, length, ⊤}
+use Rattle.std.specs.List.{slice_get}
+use Rattle.il_spec.specs.declared.tree.Step.{Step}
+use Rattle.il_spec.specs.declared.tree.Unit.{Unit as ProgramUnit}
+use Rattle.std.specs.Prelude.{◌≡◌, ◌<◌, ◌≤◌, ◌⊎◌, Some, ℕ, List, [], ◌∷◌, ◌++◌, take, Result, Ok, Err, length, ⊤}
 use Rattle.il_spec.specs.declared.fault.Refusal.{Refusal}
 use Rattle.il_spec.specs.declared.fault.Refusal.TheVariants as refusal
 use Rattle.il_spec.specs.declared.tree.Config.{Config}
@@ -60,22 +63,39 @@ NoTextGoesOn text tokens (refusal.Fault number place) =
     → (c : Config) → AfterLines (SpellsConfig other c) (front ++ t ∷ others) [] → Keeps error c → ⊥)
 NoTextGoesOn text tokens refusal.Memory = ⊤
 
--- Some text goes on with the tokens before the first of `at`: one that has these tokens, of the same bytes, and others behind, is of the
--- language, where no limits count.
-abbrev pub IsBegun : List ℕ → List Token → List Token → Type 0
-IsBegun text tokens at =
-    (other : List ℕ) × (others : List Token) × (vs : List Token) × AreTokens other 0 others × IsCut text other at tokens others vs × (c : Config) × AfterLines (SpellsConfig other c) others []
+-- a place is that of a token
+abbrev pub IsItsPlace : Token → Place → Type 0
+IsItsPlace t place = (place.offset ≡ t.start) × (place.line ≡ t.line)
 
--- Some text goes on with the token that a fault names too, where only a limit forbids it.
+-- Where a fault says that there are too many, the 4097th instruction stands at its token, behind its labels.
+abbrev pub HasSurplus : SyntaxError → Token → List Step → Type 0
+HasSurplus Unexpected t steps = ⊤
+HasSurplus TooDeep t steps = ⊤
+HasSurplus TooMany t steps = (s : Step) × (slice_get steps 4096 ≡ Some s) × IsItsPlace t s.place
+
+-- or the 65th unit does
+abbrev pub GoesBeyond : SyntaxError → Token → List ProgramUnit → Type 0
+GoesBeyond Unexpected t us = ⊤
+GoesBeyond TooDeep t us = ⊤
+GoesBeyond TooMany t us =
+    ((u : ProgramUnit) × (slice_get us 64 ≡ Some u) × IsItsPlace t u.place) ⊎ ((k : ℕ) × (u : ProgramUnit) × (slice_get us k ≡ Some u) × HasSurplus TooMany t u.body.steps)
+
+-- Some text goes on with the tokens before the first of `at`: one that has these tokens, of the same bytes, and others behind, is of the
+-- language, and its tree is a K. No limits count but those that K names.
+abbrev pub IsBegun : (Config → Type 0) → List ℕ → List Token → List Token → Type 0
+IsBegun K text tokens at =
+    (other : List ℕ) × (others : List Token) × (vs : List Token) × AreTokens other 0 others × IsCut text other at tokens others vs × (c : Config) × AfterLines (SpellsConfig other c) others [] × K c
+
+-- Some text goes on with the token that a fault names too, where only a limit forbids it: 12 stands at the first thing that is too many.
 abbrev pub GoesOnWith : SyntaxError → List ℕ → List Token → List Token → Type 0
 GoesOnWith Unexpected text tokens at = ⊤
-GoesOnWith TooDeep text tokens at = (t : Token) × (back : List Token) × (at ≡ t ∷ back) × IsBegun text tokens back
-GoesOnWith TooMany text tokens at = (t : Token) × (back : List Token) × (at ≡ t ∷ back) × IsBegun text tokens back
+GoesOnWith TooDeep text tokens at = (t : Token) × (back : List Token) × (at ≡ t ∷ back) × IsBegun (λ c. ⊤) text tokens back
+GoesOnWith TooMany text tokens at = (t : Token) × (back : List Token) × (at ≡ t ∷ back) × IsBegun (λ c. GoesBeyond TooMany t c.units) text tokens back
 
--- With the tokens before the one that a fault names, or with all before the end, some text goes on. So it does with that token, where
--- the fault is about a limit: 10 is what no text goes on with, and 11 and 12 are what only a limit forbids.
+-- With the tokens before the one that a fault names, or with all before the end, some text goes on, whose parentheses are at most 16 deep. So one does
+-- with that token, where the fault is about a limit: 10 is what no text goes on with, and 11 and 12 are what only a limit forbids.
 abbrev pub GoesOnBefore : List ℕ → List Token → Refusal → Type 0
 GoesOnBefore text tokens (refusal.Fault number place) =
     (error : SyntaxError) × (at : List Token) × (number ≡ number_of error) × IsEndOf at tokens × IsPlaceAt text place at
-    × IsBegun text tokens at × GoesOnWith error text tokens at
+    × IsBegun IsNested text tokens at × GoesOnWith error text tokens at
 GoesOnBefore text tokens refusal.Memory = ⊤

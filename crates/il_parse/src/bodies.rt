@@ -1,17 +1,16 @@
 // Bodies (IEC 61131-3:2003, 3.2.1 and 3.2.2).
 
 ghost use Rattle.std.specs.Prelude.{◌≡◌, ◌⊎◌, ◌<◌, ◌≤◌, length, IsTrue, IsFalse, IfOk, IfErr, false};
-ghost use Rattle.il_spec.specs.Grammar.{TheLineEnd, depth_after, needs_load, SpellsBody};
+ghost use Rattle.il_spec.specs.Grammar.{loose, TheLineEnd, depth_after, needs_load, SpellsBody};
 ghost use Rattle.il_spec.specs.declared.keyword.Keyword.{Keyword};
-ghost use Rattle.il_grammar_laws.specs.GoesOn.{always};
 ghost use Rattle.il_read.specs.Lead.{lead_at};
-ghost use Rattle.il_read.specs.Reads.{Reads, RefusesBy, Eats, fault_at, Refuses, BreaksOff};
+ghost use Rattle.il_read.specs.Reads.{Reads, RefusesBy, Eats, fault_at, Refuses};
 ghost use Rattle.il_read.specs.declared.stop.SyntaxError.TheVariants.{Unexpected, TooMany};
 ghost use Rattle.il_read.specs.declared.stop.Stop.TheVariants.{Memory};
 ghost use Rattle.il_parse.specs.Ahead.{RefusesAheadBy, RefusesAhead};
 ghost use Rattle.il_parse.specs.Bodies.{closes_lead, leaves_lead, ends_lead, loads_lead, begins_lead, may_begin, SpellsPlaced, RefusesPlaced, HasLabels, TakesEnd, SpellsNext, SpellsNextBy, Shortens, IsLast, SpellsSteps, SpellsStepsBy, SpellsSmallBody, SpellsBodyBy};
 ghost use Rattle.il_read.specs.declared.lead.Lead.TheVariants as begins;
-ghost use Rattle.il_parse.specs.GoesOn.{SpellsFrom, SpellsPlacedFrom};
+ghost use Rattle.il_parse.specs.GoesOn.{BreaksPlaced, BreaksFrom, BreaksSteps, BreaksWith};
 
 use il_read::{Lead, Source, Stop, SyntaxError, Tokens};
 use il_spec::keyword::Keyword;
@@ -123,8 +122,8 @@ fn placed(
     ensures reads { IfOk result (λ x. Reads (SpellsPlaced source.now depth load full) tokens.old x
         tokens.new) }
     ensures refused { IfErr result (λ e. RefusesPlaced source.now depth load full tokens.old e) }
-    ensures begins { IfErr result (λ e. (last : Keyword) → BreaksOff always (λ text.
-        SpellsPlacedFrom text last depth load) source.now tokens.old e) }
+    ensures begins { IfErr result (λ e. (last : Keyword) → BreaksPlaced last depth load full
+        source.now tokens.old e) }
     ensures shorter { IfOk result (λ _. length tokens.new < length tokens.old) }
 {
     let Some(place) = tokens.place() else {
@@ -211,8 +210,7 @@ fn outer(
         tokens.new) }
     ensures refused { IfErr result (λ e. RefusesBy
         (SpellsNextBy last 0 load full) source.now tokens.old e) }
-    ensures begins { IfErr result (λ e. BreaksOff always (λ text. SpellsFrom text last 0 load)
-        source.now tokens.old e) }
+    ensures begins { IfErr result (λ e. BreaksFrom last 0 load full source.now tokens.old e) }
     ensures shorter { IfOk result (λ x. Shortens tokens.old x tokens.new) }
 {
     let (labels, alone) = labels(source, tokens)?;
@@ -244,8 +242,7 @@ fn next_entry(
         tokens.old x tokens.new) }
     ensures refused { IfErr result (λ e. RefusesBy
         (SpellsNextBy last depth load full) source.now tokens.old e) }
-    ensures begins { IfErr result (λ e. BreaksOff always (λ text. SpellsFrom text last depth load)
-        source.now tokens.old e) }
+    ensures begins { IfErr result (λ e. BreaksFrom last depth load full source.now tokens.old e) }
     ensures shorter { IfOk result (λ x. Shortens tokens.old x tokens.new) }
 {
     if depth == 0 {
@@ -296,8 +293,7 @@ fn steps(source: &Source, tokens: &mut Tokens, last: Keyword) -> Result<Body, St
     ensures reads { IfOk result (λ b. Reads (SpellsSteps source.now last) tokens.old b tokens.new) }
     ensures refused { IfErr result (λ e. RefusesBy
         (SpellsStepsBy last) source.now tokens.old e) }
-    ensures begins { IfErr result (λ e. BreaksOff always (λ text. SpellsFrom text last 0 false)
-        source.now tokens.old e) }
+    ensures begins { IfErr result (λ e. BreaksSteps last source.now tokens.old e) }
 {
     let mut steps = Items::new(source.alloc());
     let mut depth = 0;
@@ -329,8 +325,8 @@ pub fn body(source: &Source, tokens: &mut Tokens, last: Keyword) -> Result<Body,
         tokens.new) }
     ensures refused { IfErr result (λ e. RefusesAheadBy
         (SpellsBodyBy last) source.now tokens.old e) }
-    ensures begins { IfErr result (λ e. BreaksOff always (λ text. SpellsBody text last) source.now
-        tokens.old e) }
+    ensures begins { IfErr result (λ e. BreaksWith loose (λ b. b) (λ text. SpellsBody text last)
+        source.now tokens.old e) }
 {
     source.line_end(tokens)?;
     tokens.skip_lines();

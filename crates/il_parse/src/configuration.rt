@@ -7,7 +7,7 @@ ghost use Rattle.il_parse.specs.Ahead.{RefusesAhead};
 ghost use Rattle.il_parse.specs.Parts.{SpellsGlobalList, SpellsSomeGlobals, SpellsTasks, SpellsPrograms, SpellsLines, SpellsResourceOf, SpellsEnding, SpellsGroup, SpellsSmallConfig, SpellsConfigBy};
 ghost use Rattle.il_spec.specs.declared.keyword.Keyword.TheVariants as word;
 ghost use Rattle.il_grammar_laws.specs.GoesOn.{always, ended};
-ghost use Rattle.il_parse.specs.GoesOn.{stopped, SpellsAll};
+ghost use Rattle.il_parse.specs.GoesOn.{stopped, BreaksAll};
 
 use crate::units::units;
 use crate::variables::comes;
@@ -43,7 +43,8 @@ fn globals(source: &Source, tokens: &mut Tokens) -> Result<Globals, Stop>
     ensures reads { IfOk result (λ x. Reads (SpellsSomeGlobals source.now) tokens.old x
         tokens.new) }
     ensures refused { IfErr result (λ e. Refuses SpellsSomeGlobals source.now tokens.old e) }
-    ensures begins { IfErr result (λ e. BreaksOff always SpellsSomeGlobals source.now tokens.old e) }
+    ensures begins { IfErr result (λ e. BreaksOff always SpellsSomeGlobals source.now tokens.old e)
+        }
 {
     if !comes(source, tokens, Keyword::VarGlobal) {
         return Ok((None, Items::new(source.alloc())));
@@ -192,7 +193,7 @@ fn config_of(units: Items<Unit>, sizes: Sizes, globals: Globals, lines: Lines) -
 pub fn configuration(source: &Source, tokens: &mut Tokens) -> Result<Config, Stop>
     ensures reads { IfOk result (λ c. Reads (SpellsSmallConfig source.now) tokens.old c []) }
     ensures refused { IfErr result (λ e. RefusesBy SpellsConfigBy source.now tokens.old e) }
-    ensures begins { IfErr result (λ e. BreaksOff ended SpellsAll source.now tokens.old e) }
+    ensures begins { IfErr result (λ e. BreaksAll source.now tokens.old e) }
 {
     tokens.skip_lines();
     let units = units(source, tokens)?;

@@ -3,8 +3,9 @@
 ghost use Rattle.std.specs.Prelude.{IfOk, IfErr};
 ghost use Rattle.il_read.specs.Reads.{Reads, Refuses, RefusesBy, BreaksOff};
 ghost use Rattle.il_parse.specs.Headings.{PlacedScalar, SpellsResultAt, SpellsProgram, SpellsBlock, SpellsFunction, SpellsProgramBy, SpellsBlockBy, SpellsFunctionBy};
-ghost use Rattle.il_grammar_laws.specs.GoesOn.{always, quiet};
-ghost use Rattle.il_parse.specs.GoesOn.{SpellsWholeProgram, SpellsWholeBlock, SpellsWholeFunction};
+ghost use Rattle.il_grammar_laws.specs.GoesOn.{quiet};
+ghost use Rattle.il_spec.specs.Grammar.{tight};
+ghost use Rattle.il_parse.specs.GoesOn.{BreaksWith, SpellsWholeProgram, SpellsWholeBlock, SpellsWholeFunction};
 
 use crate::insides::{block_inside, function_inside, program_inside};
 use il_read::{Source, Stop, Tokens};
@@ -45,7 +46,8 @@ pub fn program(
 ) -> Result<(Place, Named, (Items<Declaration>, Items<Declaration>, Body)), Stop>
     ensures reads { IfOk result (λ x. Reads (SpellsProgram source.now) tokens.old x tokens.new) }
     ensures refused { IfErr result (λ e. RefusesBy SpellsProgramBy source.now tokens.old e) }
-    ensures begins { IfErr result (λ e. BreaksOff always SpellsWholeProgram source.now tokens.old e) }
+    ensures begins { IfErr result (λ e. BreaksWith tight (λ x. x.2.2) SpellsWholeProgram source.now
+        tokens.old e) }
 {
     let place = source.placed_word(tokens, Keyword::Program)?;
     tokens.skip_lines();
@@ -73,7 +75,8 @@ pub fn block(
 >
     ensures reads { IfOk result (λ x. Reads (SpellsBlock source.now) tokens.old x tokens.new) }
     ensures refused { IfErr result (λ e. RefusesBy SpellsBlockBy source.now tokens.old e) }
-    ensures begins { IfErr result (λ e. BreaksOff always SpellsWholeBlock source.now tokens.old e) }
+    ensures begins { IfErr result (λ e. BreaksWith tight (λ x. x.2.3) SpellsWholeBlock source.now
+        tokens.old e) }
 {
     let place = source.placed_word(tokens, Keyword::FunctionBlock)?;
     tokens.skip_lines();
@@ -97,8 +100,8 @@ pub fn function(
 >
     ensures reads { IfOk result (λ x. Reads (SpellsFunction source.now) tokens.old x tokens.new) }
     ensures refused { IfErr result (λ e. RefusesBy SpellsFunctionBy source.now tokens.old e) }
-    ensures begins { IfErr result (λ e. BreaksOff always SpellsWholeFunction source.now tokens.old
-        e) }
+    ensures begins { IfErr result (λ e. BreaksWith tight (λ x. x.3.2) SpellsWholeFunction source.now
+        tokens.old e) }
 {
     let place = source.placed_word(tokens, Keyword::Function)?;
     tokens.skip_lines();

@@ -1,11 +1,11 @@
 // What stands behind the heading of a unit (IEC 61131-3:2003, 2.5).
 
 ghost use Rattle.std.specs.Prelude.{IfOk, IfErr};
-ghost use Rattle.il_read.specs.Reads.{Reads, Refuses, BreaksOff};
+ghost use Rattle.il_read.specs.Reads.{Reads, Refuses};
 ghost use Rattle.il_parse.specs.Ahead.{RefusesAheadBy, RefusesAhead};
 ghost use Rattle.il_parse.specs.Insides.{SpellsProgramInside, SpellsBlockInside, SpellsFunctionInside, SpellsProgramInsideBy, SpellsBlockInsideBy, SpellsFunctionInsideBy};
-ghost use Rattle.il_grammar_laws.specs.GoesOn.{always};
-ghost use Rattle.il_parse.specs.GoesOn.{SpellsProgramRest, SpellsBlockRest, SpellsFunctionRest};
+ghost use Rattle.il_spec.specs.Grammar.{loose};
+ghost use Rattle.il_parse.specs.GoesOn.{BreaksWith, SpellsProgramRest, SpellsBlockRest, SpellsFunctionRest};
 
 use crate::bodies::body;
 use crate::variables::{externals, filled_list, full_list, no_list, optional_list};
@@ -23,7 +23,8 @@ pub fn program_inside(
         tokens.new) }
     ensures refused { IfErr result (λ e. RefusesAheadBy SpellsProgramInsideBy source.now tokens.old
         e) }
-    ensures begins { IfErr result (λ e. BreaksOff always SpellsProgramRest source.now tokens.old e) }
+    ensures begins { IfErr result (λ e. BreaksWith loose (λ x. x.2) SpellsProgramRest source.now
+        tokens.old e) }
 {
     no_list(source, tokens, Keyword::VarInput)?;
     no_list(source, tokens, Keyword::VarOutput)?;
@@ -48,8 +49,10 @@ pub fn block_inside(
 >
     ensures reads { IfOk result (λ x. Reads (SpellsBlockInside source.now) tokens.old x
         tokens.new) }
-    ensures refused { IfErr result (λ e. RefusesAheadBy SpellsBlockInsideBy source.now tokens.old e) }
-    ensures begins { IfErr result (λ e. BreaksOff always SpellsBlockRest source.now tokens.old e) }
+    ensures refused { IfErr result (λ e. RefusesAheadBy SpellsBlockInsideBy source.now tokens.old e)
+        }
+    ensures begins { IfErr result (λ e. BreaksWith loose (λ x. x.3) SpellsBlockRest source.now
+        tokens.old e) }
 {
     let inputs = filled_list(source, tokens, Keyword::VarInput)?;
     let outputs = filled_list(source, tokens, Keyword::VarOutput)?;
@@ -68,7 +71,8 @@ pub fn function_inside(
         tokens.new) }
     ensures refused { IfErr result (λ e. RefusesAheadBy
         SpellsFunctionInsideBy source.now tokens.old e) }
-    ensures begins { IfErr result (λ e. BreaksOff always SpellsFunctionRest source.now tokens.old e) }
+    ensures begins { IfErr result (λ e. BreaksWith loose (λ x. x.2) SpellsFunctionRest source.now
+        tokens.old e) }
 {
     let inputs = full_list(source, tokens, Keyword::VarInput)?;
     no_list(source, tokens, Keyword::VarOutput)?;

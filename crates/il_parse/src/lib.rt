@@ -5,11 +5,10 @@ ghost use Rattle.std.specs.Prelude.{◌≡◌, ◌<◌, ◌≤◌, length, IfOk,
 ghost use Rattle.il_spec.specs.Text.{AreTokens, upper_case, line_at};
 ghost use Rattle.il_spec.specs.Grammar.{AfterLines, SpellsConfig, Spells, IsWithinLimits};
 ghost use Rattle.il_spec.specs.declared.tree.Config.{Config};
-ghost use Rattle.il_read.specs.Reads.{Reads, Refuses, RefusesBy, BreaksOff};
+ghost use Rattle.il_read.specs.Reads.{Reads, Refuses, RefusesBy};
 ghost use Rattle.il_parse.specs.Refused.{IsFault, IsOfParser, IsSmall, GoesOnNowhere, NoTextGoesOn, GoesOnBefore};
 ghost use Rattle.il_parse.specs.Parts.{SpellsSmallConfig, SpellsConfigBy};
-ghost use Rattle.il_grammar_laws.specs.GoesOn.{ended};
-ghost use Rattle.il_parse.specs.GoesOn.{SpellsAll};
+ghost use Rattle.il_parse.specs.GoesOn.{BreaksAll};
 
 mod bodies;
 mod configuration;
@@ -56,7 +55,8 @@ pub fn parse(alloc: Global, text: &[u8], tokens: &[Token]) -> Result<Written, Re
     ensures nowhere { IfErr result (λ e. GoesOnNowhere text.now tokens.now e) }
     ensures texts { IfErr result (λ e. NoTextGoesOn text.now tokens.now e) }
 
-    // With the tokens before it, some text does, and with it too where only a limit forbids it.
+    // With the tokens before it, some text does, at most 16 parentheses deep. With it one does too where only a limit forbids it, and where there are too
+    // many of something, the first of these stands there.
     ensures before { IfErr result (λ e. GoesOnBefore text.now tokens.now e) }
 
     // What is refused is 10, what no text goes on with, 11, too many open parentheses, or 12, too many units or instructions.
@@ -81,7 +81,7 @@ fn read(alloc: Global, text: &[u8], tokens: &[Token]) -> Result<Config, Stop>
     requires { AreTokens text.now 0 tokens.now }
     ensures reads { IfOk result (λ c. Reads (SpellsSmallConfig text.now) tokens.now c []) }
     ensures refused { IfErr result (λ e. RefusesBy SpellsConfigBy text.now tokens.now e) }
-    ensures begins { IfErr result (λ e. BreaksOff ended SpellsAll text.now tokens.now e) }
+    ensures begins { IfErr result (λ e. BreaksAll text.now tokens.now e) }
 {
     let upper = in_upper_case(alloc, text)?;
     let source = Source::new(alloc, text, &upper);

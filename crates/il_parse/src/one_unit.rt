@@ -2,10 +2,10 @@
 
 ghost use Rattle.std.specs.Prelude.{IfOk, IfErr};
 ghost use Rattle.il_spec.specs.declared.keyword.Keyword.TheVariants as word;
-ghost use Rattle.il_read.specs.Reads.{Reads, RefusesBy, Refuses, BreaksOff};
+ghost use Rattle.il_read.specs.Reads.{Reads, RefusesBy, Refuses};
 ghost use Rattle.il_parse.specs.Units.{SpellsSmallUnit, SpellsUnitOf, SpellsUnitBy, SpellsUnitOfBy};
-ghost use Rattle.il_spec.specs.Grammar.{SpellsUnit};
-ghost use Rattle.il_grammar_laws.specs.GoesOn.{always};
+ghost use Rattle.il_spec.specs.Grammar.{tight, SpellsUnit};
+ghost use Rattle.il_parse.specs.GoesOn.{BreaksWith};
 
 use crate::headings::{block, function, program};
 use il_read::{Source, Stop, Tokens};
@@ -19,7 +19,8 @@ fn program_unit(source: &Source, tokens: &mut Tokens) -> Result<Unit, Stop>
         tokens.new) }
     ensures refused { IfErr result (λ e. RefusesBy
         (SpellsUnitOfBy word.Program) source.now tokens.old e) }
-    ensures begins { IfErr result (λ e. BreaksOff always SpellsUnit source.now tokens.old e) }
+    ensures begins { IfErr result (λ e. BreaksWith tight (λ u. u.body) SpellsUnit source.now
+        tokens.old e) }
 {
     let (place, name, (variables, externals, body)) = program(source, tokens)?;
     Ok(Unit {
@@ -40,7 +41,8 @@ fn block_unit(source: &Source, tokens: &mut Tokens) -> Result<Unit, Stop>
         tokens.old u tokens.new) }
     ensures refused { IfErr result (λ e. RefusesBy
         (SpellsUnitOfBy word.FunctionBlock) source.now tokens.old e) }
-    ensures begins { IfErr result (λ e. BreaksOff always SpellsUnit source.now tokens.old e) }
+    ensures begins { IfErr result (λ e. BreaksWith tight (λ u. u.body) SpellsUnit source.now
+        tokens.old e) }
 {
     let (place, name, (inputs, outputs, variables, body)) = block(source, tokens)?;
     Ok(Unit {
@@ -61,7 +63,8 @@ fn function_unit(source: &Source, tokens: &mut Tokens) -> Result<Unit, Stop>
         tokens.new) }
     ensures refused { IfErr result (λ e. RefusesBy
         (SpellsUnitOfBy word.Function) source.now tokens.old e) }
-    ensures begins { IfErr result (λ e. BreaksOff always SpellsUnit source.now tokens.old e) }
+    ensures begins { IfErr result (λ e. BreaksWith tight (λ u. u.body) SpellsUnit source.now
+        tokens.old e) }
 {
     let (place, name, (result_place, scalar), (inputs, variables, body)) = function(
         source, tokens,
@@ -82,7 +85,8 @@ fn function_unit(source: &Source, tokens: &mut Tokens) -> Result<Unit, Stop>
 pub fn unit(source: &Source, tokens: &mut Tokens) -> Result<Unit, Stop>
     ensures reads { IfOk result (λ u. Reads (SpellsSmallUnit source.now) tokens.old u tokens.new) }
     ensures refused { IfErr result (λ e. RefusesBy SpellsUnitBy source.now tokens.old e) }
-    ensures begins { IfErr result (λ e. BreaksOff always SpellsUnit source.now tokens.old e) }
+    ensures begins { IfErr result (λ e. BreaksWith tight (λ u. u.body) SpellsUnit source.now
+        tokens.old e) }
 {
     if source.word_stands(tokens, Keyword::Program) {
         return program_unit(source, tokens);

@@ -1,8 +1,7 @@
 // The units of a text.
 
-ghost use Rattle.il_grammar_laws.specs.GoesOn.{always};
-ghost use Rattle.il_read.specs.Reads.{BreaksOff, Reads, Refuses, fault_at, turn, RefusesBy};
-ghost use Rattle.il_parse.specs.GoesOn.{SpellsAllUnits};
+ghost use Rattle.il_read.specs.Reads.{Reads, Refuses, fault_at, turn, RefusesBy};
+ghost use Rattle.il_parse.specs.GoesOn.{BreaksUnits};
 ghost use Rattle.std.specs.Prelude.{◌≡◌, length, IsTrue, IsFalse, IfOk, IfErr, ◌⊎◌};
 ghost use Rattle.il_read.specs.declared.stop.SyntaxError.{SyntaxError};
 ghost use Rattle.il_parse.specs.Parts.{SpellsFewUnits, SpellsFewUnitsBy};
@@ -43,7 +42,7 @@ fn surplus(source: &Source, tokens: &Tokens) -> Stop
 pub fn units(source: &Source, tokens: &mut Tokens) -> Result<Items<Unit>, Stop>
     ensures reads { IfOk result (λ us. Reads (SpellsFewUnits source.now) tokens.old us tokens.new) }
     ensures refused { IfErr result (λ e. RefusesBy SpellsFewUnitsBy source.now tokens.old e) }
-    ensures begins { IfErr result (λ e. BreaksOff always SpellsAllUnits source.now tokens.old e) }
+    ensures begins { IfErr result (λ e. BreaksUnits source.now tokens.old e) }
 {
     let mut units = Items::new(source.alloc());
     'units: while !source.eat_word(tokens, Keyword::Configuration) {

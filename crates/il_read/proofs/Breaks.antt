@@ -7,8 +7,7 @@ use Rattle.il_spec.specs.Grammar.{Front, Gap, tight, loose, skip_line_ends, ◌�
 use Rattle.il_grammar_laws.specs.GoesOn.{Sample, Test, always, quiet, calm, IsSampled, Begins}
 use Rattle.il_grammar_laws.proofs.Open.{Fills}
 use Rattle.il_grammar_laws.proofs.GoesOn.{is_solid, is_calm, is_still, stays_tight, stays_loose, passes_quiet, passes_calm, passes_always, tight_cut, loose_cut, reach_tight, reach_loose, then_sampled, behind_sampled, IsFilling, begins_here, begins_first, begins_later, begins_behind, begins_as, begins_under, begins_at}
-use Rattle.il_read.specs.Reads.{IsFault, Reads, Stands, BreaksOff, NamesFirst, kept}
-use Rattle.il_read.specs.declared.stop.SyntaxError.TheVariants.{Unexpected}
+use Rattle.il_read.specs.Reads.{IsFault, Reads, Stands, BreaksOff, NamesFirst}
 use Rattle.il_read.specs.declared.stop.Stop.{Stop}
 use Rattle.il_read.specs.declared.stop.Stop.TheVariants as stop
 
@@ -19,11 +18,11 @@ memory_breaks same = record { fault = λ f. absurd (subst IsFault same f) }
 -- where one rule breaks off, another does
 pub as_breaks : {A B : Type 0} {P : List ℕ → A → Front} {Q : List ℕ → B → Front} {first second : Test} {text : List ℕ} {ts us : List Token} {e : Stop}
     → ((at : List Token) → Begins first P text ts at → Begins second Q text us at) → BreaksOff first P text ts e → BreaksOff second Q text us e
-as_breaks f bad = record { fault = λ is. let b = bad.fault is in (b.0, b.1, b.2, b.3, f b.1 b.4, f (kept b.0 b.1) b.5) }
+as_breaks f bad = record { fault = λ is. let b = bad.fault is in (b.0, b.1, f b.0 b.2) }
 
 -- the first token is named
 pub at_first : {A : Type 0} {P : List ℕ → A → Front} {test : Test} {ss : List Sample} {text : List ℕ} {ts : List Token} {e : Stop} → IsSampled test P ss → NamesFirst ts e → BreaksOff test P text ts e
-at_first {text = text} {ts = ts} p bad = record { fault = λ is. (Unexpected, ts, bad is, tt, begins_here p text ts, begins_here p text ts) }
+at_first {text = text} {ts = ts} p bad = record { fault = λ is. (ts, bad is, begins_here p text ts) }
 
 -- an error goes up as it is
 pub up_breaks : {X A : Type 0} {test : Test} {P : List ℕ → A → Front} {text : List ℕ} {ts : List Token} {e : Stop} (r : Result X Stop) → IsErrAnd r (λ y. y ≡ e) → BreaksOff test P text ts e

@@ -30,12 +30,13 @@ use Rattle.il_read.specs.declared.operand.Selector.{Selector}
 use Rattle.il_read.specs.declared.operand.Selector.TheVariants as selector
 use Rattle.il_read.specs.declared.operand.Passed.{Passed}
 use Rattle.il_read.specs.declared.operand.Passed.TheVariants as passed
-use Rattle.il_read.specs.Reads.{Reads, BreaksOff, NamesFirst, test_of, gap_of, SpellsRange, SpellsElementType, SpellsLine, SpellsInside, SpellsOpened, SpellsListed, AnyNamed, BreaksOffAs, SpellsWorkOf, SpellsRoomyOf, Effect, kept, fault_at}
+use Rattle.il_read.specs.Reads.{Reads, BreaksOff, NamesFirst, test_of, gap_of, SpellsRange, SpellsElementType, SpellsLine, SpellsInside, SpellsOpened, SpellsListed, AnyNamed, BreaksOffAs, SpellsWorkOf, SpellsRoomyOf, Effect, Further, fault_at}
 use Rattle.il_read.specs.Reads.Effect.{Even, Opening}
 use Rattle.il_read.specs.Operands.{SpellsElement, SpellsSelector, SpellsSelected, SpellsPassed, reference_of, argument_of}
 use Rattle.il_read.specs.Settings.{AnInterval, PlacedWord, PlacedDecimal, SpellsSized, SpellsPriority, SpellsSchedule, SpellsTimes, SpellsProgramName, SpellsBound, SpellsWith, SpellsFloors, IsSizeWord}
 use Rattle.il_read.specs.declared.stop.Stop.{Stop}
-use Rattle.il_read.specs.declared.stop.SyntaxError.TheVariants.{Unexpected, TooDeep}
+use Rattle.il_read.specs.declared.stop.SyntaxError.{SyntaxError}
+use Rattle.il_read.specs.declared.stop.SyntaxError.TheVariants.{Unexpected, TooDeep, TooMany}
 use Rattle.il_read.proofs.Instructions.{work_read}
 use Rattle.il_read.proofs.Chain.{HasRead, Wants}
 use Rattle.il_read.proofs.Breaks.{as_breaks, at_first, map_breaks, s_loose, s_part, s_part_tight}
@@ -191,28 +192,34 @@ pub any_passed_sampled : {test : Test} → IsSampled test (λ text. SpellsPassed
 any_passed_sampled = any_sampled (map_sampled passed.Input (λ x other us r w. w) passed_sampled)
 
 -- what stands behind an operator, and an instruction
-pub work_sampled : (room : Bool) (op : Operator) → IsSampled always (λ text. SpellsWorkOf text room op Even) (true_sample ∷ line_end_sample ∷ [])
+pub work_sampled : (room : Bool) (op : Operator) → IsSampled always (λ text. SpellsWorkOf op text room Even) (true_sample ∷ line_end_sample ∷ [])
 work_sampled room op = map_sampled (λ (o : Operand). instruction.Operate op o) (λ x other us r w. (refl, (refl, w))) operand_line_sampled
 
 pub roomy_sampled : (room : Bool) → IsSampled always (λ text. SpellsRoomyOf text room Even) (word_sample word.Not ∷ line_end_sample ∷ [])
 roomy_sampled room = map_sampled (λ (u : Unit {0}). instruction.Not) (λ x other us r w. (refl, (tt, w))) (s_part_tight (word_sampled word.Not) line_end_sampled)
 
 -- of one effect
-pub as_effect : {A : Type 0} {P : List ℕ → Effect → A → Front} {text : List ℕ} {ts : List Token} {e : Stop} (effect : Effect) → BreaksOff always (λ text. P text effect) text ts e → BreaksOffAs P text ts e
-as_effect effect bad = record { fault = λ is. let b = bad.fault is in (b.0, b.1, b.2, b.3, effect, b.4, effect, b.5) }
+pub as_effect : {A : Type 0} {P : List ℕ → Bool → Effect → A → Front} {room : Bool} {text : List ℕ} {ts : List Token} {e : Stop} (effect : Effect) → BreaksOff always (λ text. P text room effect) text ts e → BreaksOffAs P room text ts e
+as_effect effect bad = record { fault = λ is. let b = bad.fault is in (Unexpected, b.0, b.1, effect, b.2, tt) }
 
-pub roomy_first : {text : List ℕ} {ts : List Token} {e : Stop} (room : Bool) → NamesFirst ts e → BreaksOffAs (λ text. SpellsRoomyOf text room) text ts e
+pub roomy_first : {text : List ℕ} {ts : List Token} {e : Stop} (room : Bool) → NamesFirst ts e → BreaksOffAs SpellsRoomyOf room text ts e
 roomy_first room bad = as_effect Even (at_first (roomy_sampled room) bad)
 
 -- what stands behind an operator breaks off at a parenthesis that opens: with it goes on what does not count the parentheses
-pub deep_breaks : {text : List ℕ} {e : Stop} (op : Operator) (ts m : List Token) → TheSign OpenParenthesis ts m → e ≡ fault_at TooDeep ts → BreaksOffAs (λ text. SpellsWorkOf text true op) text ts e
+pub deep_breaks : {text : List ℕ} {e : Stop} {room : Bool} (op : Operator) (ts m : List Token) → TheSign OpenParenthesis ts m → e ≡ fault_at TooDeep ts → BreaksOffAs (SpellsWorkOf op) room text ts e
 deep_breaks op [] m here same = absurd here
-deep_breaks {text = text} op (t ∷ ts) m here same = record { fault = λ is. (TooDeep, t ∷ ts, same, (t, ts, refl), Even, begins_here (work_sampled true op) text (t ∷ ts), Opening false, behind) }
+deep_breaks {text = text} {room = room} op (t ∷ ts) m here same = record { fault = λ is. (TooDeep, t ∷ ts, same, Even, begins_here (work_sampled room op) text (t ∷ ts), (t, ts, refl, (refl, Opening false, behind))) }
   where
-    behind : Begins always (λ text. SpellsWorkOf text true op (Opening false)) text (t ∷ ts) ts
+    behind : Begins always (λ text. SpellsWorkOf op text true (Opening false)) text (t ∷ ts) ts
     behind =
-        begins_as {P = λ text (o : Operand). TheSign OpenParenthesis ⨾ SpellsLine text o} {Q = λ text. SpellsWorkOf text true op (Opening false)} (λ o. instruction.Defer op (Some o)) (λ x other us r w. (refl, (refl, refl, w)))
+        begins_as {P = λ text (o : Operand). TheSign OpenParenthesis ⨾ SpellsLine text o} {Q = λ text. SpellsWorkOf op text true (Opening false)} (λ o. instruction.Defer op (Some o)) (λ x other us r w. (refl, (refl, refl, w)))
         (begins_behind tight_cut (reach_tight tight_cut) (sign_fills OpenParenthesis) (here.0, refl) operand_line_sampled passes_always stays_tight (begins_here operand_line_sampled text ts))
+
+-- what holds of a token that only a limit forbids gives what else does
+pub further_as : {B C : SyntaxError → Token → List Token → Type 0} (error : SyntaxError) (at : List Token) → ((error : SyntaxError) (t : Token) (back : List Token) → at ≡ t ∷ back → B error t back → C error t back) → Further B error at → Further C error at
+further_as Unexpected at f more = tt
+further_as TooDeep at f more = (more.0, more.1, more.2, f TooDeep more.0 more.1 more.2 more.3)
+further_as TooMany at f more = (more.0, more.1, more.2, f TooMany more.0 more.1 more.2 more.3)
 
 -- an error goes up as it is
 pub up_so : {X : Type 0} (B : Stop → Type 0) {e : Stop} (r : Result X Stop) → IsErrAnd r (λ y. y ≡ e) → B e → IfErr r B
@@ -220,29 +227,27 @@ up_so B (Err y) same bad = subst B (sym same) bad
 up_so B (Ok x) same bad = tt
 
 -- an operator stands there, and what follows breaks off
-pub operator_breaks : {text : List ℕ} {ts m : List Token} {e : Stop} (room : Bool) (op : Operator) → SpellsOperator text op ts m → BreaksOffAs (λ text. SpellsWorkOf text room op) text m e
-    → BreaksOffAs (λ text. SpellsRoomyOf text room) text ts e
+pub operator_breaks : {text : List ℕ} {ts m : List Token} {e : Stop} (room : Bool) (op : Operator) → SpellsOperator text op ts m → BreaksOffAs (SpellsWorkOf op) room text m e → BreaksOffAs SpellsRoomyOf room text ts e
 operator_breaks {text = text} {ts = ts} {m = m} room op here bad = record {
   fault = λ is.
       let b = bad.fault is in
-      let g = go b.1 b.4 b.5 (whole_or b.1 m b.5.inside) in
-      let k = go (kept b.0 b.1) b.6 b.7 (whole_or (kept b.0 b.1) m b.7.inside) in
-      (b.0, b.1, b.2, b.3, g.0, g.1, k.0, k.1);
+      let g = go room b.1 b.3 b.4 (whole_or b.1 m b.4.inside) in
+      (b.0, b.1, b.2, g.0, g.1, further_as {B = λ error t back. (error ≡ TooDeep) × (more : Effect) × Begins always (λ text. SpellsWorkOf op text true more) text m back} {C = λ error t back. (error ≡ TooDeep) × (more : Effect) × Begins always (λ text. SpellsRoomyOf text true more) text ts back} b.0 b.1 (λ error t back same k. let g = go true back k.1 k.2 (whole_or back m k.2.inside) in (k.0, g.0, g.1)) b.5);
 }
   where
-    seen : (effect : Effect) (at : List Token) → Begins always (λ text (i : Instruction). SpellsOperator text op ⨾ SpellsWorkOf text room op effect i) text ts at → Begins always (λ text. SpellsRoomyOf text room effect) text ts at
-    seen effect at b =
-        begins_as {P = λ text (i : Instruction). SpellsOperator text op ⨾ SpellsWorkOf text room op effect i} {Q = λ text. SpellsRoomyOf text room effect} (λ i. i)
+    seen : (room : Bool) (effect : Effect) (at : List Token) → Begins always (λ text (i : Instruction). SpellsOperator text op ⨾ SpellsWorkOf op text room effect i) text ts at → Begins always (λ text. SpellsRoomyOf text room effect) text ts at
+    seen room effect at b =
+        begins_as {P = λ text (i : Instruction). SpellsOperator text op ⨾ SpellsWorkOf op text room effect i} {Q = λ text. SpellsRoomyOf text room effect} (λ i. i)
         (λ i other us r w. (w.2.0, (work_read other room op us w.0 r i w.1 (record { found = w.2.1 })).found)) b
 
-    go : (at : List Token) (effect : Effect) → Begins always (λ text. SpellsWorkOf text room op effect) text m at → ((at ≡ m) ⊎ (length at < length m)) → (effect : Effect) × Begins always (λ text. SpellsRoomyOf text room effect) text ts at
-    go at effect b (inl edge) = (
+    go : (room : Bool) (at : List Token) (effect : Effect) → Begins always (λ text. SpellsWorkOf op text room effect) text m at → ((at ≡ m) ⊎ (length at < length m)) → (effect : Effect) × Begins always (λ text. SpellsRoomyOf text room effect) text ts at
+    go room at effect b (inl edge) = (
       Even,
-      seen Even at
-          (subst (λ k. Begins always (λ text (i : Instruction). SpellsOperator text op ⨾ SpellsWorkOf text room op Even i) text ts k) (sym edge)
+      seen room Even at
+          (subst (λ k. Begins always (λ text (i : Instruction). SpellsOperator text op ⨾ SpellsWorkOf op text room Even i) text ts k) (sym edge)
           (begins_behind tight_cut (reach_tight tight_cut) (operator_fills op) here (work_sampled room op) (passes_calm refl) stays_tight (begins_here (work_sampled room op) text m))),
     )
-    go at effect b (inr less) = (effect, seen effect at (begins_inside tight_cut (reach_tight tight_cut) (operator_fills op).opens here less b))
+    go room at effect b (inr less) = (effect, seen room effect at (begins_inside tight_cut (reach_tight tight_cut) (operator_fills op).opens here less b))
 
 pub form_filling : IsFilling loose quiet (λ text. SpellsForm text)
 form_filling = record { one = form_fills }
@@ -341,4 +346,4 @@ module _ {A : Type 0} {gap : Gap} {P : List ℕ → A → Front} {E : List ℕ �
 
   pub at_list_end : {look : Gap} {m : List Token} {x : A} → IsCutGap gap → Reaches gap look → IsFilling look first P → IsSampled second (λ text (u : Unit {0}). E text) es → Passes first es second → Stays gap es second
       → Wants gap P E text start xs ts → Reads (P text) ts x m → NamesFirst (gap m) e → BreaksOff second (λ text ys. Listed gap (P text) ys (E text)) text start e
-  at_list_end {m = m} cut far fill end passes stays so_far here bad = record { fault = λ is. let b = wanted_end cut far fill end passes stays so_far.gone here.found in (Unexpected, gap m, bad is, tt, b, b) }
+  at_list_end {m = m} cut far fill end passes stays so_far here bad = record { fault = λ is. (gap m, bad is, wanted_end cut far fill end passes stays so_far.gone here.found) }

@@ -8,6 +8,7 @@ use Rattle.il_grammar_laws.proofs.Configurations.{config_one}
 use Rattle.il_grammar_laws.proofs.Spelled.{spelled_written}
 use Rattle.il_grammar_laws.proofs.Alike.{alike_self}
 use Rattle.il_parse.proofs.Rests.{text_goes_on, text_goes_on_with}
+use Rattle.il_rules.specs.Written.{IsNested}
 use Rattle.il_parse.proofs.parse.Goals as goal
 
 pub returns-in-Ok-clause-found : goal.returns-in-Ok-clause-found
@@ -64,8 +65,8 @@ returns-in-Err-Fault-clause-before c =
       bad.0,
       bad.1,
       c.number.ensures ∙ ap number_of parts.0,
-      bad.4.inside,
+      bad.3.inside,
       subst (λ x. IsPlaceAt c.args.text.now x bad.1) (sym c.unwrap_or.ensures) parts.1,
-      text_goes_on c.args.text.now c.args.tokens.now bad.1 c.requires bad.4,
-      text_goes_on_with bad.0 c.args.text.now c.args.tokens.now bad.1 c.requires bad.3 bad.5,
+      text_goes_on IsNested c.args.text.now c.args.tokens.now bad.1 c.requires bad.3,
+      text_goes_on_with bad.0 c.args.text.now c.args.tokens.now bad.1 c.requires bad.4,
     )

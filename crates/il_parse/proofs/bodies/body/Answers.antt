@@ -1,7 +1,7 @@
 use Rattle.il_parse.proofs.Ahead.{no_line_end, no_steps}
-use Rattle.il_read.proofs.Breaks.{at_first, up_breaks}
-use Rattle.il_parse.proofs.Begun.{body_breaks}
-use Rattle.il_grammar_laws.proofs.Samples.{body_sampled}
+use Rattle.il_read.proofs.Breaks.{at_first}
+use Rattle.il_parse.proofs.Ahead.{up_so}
+use Rattle.il_parse.proofs.Begun.{body_breaks, body_within, plainly}
 use Rattle.il_parse.specs.Bodies.{SpellsBodyBy}
 use Rattle.il_parse.proofs.ByError.{up_ahead_by}
 use Rattle.il_parse.proofs.bodies.body.Goals as goal
@@ -14,7 +14,7 @@ returns-in_err-steps-clause-refused c =
     up_ahead_by (SpellsBodyBy c.args.last) _ c.from_residual-in_err-steps.ensures.1 (no_steps _ _ _ _ _ c.in_ok-line_end.ensures.reads (rw c.skip_lines.ensures.rest at c.in_err-steps.ensures.refused))
 
 pub returns-in_err-line_end-clause-begins : goal.returns-in_err-line_end-clause-begins
-returns-in_err-line_end-clause-begins c = up_breaks _ c.from_residual.ensures.1 (at_first (body_sampled c.args.last) c.in_err-line_end.ensures.first)
+returns-in_err-line_end-clause-begins c = up_so _ _ c.from_residual.ensures.1 (plainly (at_first (body_within c.args.last) c.in_err-line_end.ensures.first))
 
 pub returns-in_err-steps-clause-begins : goal.returns-in_err-steps-clause-begins
-returns-in_err-steps-clause-begins c = up_breaks _ c.from_residual-in_err-steps.ensures.1 (body_breaks c.args.last c.in_ok-line_end.ensures.reads (rw c.skip_lines.ensures.rest at c.in_err-steps.ensures.begins))
+returns-in_err-steps-clause-begins c = up_so _ _ c.from_residual-in_err-steps.ensures.1 (body_breaks c.args.last c.in_ok-line_end.ensures.reads (rw c.skip_lines.ensures.rest at c.in_err-steps.ensures.begins))

@@ -2,11 +2,11 @@ use Rattle.il_read.proofs.ByError.{up_by}
 use Rattle.il_parse.specs.Bodies.{SpellsNextBy}
 use Rattle.il_parse.proofs.Entries.{inner_refused}
 use Rattle.il_parse.proofs.Begun.{inner_breaks}
-use Rattle.il_read.proofs.Breaks.{up_breaks}
+use Rattle.il_parse.proofs.Ahead.{up_so}
 use Rattle.il_parse.proofs.bodies.next_entry.Goals as goal
 
 pub returns-in_err-place-clause-refused : goal.returns-in_err-place-clause-refused
 returns-in_err-place-clause-refused c = up_by (SpellsNextBy c.args.last c.args.depth c.args.load c.args.full) _ c.from_residual.ensures.1 (inner_refused c.args.source.now _ _ _ _ _ _ c.if-depth-eq0.false c.in_err-place.ensures.refused)
 
 pub returns-in_err-place-clause-begins : goal.returns-in_err-place-clause-begins
-returns-in_err-place-clause-begins c = up_breaks _ c.from_residual.ensures.1 (inner_breaks c.args.last c.args.depth c.args.load (c.in_err-place.ensures.begins c.args.last))
+returns-in_err-place-clause-begins c = up_so _ _ c.from_residual.ensures.1 (inner_breaks c.args.last c.args.depth c.args.load c.args.full (c.in_err-place.ensures.begins c.args.last))

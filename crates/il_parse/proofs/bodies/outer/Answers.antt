@@ -3,8 +3,9 @@ use Rattle.il_read.specs.Lead.{lead_at}
 use Rattle.il_read.proofs.ByError.{up_by}
 use Rattle.il_parse.specs.Bodies.{SpellsNextBy}
 use Rattle.il_parse.proofs.Entries.{outer_refused}
-use Rattle.il_read.proofs.Breaks.{memory_breaks, up_breaks}
-use Rattle.il_parse.proofs.Begun.{outer_breaks}
+use Rattle.il_read.proofs.Breaks.{memory_breaks}
+use Rattle.il_parse.proofs.Ahead.{up_so}
+use Rattle.il_parse.proofs.Begun.{outer_breaks, plainly}
 use Rattle.il_parse.proofs.bodies.outer.Goals as goal
 
 pub returns-in-Some-clause-reads : goal.returns-in-Some-clause-reads
@@ -30,9 +31,9 @@ placed-requires-clause-lead c =
     c.lead-lead.ensures ∙ ap (lead_at c.args.source.now) (sym none.0)
 
 pub returns-in_err-labels-clause-begins : goal.returns-in_err-labels-clause-begins
-returns-in_err-labels-clause-begins c = up_breaks _ c.from_residual.ensures.1 (memory_breaks c.in_err-labels.ensures.memory)
+returns-in_err-labels-clause-begins c = up_so _ _ c.from_residual.ensures.1 (plainly (memory_breaks c.in_err-labels.ensures.memory))
 
 pub returns-in_err-place-clause-begins : goal.returns-in_err-place-clause-begins
 returns-in_err-place-clause-begins c =
     let none = rw c.in_default.is at c.eat_end.ensures.takes in
-    up_breaks _ c.from_residual-in_err-place.ensures.1 (outer_breaks c.args.last c.args.load c.in_ok-labels.ensures.labels (rw none.0 at (c.in_err-place.ensures.begins c.args.last)))
+    up_so _ _ c.from_residual-in_err-place.ensures.1 (outer_breaks c.args.last c.args.load c.args.full c.in_ok-labels.ensures.labels (rw none.0 at (c.in_err-place.ensures.begins c.args.last)))

@@ -6,7 +6,7 @@ use Rattle.il_parse.specs.Bodies.{SpellsStepsBy}
 use Rattle.il_read.proofs.Nesting.{none_open}
 use Rattle.il_parse.proofs.Entries.{steps_refused, steps_read, step_on, open_on, few_on}
 use Rattle.il_parse.proofs.Begun.{steps_breaks}
-use Rattle.il_read.proofs.Breaks.{up_breaks}
+use Rattle.il_parse.proofs.Ahead.{up_so}
 use Rattle.il_parse.proofs.bodies.steps.Goals as goal
 
 pub returns-in_err-labels-clause-refused : goal.returns-in_err-labels-clause-refused
@@ -33,4 +33,4 @@ pub steps-init : goal.steps-init
 steps-init c = rw c.new-steps.ensures (omega arith, omega arith, (0, omega arith, none_open), λ b. starts _ _ _ _)
 
 pub returns-in_err-labels-clause-begins : goal.returns-in_err-labels-clause-begins
-returns-in_err-labels-clause-begins c = up_breaks _ c.from_residual.ensures.1 (steps_breaks c.args.last c.steps.depth c.steps.load c.steps.invariant.2.2 c.steps.invariant.3 c.in_err-labels.ensures.begins)
+returns-in_err-labels-clause-begins c = up_so _ _ c.from_residual.ensures.1 (steps_breaks c.args.last c.steps.depth c.steps.load c.is_full-full.result c.steps.invariant.0 c.steps.invariant.2.1 c.is_full-full.ensures.yes c.steps.invariant.2.2 c.steps.invariant.3 c.in_err-labels.ensures.begins)

@@ -1,15 +1,12 @@
-use Rattle.il_spec.specs.Grammar.{loose, skip_line_ends}
+use Rattle.il_parse.proofs.Surplus.{text_units_break, text_group_break}
+use Rattle.il_parse.proofs.Ahead.{up_so}
+use Rattle.il_spec.specs.Grammar.{loose}
 use Rattle.il_read.proofs.Chain.{first, later, part}
 use Rattle.il_parse.specs.Parts.{SpellsGroup, SpellsConfigBy}
-use Rattle.il_parse.proofs.Parts.{config_read, config_refused, few_units_local, config, from_small_units, whole_config}
+use Rattle.il_parse.proofs.Parts.{config_read, config_refused, few_units_local}
 use Rattle.il_read.proofs.ByError.{up_by}
 use Rattle.il_parse.proofs.UnitsByError.{units_by_read}
 use Rattle.il_grammar_laws.proofs.Alike.{loose_gap}
-use Rattle.il_parse.specs.GoesOn.{SpellsAll}
-use Rattle.il_read.proofs.Breaks.{first_loose, later_loose, map_breaks, s_loose, up_breaks}
-use Rattle.il_parse.proofs.Rests.{group_sampled, units_end_sampled, units_filling}
-use Rattle.il_read.proofs.Completions.{lines_break}
-use Rattle.std.proofs.Common.{refl}
 use Rattle.il_parse.proofs.configuration.configuration.Goals as goal
 
 pub returns-in_err-units-clause-refused : goal.returns-in_err-units-clause-refused
@@ -29,7 +26,8 @@ returns-clause-reads c =
     (config_read c.args.source.now _ _ _ _ (record { found = (_, (rw c.skip_lines.ensures.rest at c.in_ok-units.ensures.reads).found, (rw c.skip_lines-2.ensures.rest at c.in_ok-sizes.ensures.reads).found) }))
 
 pub returns-in_err-units-clause-begins : goal.returns-in_err-units-clause-begins
-returns-in_err-units-clause-begins c = up_breaks _ c.from_residual.ensures.1 (map_breaks {Q = SpellsAll} (λ x. config x.0 x.1) (λ x other us r w. whole_config other x.0 x.1 (skip_line_ends us) r w) (lines_break (s_loose units_end_sampled group_sampled refl) refl (first_loose group_sampled refl (rw c.skip_lines.ensures.rest at c.in_err-units.ensures.begins))))
+returns-in_err-units-clause-begins c = up_so _ _ c.from_residual.ensures.1 (text_units_break (rw c.skip_lines.ensures.rest at c.in_err-units.ensures.begins))
 
 pub returns-in_err-sizes-clause-begins : goal.returns-in_err-sizes-clause-begins
-returns-in_err-sizes-clause-begins c = up_breaks _ c.from_residual-in_err-sizes.ensures.1 (map_breaks {Q = SpellsAll} (λ x. config x.0 x.1) (λ x other us r w. whole_config other x.0 x.1 (skip_line_ends us) r w) (lines_break (s_loose units_end_sampled group_sampled refl) refl (later_loose units_filling (record { found = from_small_units c.args.source.now (rw c.skip_lines.ensures.rest at c.in_ok-units.ensures.reads) }) group_sampled refl (rw c.skip_lines-2.ensures.rest at c.in_err-sizes.ensures.begins))))
+returns-in_err-sizes-clause-begins c =
+    up_so _ _ c.from_residual-in_err-sizes.ensures.1 (text_group_break (rw c.skip_lines.ensures.rest at c.in_ok-units.ensures.reads) (rw c.skip_lines-2.ensures.rest at c.in_err-sizes.ensures.begins))

@@ -1,3 +1,8 @@
+use Rattle.il_parse.proofs.Begun.{plainly}
+use Rattle.il_parse.proofs.Shallow.{Headed, mapped, headed_sampled, headed_name, headed_on, program_within}
+use Rattle.il_parse.specs.GoesOn.{SpellsProgramRest, SpellsWholeProgram}
+use Rattle.il_parse.proofs.Ahead.{up_so}
+use Rattle.std.proofs.Common.{refl}
 use Rattle.il_spec.specs.declared.keyword.Keyword.TheVariants as word
 use Rattle.il_spec.specs.Grammar.{tight, loose, ◌⨾◌, TheName}
 use Rattle.il_parse.specs.Headings.{SpellsProgramBy}
@@ -7,10 +12,8 @@ use Rattle.il_read.proofs.ByError.{up_by}
 use Rattle.il_grammar_laws.proofs.Local.{the_name_local, placed_word_local}
 use Rattle.il_grammar_laws.proofs.Alike.{tight_gap, loose_gap}
 use Rattle.il_parse.proofs.Ahead.{forget}
-use Rattle.il_read.proofs.Breaks.{at_first, later_loose, later_tight, map_breaks, s_loose, s_tight, up_breaks}
-use Rattle.il_read.proofs.Completions.{placed_word_filling, the_name_filling}
-use Rattle.il_grammar_laws.proofs.Samples.{placed_word_sampled, the_name_sampled}
-use Rattle.il_parse.proofs.Rests.{program_rest_sampled}
+use Rattle.il_read.proofs.Breaks.{at_first, s_tight}
+use Rattle.il_grammar_laws.proofs.Samples.{the_name_sampled}
 use Rattle.std.proofs.Common.{refl}
 use Rattle.il_parse.proofs.headings.program.Goals as goal
 
@@ -36,13 +39,12 @@ pub returns-clause-reads : goal.returns-clause-reads
 returns-clause-reads c = record { found = (_, c.in_ok-place.ensures.reads.found, (_, (rw c.skip_lines.ensures.rest at c.in_ok-name.ensures.reads).found, c.in_ok-inside.ensures.reads.found)) }
 
 pub returns-in_err-place-clause-begins : goal.returns-in_err-place-clause-begins
-returns-in_err-place-clause-begins c =
-    up_breaks _ c.from_residual.ensures.1 (map_breaks (λ x. (x.0, x.1.0, x.1.1)) (λ x other us r w. w) (at_first (s_loose (placed_word_sampled word.Program) (s_tight (the_name_sampled) (program_rest_sampled)) refl) c.in_err-place.ensures.first))
+returns-in_err-place-clause-begins c = up_so _ _ c.from_residual.ensures.1 (mapped (Headed word.Program SpellsProgramRest) SpellsWholeProgram (λ x. x.1.1.2) (λ x. x.2.2) (λ x. (x.0, x.1.0, x.1.1)) (λ x. refl) (λ x other us r w. w) (plainly (at_first (headed_sampled word.Program SpellsProgramRest (λ x. x.2) program_within) c.in_err-place.ensures.first)))
 
 pub returns-in_err-name-clause-begins : goal.returns-in_err-name-clause-begins
 returns-in_err-name-clause-begins c =
-    up_breaks _ c.from_residual-in_err-name.ensures.1 (map_breaks (λ x. (x.0, x.1.0, x.1.1)) (λ x other us r w. w) (later_loose (placed_word_filling word.Program) c.in_ok-place.ensures.reads (s_tight (the_name_sampled) (program_rest_sampled)) refl (at_first (s_tight (the_name_sampled) (program_rest_sampled)) (rw c.skip_lines.ensures.rest at c.in_err-name.ensures.first))))
+    up_so _ _ c.from_residual-in_err-name.ensures.1 (mapped (Headed word.Program SpellsProgramRest) SpellsWholeProgram (λ x. x.1.1.2) (λ x. x.2.2) (λ x. (x.0, x.1.0, x.1.1)) (λ x. refl) (λ x other us r w. w) (headed_name word.Program SpellsProgramRest (λ x. x.2) program_within c.in_ok-place.ensures.reads (at_first (s_tight the_name_sampled program_within) (rw c.skip_lines.ensures.rest at c.in_err-name.ensures.first))))
 
 pub returns-in_err-inside-clause-begins : goal.returns-in_err-inside-clause-begins
 returns-in_err-inside-clause-begins c =
-    up_breaks _ c.from_residual-in_err-inside.ensures.1 (map_breaks (λ x. (x.0, x.1.0, x.1.1)) (λ x other us r w. w) (later_loose (placed_word_filling word.Program) c.in_ok-place.ensures.reads (s_tight (the_name_sampled) (program_rest_sampled)) refl (later_tight (the_name_filling) (rw c.skip_lines.ensures.rest at c.in_ok-name.ensures.reads) (program_rest_sampled) c.in_err-inside.ensures.begins)))
+    up_so _ _ c.from_residual-in_err-inside.ensures.1 (mapped (Headed word.Program SpellsProgramRest) SpellsWholeProgram (λ x. x.1.1.2) (λ x. x.2.2) (λ x. (x.0, x.1.0, x.1.1)) (λ x. refl) (λ x other us r w. w) (headed_on word.Program SpellsProgramRest (λ x. x.2) program_within c.in_ok-place.ensures.reads (rw c.skip_lines.ensures.rest at c.in_ok-name.ensures.reads) c.in_err-inside.ensures.begins))

@@ -4,11 +4,13 @@ use Rattle.il_parse.specs.Bodies.{SpellsBodyBy}
 use Rattle.il_parse.specs.Insides.{LacksList, SpellsVariables, SpellsBlockInsideBy}
 use Rattle.il_grammar_laws.proofs.Local.{optional_list_local, filled_list_local}
 use Rattle.il_parse.proofs.Missing.{no_list_local, as_read}
-use Rattle.il_parse.proofs.Ahead.{first_ahead, later_ahead, part_ahead}
-use Rattle.il_parse.specs.GoesOn.{SpellsBlockRest}
-use Rattle.il_parse.proofs.Rests.{ahead_first, filled_opening, later_lax, lax_body, lax_filled, lax_no, lax_optional, no_list_opening, passes_lacks, s_lacks, variables_opening}
-use Rattle.il_grammar_laws.proofs.Samples.{body_sampled, filled_list_sampled, lacking_sampled, optional_list_sampled}
-use Rattle.il_read.proofs.Breaks.{first_tight, map_breaks, up_breaks}
+use Rattle.il_parse.proofs.Ahead.{first_ahead, later_ahead, part_ahead, up_so}
+use Rattle.il_parse.proofs.Begun.{plainly, body_within}
+use Rattle.il_parse.proofs.Shallow.{block_on, block_parts, lax_within}
+use Rattle.il_parse.specs.GoesOn.{Within, StaysShallow, SpellsBlockRest}
+use Rattle.il_parse.proofs.Rests.{ahead_first, filled_opening, later_lax, lax_filled, lax_no, lax_optional, passes_lacks, s_lacks, variables_opening}
+use Rattle.il_grammar_laws.proofs.Samples.{filled_list_sampled, lacking_sampled, optional_list_sampled}
+use Rattle.il_read.proofs.Breaks.{first_tight, map_breaks}
 use Rattle.il_grammar_laws.proofs.GoesOn.{lax_chain}
 use Rattle.il_parse.proofs.ByError.{up_ahead_by}
 use Rattle.il_parse.proofs.insides.block_inside.Goals as goal
@@ -53,20 +55,20 @@ returns-clause-reads c = record { found = (_, c.in_ok-inputs.ensures.reads.found
 
 pub returns-in_err-inputs-clause-begins : goal.returns-in_err-inputs-clause-begins
 returns-in_err-inputs-clause-begins c =
-    up_breaks _ c.from_residual.ensures.1 (map_breaks {Q = SpellsBlockRest} (λ x. (x.0, x.1.0, x.1.1.0, x.1.1.1.1)) (λ x other us r w. w) (first_tight (s_lacks word.VarOutput word.EndFunctionBlock (λ e. cc) (filled_list_sampled word.VarOutput) (s_lacks word.Var word.EndFunctionBlock (λ e. cc) (optional_list_sampled word.Var (λ text. SpellsDeclaration text)) (s_lacks word.VarExternal word.EndFunctionBlock (λ e. cc) (lacking_sampled word.VarExternal) (body_sampled word.EndFunctionBlock)))) c.in_err-inputs.ensures.begins))
+    up_so _ _ c.from_residual.ensures.1 (plainly (map_breaks {Q = Within (λ x. StaysShallow 0 x.3.steps) SpellsBlockRest} (λ x. (x.0, x.1.0, x.1.1.0, x.1.1.1.1)) (λ x other us r w. block_parts (λ steps. StaysShallow 0 steps) (x.0, x.1.0, x.1.1.0, x.1.1.1.1) other us r w) (first_tight (s_lacks word.VarOutput word.EndFunctionBlock (λ e. cc) (filled_list_sampled word.VarOutput) (s_lacks word.Var word.EndFunctionBlock (λ e. cc) (optional_list_sampled word.Var (λ text. SpellsDeclaration text)) (s_lacks word.VarExternal word.EndFunctionBlock (λ e. cc) (lacking_sampled word.VarExternal) (body_within word.EndFunctionBlock)))) c.in_err-inputs.ensures.begins)))
 
 pub returns-in_err-outputs-clause-begins : goal.returns-in_err-outputs-clause-begins
 returns-in_err-outputs-clause-begins c =
-    up_breaks _ c.from_residual-in_err-outputs.ensures.1 (map_breaks {Q = SpellsBlockRest} (λ x. (x.0, x.1.0, x.1.1.0, x.1.1.1.1)) (λ x other us r w. w) (later_lax (filled_opening word.VarInput) c.in_ok-inputs.ensures.reads (s_lacks word.VarOutput word.EndFunctionBlock (λ e. cc) (filled_list_sampled word.VarOutput) (s_lacks word.Var word.EndFunctionBlock (λ e. cc) (optional_list_sampled word.Var (λ text. SpellsDeclaration text)) (s_lacks word.VarExternal word.EndFunctionBlock (λ e. cc) (lacking_sampled word.VarExternal) (body_sampled word.EndFunctionBlock)))) (lax_chain (lax_filled word.VarOutput) (lax_chain (lax_optional word.Var (λ text. SpellsDeclaration text)) (lax_chain (lax_no word.VarExternal) (lax_body word.EndFunctionBlock)))) (passes_lacks word.VarInput word.EndFunctionBlock (λ e. cc)) (first_tight (s_lacks word.Var word.EndFunctionBlock (λ e. cc) (optional_list_sampled word.Var (λ text. SpellsDeclaration text)) (s_lacks word.VarExternal word.EndFunctionBlock (λ e. cc) (lacking_sampled word.VarExternal) (body_sampled word.EndFunctionBlock))) c.in_err-outputs.ensures.begins)))
+    up_so _ _ c.from_residual-in_err-outputs.ensures.1 (plainly (map_breaks {Q = Within (λ x. StaysShallow 0 x.3.steps) SpellsBlockRest} (λ x. (x.0, x.1.0, x.1.1.0, x.1.1.1.1)) (λ x other us r w. block_parts (λ steps. StaysShallow 0 steps) (x.0, x.1.0, x.1.1.0, x.1.1.1.1) other us r w) (later_lax (filled_opening word.VarInput) c.in_ok-inputs.ensures.reads (s_lacks word.VarOutput word.EndFunctionBlock (λ e. cc) (filled_list_sampled word.VarOutput) (s_lacks word.Var word.EndFunctionBlock (λ e. cc) (optional_list_sampled word.Var (λ text. SpellsDeclaration text)) (s_lacks word.VarExternal word.EndFunctionBlock (λ e. cc) (lacking_sampled word.VarExternal) (body_within word.EndFunctionBlock)))) (lax_chain (lax_filled word.VarOutput) (lax_chain (lax_optional word.Var (λ text. SpellsDeclaration text)) (lax_chain (lax_no word.VarExternal) (lax_within (λ steps. StaysShallow 0 steps) word.EndFunctionBlock)))) (passes_lacks word.VarInput word.EndFunctionBlock (λ e. cc)) (first_tight (s_lacks word.Var word.EndFunctionBlock (λ e. cc) (optional_list_sampled word.Var (λ text. SpellsDeclaration text)) (s_lacks word.VarExternal word.EndFunctionBlock (λ e. cc) (lacking_sampled word.VarExternal) (body_within word.EndFunctionBlock))) c.in_err-outputs.ensures.begins))))
 
 pub returns-in_err-variables-clause-begins : goal.returns-in_err-variables-clause-begins
 returns-in_err-variables-clause-begins c =
-    up_breaks _ c.from_residual-in_err-variables.ensures.1 (map_breaks {Q = SpellsBlockRest} (λ x. (x.0, x.1.0, x.1.1.0, x.1.1.1.1)) (λ x other us r w. w) (later_lax (filled_opening word.VarInput) c.in_ok-inputs.ensures.reads (s_lacks word.VarOutput word.EndFunctionBlock (λ e. cc) (filled_list_sampled word.VarOutput) (s_lacks word.Var word.EndFunctionBlock (λ e. cc) (optional_list_sampled word.Var (λ text. SpellsDeclaration text)) (s_lacks word.VarExternal word.EndFunctionBlock (λ e. cc) (lacking_sampled word.VarExternal) (body_sampled word.EndFunctionBlock)))) (lax_chain (lax_filled word.VarOutput) (lax_chain (lax_optional word.Var (λ text. SpellsDeclaration text)) (lax_chain (lax_no word.VarExternal) (lax_body word.EndFunctionBlock)))) (passes_lacks word.VarInput word.EndFunctionBlock (λ e. cc)) (later_lax (filled_opening word.VarOutput) c.in_ok-outputs.ensures.reads (s_lacks word.Var word.EndFunctionBlock (λ e. cc) (optional_list_sampled word.Var (λ text. SpellsDeclaration text)) (s_lacks word.VarExternal word.EndFunctionBlock (λ e. cc) (lacking_sampled word.VarExternal) (body_sampled word.EndFunctionBlock))) (lax_chain (lax_optional word.Var (λ text. SpellsDeclaration text)) (lax_chain (lax_no word.VarExternal) (lax_body word.EndFunctionBlock))) (passes_lacks word.VarOutput word.EndFunctionBlock (λ e. cc)) (first_tight (s_lacks word.VarExternal word.EndFunctionBlock (λ e. cc) (lacking_sampled word.VarExternal) (body_sampled word.EndFunctionBlock)) c.in_err-variables.ensures.begins))))
+    up_so _ _ c.from_residual-in_err-variables.ensures.1 (plainly (map_breaks {Q = Within (λ x. StaysShallow 0 x.3.steps) SpellsBlockRest} (λ x. (x.0, x.1.0, x.1.1.0, x.1.1.1.1)) (λ x other us r w. block_parts (λ steps. StaysShallow 0 steps) (x.0, x.1.0, x.1.1.0, x.1.1.1.1) other us r w) (later_lax (filled_opening word.VarInput) c.in_ok-inputs.ensures.reads (s_lacks word.VarOutput word.EndFunctionBlock (λ e. cc) (filled_list_sampled word.VarOutput) (s_lacks word.Var word.EndFunctionBlock (λ e. cc) (optional_list_sampled word.Var (λ text. SpellsDeclaration text)) (s_lacks word.VarExternal word.EndFunctionBlock (λ e. cc) (lacking_sampled word.VarExternal) (body_within word.EndFunctionBlock)))) (lax_chain (lax_filled word.VarOutput) (lax_chain (lax_optional word.Var (λ text. SpellsDeclaration text)) (lax_chain (lax_no word.VarExternal) (lax_within (λ steps. StaysShallow 0 steps) word.EndFunctionBlock)))) (passes_lacks word.VarInput word.EndFunctionBlock (λ e. cc)) (later_lax (filled_opening word.VarOutput) c.in_ok-outputs.ensures.reads (s_lacks word.Var word.EndFunctionBlock (λ e. cc) (optional_list_sampled word.Var (λ text. SpellsDeclaration text)) (s_lacks word.VarExternal word.EndFunctionBlock (λ e. cc) (lacking_sampled word.VarExternal) (body_within word.EndFunctionBlock))) (lax_chain (lax_optional word.Var (λ text. SpellsDeclaration text)) (lax_chain (lax_no word.VarExternal) (lax_within (λ steps. StaysShallow 0 steps) word.EndFunctionBlock))) (passes_lacks word.VarOutput word.EndFunctionBlock (λ e. cc)) (first_tight (s_lacks word.VarExternal word.EndFunctionBlock (λ e. cc) (lacking_sampled word.VarExternal) (body_within word.EndFunctionBlock)) c.in_err-variables.ensures.begins)))))
 
 pub returns-in_err-no_list-clause-begins : goal.returns-in_err-no_list-clause-begins
 returns-in_err-no_list-clause-begins c =
-    up_breaks _ c.from_residual-in_err-no_list.ensures.1 (map_breaks {Q = SpellsBlockRest} (λ x. (x.0, x.1.0, x.1.1.0, x.1.1.1.1)) (λ x other us r w. w) (later_lax (filled_opening word.VarInput) c.in_ok-inputs.ensures.reads (s_lacks word.VarOutput word.EndFunctionBlock (λ e. cc) (filled_list_sampled word.VarOutput) (s_lacks word.Var word.EndFunctionBlock (λ e. cc) (optional_list_sampled word.Var (λ text. SpellsDeclaration text)) (s_lacks word.VarExternal word.EndFunctionBlock (λ e. cc) (lacking_sampled word.VarExternal) (body_sampled word.EndFunctionBlock)))) (lax_chain (lax_filled word.VarOutput) (lax_chain (lax_optional word.Var (λ text. SpellsDeclaration text)) (lax_chain (lax_no word.VarExternal) (lax_body word.EndFunctionBlock)))) (passes_lacks word.VarInput word.EndFunctionBlock (λ e. cc)) (later_lax (filled_opening word.VarOutput) c.in_ok-outputs.ensures.reads (s_lacks word.Var word.EndFunctionBlock (λ e. cc) (optional_list_sampled word.Var (λ text. SpellsDeclaration text)) (s_lacks word.VarExternal word.EndFunctionBlock (λ e. cc) (lacking_sampled word.VarExternal) (body_sampled word.EndFunctionBlock))) (lax_chain (lax_optional word.Var (λ text. SpellsDeclaration text)) (lax_chain (lax_no word.VarExternal) (lax_body word.EndFunctionBlock))) (passes_lacks word.VarOutput word.EndFunctionBlock (λ e. cc)) (later_lax (variables_opening) c.in_ok-variables.ensures.reads (s_lacks word.VarExternal word.EndFunctionBlock (λ e. cc) (lacking_sampled word.VarExternal) (body_sampled word.EndFunctionBlock)) (lax_chain (lax_no word.VarExternal) (lax_body word.EndFunctionBlock)) (passes_lacks word.Var word.EndFunctionBlock (λ e. cc)) (ahead_first (s_lacks word.VarExternal word.EndFunctionBlock (λ e. cc) (lacking_sampled word.VarExternal) (body_sampled word.EndFunctionBlock)) (lax_chain (lax_no word.VarExternal) (lax_body word.EndFunctionBlock)) c.in_err-no_list.ensures.first)))))
+    up_so _ _ c.from_residual-in_err-no_list.ensures.1 (plainly (map_breaks {Q = Within (λ x. StaysShallow 0 x.3.steps) SpellsBlockRest} (λ x. (x.0, x.1.0, x.1.1.0, x.1.1.1.1)) (λ x other us r w. block_parts (λ steps. StaysShallow 0 steps) (x.0, x.1.0, x.1.1.0, x.1.1.1.1) other us r w) (later_lax (filled_opening word.VarInput) c.in_ok-inputs.ensures.reads (s_lacks word.VarOutput word.EndFunctionBlock (λ e. cc) (filled_list_sampled word.VarOutput) (s_lacks word.Var word.EndFunctionBlock (λ e. cc) (optional_list_sampled word.Var (λ text. SpellsDeclaration text)) (s_lacks word.VarExternal word.EndFunctionBlock (λ e. cc) (lacking_sampled word.VarExternal) (body_within word.EndFunctionBlock)))) (lax_chain (lax_filled word.VarOutput) (lax_chain (lax_optional word.Var (λ text. SpellsDeclaration text)) (lax_chain (lax_no word.VarExternal) (lax_within (λ steps. StaysShallow 0 steps) word.EndFunctionBlock)))) (passes_lacks word.VarInput word.EndFunctionBlock (λ e. cc)) (later_lax (filled_opening word.VarOutput) c.in_ok-outputs.ensures.reads (s_lacks word.Var word.EndFunctionBlock (λ e. cc) (optional_list_sampled word.Var (λ text. SpellsDeclaration text)) (s_lacks word.VarExternal word.EndFunctionBlock (λ e. cc) (lacking_sampled word.VarExternal) (body_within word.EndFunctionBlock))) (lax_chain (lax_optional word.Var (λ text. SpellsDeclaration text)) (lax_chain (lax_no word.VarExternal) (lax_within (λ steps. StaysShallow 0 steps) word.EndFunctionBlock))) (passes_lacks word.VarOutput word.EndFunctionBlock (λ e. cc)) (later_lax (variables_opening) c.in_ok-variables.ensures.reads (s_lacks word.VarExternal word.EndFunctionBlock (λ e. cc) (lacking_sampled word.VarExternal) (body_within word.EndFunctionBlock)) (lax_chain (lax_no word.VarExternal) (lax_within (λ steps. StaysShallow 0 steps) word.EndFunctionBlock)) (passes_lacks word.Var word.EndFunctionBlock (λ e. cc)) (ahead_first (s_lacks word.VarExternal word.EndFunctionBlock (λ e. cc) (lacking_sampled word.VarExternal) (body_within word.EndFunctionBlock)) (lax_chain (lax_no word.VarExternal) (lax_within (λ steps. StaysShallow 0 steps) word.EndFunctionBlock)) c.in_err-no_list.ensures.first))))))
 
 pub returns-in_err-body-clause-begins : goal.returns-in_err-body-clause-begins
 returns-in_err-body-clause-begins c =
-    up_breaks _ c.from_residual-in_err-body.ensures.1 (map_breaks {Q = SpellsBlockRest} (λ x. (x.0, x.1.0, x.1.1.0, x.1.1.1.1)) (λ x other us r w. w) (later_lax (filled_opening word.VarInput) c.in_ok-inputs.ensures.reads (s_lacks word.VarOutput word.EndFunctionBlock (λ e. cc) (filled_list_sampled word.VarOutput) (s_lacks word.Var word.EndFunctionBlock (λ e. cc) (optional_list_sampled word.Var (λ text. SpellsDeclaration text)) (s_lacks word.VarExternal word.EndFunctionBlock (λ e. cc) (lacking_sampled word.VarExternal) (body_sampled word.EndFunctionBlock)))) (lax_chain (lax_filled word.VarOutput) (lax_chain (lax_optional word.Var (λ text. SpellsDeclaration text)) (lax_chain (lax_no word.VarExternal) (lax_body word.EndFunctionBlock)))) (passes_lacks word.VarInput word.EndFunctionBlock (λ e. cc)) (later_lax (filled_opening word.VarOutput) c.in_ok-outputs.ensures.reads (s_lacks word.Var word.EndFunctionBlock (λ e. cc) (optional_list_sampled word.Var (λ text. SpellsDeclaration text)) (s_lacks word.VarExternal word.EndFunctionBlock (λ e. cc) (lacking_sampled word.VarExternal) (body_sampled word.EndFunctionBlock))) (lax_chain (lax_optional word.Var (λ text. SpellsDeclaration text)) (lax_chain (lax_no word.VarExternal) (lax_body word.EndFunctionBlock))) (passes_lacks word.VarOutput word.EndFunctionBlock (λ e. cc)) (later_lax (variables_opening) c.in_ok-variables.ensures.reads (s_lacks word.VarExternal word.EndFunctionBlock (λ e. cc) (lacking_sampled word.VarExternal) (body_sampled word.EndFunctionBlock)) (lax_chain (lax_no word.VarExternal) (lax_body word.EndFunctionBlock)) (passes_lacks word.Var word.EndFunctionBlock (λ e. cc)) (later_lax (no_list_opening word.VarExternal) (as_read c.in_ok-no_list.ensures.reads) (body_sampled word.EndFunctionBlock) (lax_body word.EndFunctionBlock) (passes_lacks word.VarExternal word.EndFunctionBlock (λ e. cc)) c.in_err-body.ensures.begins)))))
+    up_so _ _ c.from_residual-in_err-body.ensures.1 (block_on c.in_ok-inputs.ensures.reads c.in_ok-outputs.ensures.reads c.in_ok-variables.ensures.reads (as_read c.in_ok-no_list.ensures.reads) c.in_err-body.ensures.begins)

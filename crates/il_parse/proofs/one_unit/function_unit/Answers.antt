@@ -1,3 +1,8 @@
+use Rattle.il_parse.specs.GoesOn.{SpellsWholeFunction}
+use Rattle.il_spec.specs.Grammar.{SpellsUnit}
+use Rattle.il_parse.proofs.Shallow.{mapped}
+use Rattle.il_parse.proofs.Ahead.{up_so}
+use Rattle.std.proofs.Common.{refl}
 use Rattle.il_spec.specs.declared.keyword.Keyword.TheVariants as word
 use Rattle.il_read.proofs.ByError.{up_by}
 use Rattle.il_parse.specs.Units.{SpellsUnitOfBy}
@@ -5,7 +10,6 @@ use Rattle.il_parse.proofs.OneUnit.{function_read, function_refused}
 use Rattle.il_spec.specs.declared.tree.UnitKind.TheVariants as unit
 use Rattle.std.proofs.Common.{[]}
 use Rattle.il_parse.proofs.Rests.{function_is}
-use Rattle.il_read.proofs.Breaks.{map_breaks, up_breaks}
 use Rattle.il_parse.proofs.one_unit.function_unit.Goals as goal
 
 pub returns-in_err-place-clause-refused : goal.returns-in_err-place-clause-refused
@@ -15,4 +19,4 @@ pub returns-clause-reads : goal.returns-clause-reads
 returns-clause-reads c = rw (c.new.ensures, c.new-2.ensures) (function_read c.args.source.now _ _ _ _ _ _ _ _ _ c.in_ok-place.ensures.reads)
 
 pub returns-in_err-place-clause-begins : goal.returns-in_err-place-clause-begins
-returns-in_err-place-clause-begins c = up_breaks _ c.from_residual.ensures.1 (map_breaks (λ x. record { place = x.0; kind = unit.Function x.2.1 x.2.0; name = x.1; inputs = x.3.0; outputs = []; variables = x.3.1; externals = []; body = x.3.2 }) function_is c.in_err-place.ensures.begins)
+returns-in_err-place-clause-begins c = up_so _ _ c.from_residual.ensures.1 (mapped SpellsWholeFunction SpellsUnit (λ x. x.3.2) (λ u. u.body) (λ x. record { place = x.0; kind = unit.Function x.2.1 x.2.0; name = x.1; inputs = x.3.0; outputs = []; variables = x.3.1; externals = []; body = x.3.2 }) (λ x. refl) function_is c.in_err-place.ensures.begins)

@@ -1,10 +1,14 @@
+use Rattle.il_parse.specs.GoesOn.{SpellsWholeProgram}
+use Rattle.il_spec.specs.Grammar.{SpellsUnit}
+use Rattle.il_parse.proofs.Shallow.{mapped}
+use Rattle.il_parse.proofs.Ahead.{up_so}
+use Rattle.std.proofs.Common.{refl}
 use Rattle.il_spec.specs.declared.keyword.Keyword.TheVariants as word
 use Rattle.il_read.proofs.ByError.{up_by}
 use Rattle.il_parse.specs.Units.{SpellsUnitOfBy}
 use Rattle.il_parse.proofs.OneUnit.{program_read, program_refused}
 use Rattle.il_spec.specs.declared.tree.UnitKind.TheVariants as unit
 use Rattle.std.proofs.Common.{[]}
-use Rattle.il_read.proofs.Breaks.{map_breaks, up_breaks}
 use Rattle.il_parse.proofs.Rests.{program_is}
 use Rattle.il_parse.proofs.one_unit.program_unit.Goals as goal
 
@@ -15,4 +19,4 @@ pub returns-clause-reads : goal.returns-clause-reads
 returns-clause-reads c = rw (c.new.ensures, c.new-2.ensures) (program_read c.args.source.now _ _ _ _ _ _ _ c.in_ok-place.ensures.reads)
 
 pub returns-in_err-place-clause-begins : goal.returns-in_err-place-clause-begins
-returns-in_err-place-clause-begins c = up_breaks _ c.from_residual.ensures.1 (map_breaks (λ x. record { place = x.0; kind = unit.Program; name = x.1; inputs = []; outputs = []; variables = x.2.0; externals = x.2.1; body = x.2.2 }) program_is c.in_err-place.ensures.begins)
+returns-in_err-place-clause-begins c = up_so _ _ c.from_residual.ensures.1 (mapped SpellsWholeProgram SpellsUnit (λ x. x.2.2) (λ u. u.body) (λ x. record { place = x.0; kind = unit.Program; name = x.1; inputs = []; outputs = []; variables = x.2.0; externals = x.2.1; body = x.2.2 }) (λ x. refl) program_is c.in_err-place.ensures.begins)

@@ -8,10 +8,11 @@ use Rattle.il_grammar_laws.proofs.Local.{word_told}
 use Rattle.il_parse.proofs.OneUnit.{small_unit_local}
 use Rattle.il_parse.specs.Parts.{SpellsUnits, SpellsFewUnitsBy}
 use Rattle.std.proofs.Common.{arith}
-use Rattle.il_parse.proofs.Surplus.{surplus_unit_breaks}
-use Rattle.il_parse.proofs.Rests.{small_unit_filling, unit_by_filling, unit_filling, units_break}
+use Rattle.il_parse.proofs.Surplus.{units_break, units_full_break}
+use Rattle.il_read.specs.declared.stop.SyntaxError.TheVariants.{TooDeep}
+use Rattle.il_parse.proofs.Rests.{small_unit_filling, unit_by_filling, unit_filling}
 use Rattle.il_grammar_laws.proofs.GoesOn.{gone_on, gone_starts}
-use Rattle.il_read.proofs.Breaks.{up_breaks}
+use Rattle.il_parse.proofs.Ahead.{up_so}
 use Rattle.il_parse.proofs.units.units.Goals as goal
 
 pub returns-then-is_full-clause-refused : goal.returns-then-is_full-clause-refused
@@ -47,9 +48,9 @@ pub returns-then-is_full-clause-begins : goal.returns-then-is_full-clause-begins
 returns-then-is_full-clause-begins c =
     let none = was_missing (TheWord c.args.source.now word.Configuration) c.units.tokens _ c.eat_word.new.tokens c.eat_word.ensures.eaten c.units-test.true in
     let how = rw none.0 at c.surplus.ensures in
-    units_break c.units.invariant.3 (surplus_unit_breaks how)
+    units_full_break (c.units.invariant.2 TooDeep).gone c.units.invariant.3 (c.is_full.ensures.yes c.if-is_full.true) how
 
 pub returns-in_err-unit-clause-begins : goal.returns-in_err-unit-clause-begins
 returns-in_err-unit-clause-begins c =
     let none = was_missing (TheWord c.args.source.now word.Configuration) c.units.tokens _ c.eat_word.new.tokens c.eat_word.ensures.eaten c.units-test.true in
-    up_breaks _ c.from_residual.ensures.1 (units_break c.units.invariant.3 (rw none.0 at c.in_err-unit.ensures.begins))
+    up_so _ _ c.from_residual.ensures.1 (units_break (c.units.invariant.2 TooDeep).gone c.units.invariant.3 (rw none.0 at c.in_err-unit.ensures.begins))

@@ -6,7 +6,7 @@ use Rattle.il_read.specs.Reads.{SpellsRoomyOf}
 use Rattle.il_read.proofs.Breaks.{later_tight, map_breaks}
 use Rattle.il_grammar_laws.proofs.Samples.{operands_sampled}
 use Rattle.il_read.proofs.Completions.{the_name_filling, as_effect, roomy_first, up_so}
-use Rattle.std.proofs.Common.{true, refl}
+use Rattle.std.proofs.Common.{refl}
 use Rattle.il_read.specs.Reads.Effect.{Even}
 use Rattle.il_read.proofs.source.Source.invocation.Goals as goal
 
@@ -20,4 +20,4 @@ pub returns-in_err-function-clause-begins : goal.returns-in_err-function-clause-
 returns-in_err-function-clause-begins c = up_so _ _ c.from_residual.ensures.1 (roomy_first _ c.in_err-function.ensures.first)
 
 pub returns-in_err-operands-clause-begins : goal.returns-in_err-operands-clause-begins
-returns-in_err-operands-clause-begins c = up_so _ _ c.from_residual-in_err-operands.ensures.1 (as_effect Even (map_breaks {Q = λ text. SpellsRoomyOf text true Even} (λ x. instruction.Invoke x.0 x.1) (λ x other us r w. (refl, (tt, w))) (later_tight the_name_filling c.in_ok-function.ensures.reads operands_sampled c.in_err-operands.ensures.begins)))
+returns-in_err-operands-clause-begins c = up_so _ _ c.from_residual-in_err-operands.ensures.1 (as_effect Even (map_breaks {Q = λ text. SpellsRoomyOf text c.args.room Even} (λ x. instruction.Invoke x.0 x.1) (λ x other us r w. (refl, (tt, w))) (later_tight the_name_filling c.in_ok-function.ensures.reads operands_sampled c.in_err-operands.ensures.begins)))

@@ -9,7 +9,7 @@ use Rattle.il_read.proofs.Breaks.{at_first, map_breaks, part_tight}
 use Rattle.il_grammar_laws.proofs.Samples.{line_end_sampled}
 use Rattle.il_grammar_laws.proofs.Open.{word_fills}
 use Rattle.il_read.proofs.Completions.{as_effect, up_so}
-use Rattle.std.proofs.Common.{true, refl}
+use Rattle.std.proofs.Common.{refl}
 use Rattle.il_read.specs.Reads.Effect.{Even}
 use Rattle.il_read.proofs.source.Source.leave.Goals as goal
 
@@ -21,4 +21,4 @@ returns-clause-reads c = record { found = (tt, (_, word_there c.args.self.now _ 
 
 pub returns-in_err-line_end-clause-begins : goal.returns-in_err-line_end-clause-begins
 returns-in_err-line_end-clause-begins c =
-    up_so _ _ c.from_residual.ensures.1 (as_effect Even (map_breaks {Q = λ text. SpellsRoomyOf text true Even} (λ x. instruction.Return c.args.condition) (λ x other us r w. (refl, (tt, w))) (part_tight (word_fills (word.Return c.args.condition)) (record { found = word_there c.args.self.now _ _ c.requires }) line_end_sampled (at_first line_end_sampled (rw c.advance.ensures.rest at c.in_err-line_end.ensures.first)))))
+    up_so _ _ c.from_residual.ensures.1 (as_effect Even (map_breaks {Q = λ text. SpellsRoomyOf text c.args.room Even} (λ x. instruction.Return c.args.condition) (λ x other us r w. (refl, (tt, w))) (part_tight (word_fills (word.Return c.args.condition)) (record { found = word_there c.args.self.now _ _ c.requires }) line_end_sampled (at_first line_end_sampled (rw c.advance.ensures.rest at c.in_err-line_end.ensures.first)))))
