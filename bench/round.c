@@ -17,7 +17,8 @@ int main(int count, char **words) {
     liftplc_handle handle = {0};
     liftplc_refusal refusal;
     if (liftplc_open(&handle, text, length, &refusal) != LIFTPLC_OK) return 3;
-    liftplc_fields fields = {.run_limit = 8, .car_count = (uint8_t)atoi(words[3])};
+    uint8_t cars = (uint8_t)atoi(words[3]);
+    liftplc_fields fields = {.run_limit = cars, .car_count = cars};
     for (int k = 0; k < fields.car_count; k++) fields.cars[k] = (liftplc_car){.pos = 1, .level = true, .bottom = true, .locked = true};
     for (long left = atol(words[2]); left > 0; left--) {
         if (liftplc_round(&handle, &fields, &outputs) != LIFTPLC_OK) return 4;
