@@ -37,7 +37,7 @@ use Rattle.il_parse.specs.Bodies.{may_begin, begins_lead}
 use Rattle.il_parse.specs.Units.{unit_begins}
 use Rattle.il_parse.specs.GoesOn.{Within, StaysShallow, BeginsSurplus, BreaksPlaced, BreaksWith, BreaksUnits, BreaksAll, SpellsAll, SpellsAllUnits, SpellsWholeProgram, SpellsWholeBlock, SpellsWholeFunction, SpellsProgramRest, SpellsBlockRest, SpellsFunctionRest}
 use Rattle.il_parse.specs.Headings.{SpellsResultAt}
-use Rattle.il_parse.proofs.Begun.{placed_inside, placed_from_sampled, plainly, shorter_behind, by_breaks, behind_all}
+use Rattle.il_parse.proofs.Begun.{placed_inside, placed_from_sampled, plainly, shorter_behind, by_breaks}
 use Rattle.il_parse.proofs.Shallow.{Headed, headed_sampled, program_within}
 use Rattle.il_parse.proofs.Parts.{Group, config, whole_config, from_small_units, are_shallow}
 use Rattle.il_parse.specs.Parts.{SpellsGroup, SpellsFewUnits}
@@ -47,7 +47,7 @@ use Rattle.il_rules.specs.Written.{IsNested}
 use Rattle.il_spec.specs.declared.tree.Config.{Config}
 use Rattle.il_spec.specs.declared.tree.Unit.{Unit as ProgramUnit}
 use Rattle.std.specs.List.{All}
-use Rattle.std.proofs.lemmas.List.Elements.{All-nil, All-cons}
+use Rattle.std.proofs.lemmas.List.Elements.{All-nil, All-cons, All-append}
 use Rattle.il_grammar_laws.proofs.Alike.{end_length, end_of_end, gap_length, loose_gap}
 use Rattle.il_grammar_laws.proofs.GoesOn.{IsFilling, HasGone, gone_item, map_sampled, begins_lines}
 use Rattle.il_grammar_laws.proofs.Open.{loose_open}
@@ -197,10 +197,20 @@ apart (y ∷ ys) other vs r w =
     ((w.0, w.1.0, more.0), All-cons (λ (u : ProgramUnit). greatest_depth 0 u.body.steps ≤ 16) y ys w.1.1 more.1)
 
 -- what goes beyond a limit in the last unit
-beyond : (us : List ProgramUnit) (error : SyntaxError) (t : Token) (u : ProgramUnit) → HasSurplus error t u.body.steps → GoesBeyond error t (us ++ u ∷ [])
-beyond us Unexpected t u h = tt
-beyond us TooDeep t u h = tt
-beyond us TooMany t u h = inr (length us, u, behind_all us u [] (length us) refl, h)
+beyond : (us : List ProgramUnit) (error : SyntaxError) (t : Token) (u : ProgramUnit) → All (λ (v : ProgramUnit). length v.body.steps ≤ 4096) us → length us < 64 → HasSurplus error t u.body.steps → GoesBeyond error t (us ++ u ∷ [])
+beyond us Unexpected t u few some h = tt
+beyond us TooDeep t u few some h = tt
+beyond us TooMany t u few some h = (us, u, [], refl, few, inr (some, h))
+
+-- units that are few, one of them more
+pub few_with : (us : List ProgramUnit) (u : ProgramUnit) → All (λ (v : ProgramUnit). length v.body.steps ≤ 4096) us → length u.body.steps ≤ 4096 → All (λ (v : ProgramUnit). length v.body.steps ≤ 4096) (us ++ u ∷ [])
+few_with us u few one =
+    All-append (λ (v : ProgramUnit). length v.body.steps ≤ 4096) us (u ∷ []) few (All-cons (λ (v : ProgramUnit). length v.body.steps ≤ 4096) u [] one (All-nil (λ (v : ProgramUnit). length v.body.steps ≤ 4096)))
+
+-- where there are not as many as there may be, there are fewer
+fewer : (full : Bool) (us : List ProgramUnit) → full ≡ false → (IsFalse full → length us ≡ 64 → ⊥) → length us ≤ 64 → length us < 64
+fewer true us e not_all few = absurd cc
+fewer false us e not_all few = omega (arith, few, not_all refl)
 
 -- cut tokens begin with the same one
 first_cut : (text : List ℕ) (at ts vs ws : List Token) (other : List ℕ) (t : Token) (back : List Token) → ts ≡ t ∷ back → length at < length ts → IsCut text other at ts vs ws → (more : List Token) × (vs ≡ t ∷ more)
@@ -247,16 +257,16 @@ module _ {text : List ℕ} {start ts : List Token} {us : List ProgramUnit} where
       )
 
   -- a unit breaks off behind others
-  pub units_break : {e : Stop} → HasGone (SpellsUnitBy TooDeep) (λ text. TheWord text word.Configuration) text start us ts → HasGone SpellsUnit (λ text. TheWord text word.Configuration) text start us ts → BreaksWith tight (λ u. u.body) SpellsUnit text ts e
+  pub units_break : {e : Stop} (full : Bool) → full ≡ false → (IsFalse full → length us ≡ 64 → ⊥) → length us ≤ 64 → All (λ (v : ProgramUnit). length v.body.steps ≤ 4096) us → HasGone (SpellsUnitBy TooDeep) (λ text. TheWord text word.Configuration) text start us ts → HasGone SpellsUnit (λ text. TheWord text word.Configuration) text start us ts → BreaksWith tight (λ u. u.body) SpellsUnit text ts e
       → BreaksUnits text start e
-  units_break shallow so_far bad =
-      by_breaks (λ at b. shallow_on shallow at b) (λ error t back end less b. last_on (λ u. HasSurplus error t u.body.steps) (λ us. GoesBeyond error t us) (λ u h. beyond us error t u h) so_far back less b) bad
+  units_break full is not_all most few shallow so_far bad =
+      by_breaks (λ at b. shallow_on shallow at b) (λ error t back end less b. last_on (λ u. HasSurplus error t u.body.steps) (λ us. GoesBeyond error t us) (λ u h. beyond us error t u few (fewer full us is not_all most) h) so_far back less b) bad
 
   -- a text is full
-  pub units_full_break : {e : Stop} → HasGone (SpellsUnitBy TooDeep) (λ text. TheWord text word.Configuration) text start us ts → HasGone SpellsUnit (λ text. TheWord text word.Configuration) text start us ts → length us ≡ 64
+  pub units_full_break : {e : Stop} → All (λ (v : ProgramUnit). length v.body.steps ≤ 4096) us → HasGone (SpellsUnitBy TooDeep) (λ text. TheWord text word.Configuration) text start us ts → HasGone SpellsUnit (λ text. TheWord text word.Configuration) text start us ts → length us ≡ 64
       → ((e ≡ fault_at TooMany ts) × IsTrue (unit_begins (lead_at text ts))) ⊎ ((e ≡ fault_at Unexpected ts) × IsFalse (unit_begins (lead_at text ts))) → BreaksUnits text start e
-  units_full_break shallow so_far full (inr here) = plainly (as_breaks (λ at b. shallow_on shallow at b) (at_first unit_within (λ is. here.0)))
-  units_full_break shallow so_far full (inl here) = record {
+  units_full_break few shallow so_far full (inr here) = plainly (as_breaks (λ at b. shallow_on shallow at b) (at_first unit_within (λ is. here.0)))
+  units_full_break few shallow so_far full (inl here) = record {
     fault = λ is.
         let k = a_token text ts unit_begins refl here.1 in
         let less = shorter_behind ts ts k.1 k.0 (end_self ts) k.2 in
@@ -265,7 +275,7 @@ module _ {text : List ℕ} {start ts : List Token} {us : List ProgramUnit} where
           ts,
           here.0,
           shallow_on shallow ts (begins_here unit_within text ts),
-          (k.0, k.1, k.2, last_on (λ u. IsItsPlace k.0 u.place) (λ us. GoesBeyond TooMany k.0 us) (λ u h. inl (u, behind_all us u [] 64 full, h)) so_far k.1 less (unit_placed k.0 k.1 k.1 k.2 less behind)),
+          (k.0, k.1, k.2, last_on (λ u. IsItsPlace k.0 u.place) (λ us. GoesBeyond TooMany k.0 us) (λ u h. (us, u, [], refl, few, inl (full, h))) so_far k.1 less (unit_placed k.0 k.1 k.1 k.2 less behind)),
         );
   }
 

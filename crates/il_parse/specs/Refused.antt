@@ -1,5 +1,5 @@
 -- Which answer refuses a text, and the limits of a tree.
-use Rattle.std.specs.List.{slice_get}
+use Rattle.std.specs.List.{All, slice_get}
 use Rattle.il_spec.specs.declared.tree.Step.{Step}
 use Rattle.il_spec.specs.declared.tree.Unit.{Unit as ProgramUnit}
 use Rattle.std.specs.Prelude.{◌≡◌, ◌<◌, ◌≤◌, ◌⊎◌, Some, ℕ, List, [], ◌∷◌, ◌++◌, take, Result, Ok, Err, length, ⊤}
@@ -73,12 +73,14 @@ HasSurplus Unexpected t steps = ⊤
 HasSurplus TooDeep t steps = ⊤
 HasSurplus TooMany t steps = (s : Step) × (slice_get steps 4096 ≡ Some s) × IsItsPlace t s.place
 
--- or the 65th unit does
+-- The first of the units that goes beyond a limit: it is the 65th, which stands at the token of the fault, or its 4097th instruction does. In none before it
+-- are there too many instructions.
 abbrev pub GoesBeyond : SyntaxError → Token → List ProgramUnit → Type 0
 GoesBeyond Unexpected t us = ⊤
 GoesBeyond TooDeep t us = ⊤
 GoesBeyond TooMany t us =
-    ((u : ProgramUnit) × (slice_get us 64 ≡ Some u) × IsItsPlace t u.place) ⊎ ((k : ℕ) × (u : ProgramUnit) × (slice_get us k ≡ Some u) × HasSurplus TooMany t u.body.steps)
+    (front : List ProgramUnit) × (u : ProgramUnit) × (behind : List ProgramUnit) × (us ≡ front ++ u ∷ behind) × All (λ (v : ProgramUnit). length v.body.steps ≤ 4096) front
+    × (((length front ≡ 64) × IsItsPlace t u.place) ⊎ ((length front < 64) × HasSurplus TooMany t u.body.steps))
 
 -- Some text goes on with the tokens before the first of `at`: one that has these tokens, of the same bytes, and others behind, is of the
 -- language, and its tree is a K. No limits count but those that K names.

@@ -7,8 +7,10 @@ use Rattle.il_parse.proofs.Parts.{few_more}
 use Rattle.il_grammar_laws.proofs.Local.{word_told}
 use Rattle.il_parse.proofs.OneUnit.{small_unit_local}
 use Rattle.il_parse.specs.Parts.{SpellsUnits, SpellsFewUnitsBy}
-use Rattle.std.proofs.Common.{arith}
-use Rattle.il_parse.proofs.Surplus.{units_break, units_full_break}
+use Rattle.std.proofs.Common.{arith, length, ◌≤◌}
+use Rattle.il_parse.proofs.Surplus.{few_with, units_break, units_full_break}
+use Rattle.std.proofs.lemmas.List.Elements.{All-nil}
+use Rattle.il_spec.specs.declared.tree.Unit.{Unit as ProgramUnit}
 use Rattle.il_read.specs.declared.stop.SyntaxError.TheVariants.{TooDeep}
 use Rattle.il_parse.proofs.Rests.{small_unit_filling, unit_by_filling, unit_filling}
 use Rattle.il_grammar_laws.proofs.GoesOn.{gone_on, gone_starts}
@@ -35,6 +37,7 @@ units-preserved c =
       λ error. rw (c.skip_lines.ensures.rest, c.in_ok-push.ensures.ok)
           (goes_on _ _ _ (unit_by_filling error) (unit_by_local error) (word_told word.Configuration) _ _ _ _ _ none.1 (c.units.invariant.2 error) (unit_by_read c.args.source.now error _ _ _ (rw none.0 at c.in_ok-unit.ensures.reads))),
       rw (c.skip_lines.ensures.rest, c.in_ok-push.ensures.ok) (gone_on unit_filling c.units.invariant.3 (rw none.0 at c.in_ok-unit.ensures.reads).found.0),
+      rw c.in_ok-push.ensures.ok (few_with _ _ c.units.invariant.4 c.in_ok-unit.ensures.reads.found.1.0),
     )
 
 pub returns-clause-reads : goal.returns-clause-reads
@@ -42,15 +45,15 @@ returns-clause-reads c =
     within_read SpellsUnits {text = c.args.source.now} 64 c.units.invariant.0 (ended _ _ _ _ _ _ _ c.units.invariant.1 (was_there (TheWord c.args.source.now word.Configuration) c.units.tokens _ c.eat_word.new.tokens c.eat_word.ensures.eaten c.units-test.false))
 
 pub units-init : goal.units-init
-units-init c = rw c.new-units.ensures (omega arith, starts _ _ _ _, (λ error. starts _ _ _ _), gone_starts _)
+units-init c = rw c.new-units.ensures (omega arith, starts _ _ _ _, (λ error. starts _ _ _ _), gone_starts _, All-nil (λ (u : ProgramUnit). length u.body.steps ≤ 4096))
 
 pub returns-then-is_full-clause-begins : goal.returns-then-is_full-clause-begins
 returns-then-is_full-clause-begins c =
     let none = was_missing (TheWord c.args.source.now word.Configuration) c.units.tokens _ c.eat_word.new.tokens c.eat_word.ensures.eaten c.units-test.true in
     let how = rw none.0 at c.surplus.ensures in
-    units_full_break (c.units.invariant.2 TooDeep).gone c.units.invariant.3 (c.is_full.ensures.yes c.if-is_full.true) how
+    units_full_break c.units.invariant.4 (c.units.invariant.2 TooDeep).gone c.units.invariant.3 (c.is_full.ensures.yes c.if-is_full.true) how
 
 pub returns-in_err-unit-clause-begins : goal.returns-in_err-unit-clause-begins
 returns-in_err-unit-clause-begins c =
     let none = was_missing (TheWord c.args.source.now word.Configuration) c.units.tokens _ c.eat_word.new.tokens c.eat_word.ensures.eaten c.units-test.true in
-    up_so _ _ c.from_residual.ensures.1 (units_break (c.units.invariant.2 TooDeep).gone c.units.invariant.3 (rw none.0 at c.in_err-unit.ensures.begins))
+    up_so _ _ c.from_residual.ensures.1 (units_break _ c.if-is_full.false c.is_full.ensures.no c.units.invariant.0 c.units.invariant.4 (c.units.invariant.2 TooDeep).gone c.units.invariant.3 (rw none.0 at c.in_err-unit.ensures.begins))
