@@ -1,7 +1,8 @@
 -- Samples: tokens by which each rule of the grammar can be completed.
+use Rattle.std.specs.Prelude.{ℤ, IsTrue, max, bytes_eq, codes, if◌then◌else◌}
+use Rattle.std.specs.Char.{is_ascii_digit}
 use Rattle.std.proofs.Common.{◌≡◌, ◌≤◌, ℕ, zero, suc, pos, Bool, true, false, List, [], ◌∷◌, ◌++◌, refl, sym, ◌∙◌, ap, subst, inl, inr, arith, Option, Some, None, length}
 use Rattle.std.proofs.lemmas.Int.{ints}
-use Rattle.std.specs.Prelude.{ℤ, IsTrue, max, bytes_eq, codes, if◌then◌else◌}
 use Rattle.il_spec.specs.declared.token.Token.{Token}
 use Rattle.il_spec.specs.declared.token.Kind.{Kind}
 use Rattle.il_spec.specs.declared.token.Kind.TheVariants as kind
@@ -35,17 +36,12 @@ use Rattle.il_spec.specs.declared.tree.Argument.{Argument}
 use Rattle.il_spec.specs.declared.tree.Argument.TheVariants as argument
 use Rattle.il_spec.specs.declared.tree.Instruction.TheVariants as instruction
 use Rattle.il_spec.specs.declared.tree.Step.{Step}
-use Rattle.il_spec.specs.declared.tree.Body.{Body}
-use Rattle.il_spec.specs.declared.tree.UnitKind.{UnitKind}
-use Rattle.il_spec.specs.declared.tree.UnitKind.TheVariants as unit
 use Rattle.il_spec.specs.declared.tree.Size.{Size}
 use Rattle.il_spec.specs.declared.tree.Task.{Task}
 use Rattle.il_spec.specs.declared.tree.ProgramLine.{ProgramLine}
 use Rattle.il_spec.specs.Text.{entry_of, upper_case, name_of, sign_bytes, is_grouped, is_grouped_after, is_identifier, magnitude, number_value, duration_value, parts_value, run_end, IsLexeme}
-use Rattle.std.specs.Char.{is_ascii_digit}
 use Rattle.il_spec.specs.Words.{keyword_of}
-use Rattle.il_spec.specs.Grammar.{Front, Gap, tight, loose, is_line_end, skip_line_ends, ◌⟨◌⟩◌, ◌⨾◌, ◌⋯◌, AfterLines, No, One, At, Repeats, Listed, TheEnd, is_nested, greatest_depth, end_word}
-use Rattle.il_spec.specs.Grammar.{TheSign, TheLineEnd, ANumber, ATyped, TheWord, AWord, AName, TheName, SomeName, TheText, ADecimal, ALiteral, SpellsSubrange, SpellsScalar, SpellsForm, SpellsType, SpellsInitial, SpellsDeclaration, SpellsExternal, SpellsList, SpellsFilledList, SpellsOptionalList, SpellsIndex, SpellsReference, SpellsOperand, SpellsTarget, TheLetterN, SpellsArgument, SpellsArguments, SpellsOperands, SpellsFirst, SpellsInstruction, SpellsStep, SpellsLabelLine, SpellsBody, SpellsNoExternals, SpellsExternals, SpellsResult, SpellsUnit, SpellsSize, SpellsGlobals, SpellsTask, SpellsProgramLine}
+use Rattle.il_spec.specs.Grammar.{Front, Gap, tight, loose, is_line_end, skip_line_ends, ◌⟨◌⟩◌, ◌⨾◌, ◌⋯◌, AfterLines, No, One, At, Repeats, Listed, TheEnd, is_nested, greatest_depth, TheSign, TheLineEnd, ANumber, ATyped, TheWord, AWord, AName, TheName, SomeName, TheText, ADecimal, ALiteral, SpellsSubrange, SpellsScalar, SpellsForm, SpellsType, SpellsInitial, SpellsDeclaration, SpellsExternal, SpellsList, SpellsFilledList, SpellsOptionalList, SpellsIndex, SpellsReference, SpellsOperand, SpellsTarget, TheLetterN, SpellsArgument, SpellsArguments, SpellsOperands, SpellsFirst, SpellsInstruction, SpellsStep, SpellsLabelLine, SpellsSize, SpellsGlobals, SpellsTask, SpellsProgramLine}
 use Rattle.il_grammar_laws.specs.GoesOn.{Sample, IsOf, AreOf, Test, always, stops, lacks, quiet, calm, settled, IsSampled, ended}
 
 -- the bytes of a reserved word
@@ -553,9 +549,6 @@ pub scalar_sampled : IsSampled quiet (λ text. SpellsScalar text) (word_sample (
 scalar_sampled =
     reading (λ (x : Unit {0} × Option Subrange). record { elementary = elementary.Bool; subrange = x.1 }) (next (word_sampled (word.Elementary elementary.Bool)) subrange_sampled)
 
-pub placed_scalar_sampled : IsSampled quiet (λ text (x : Place × Scalar). At x.0 (SpellsScalar text x.1)) (word_sample (word.Elementary elementary.Bool) ∷ [])
-placed_scalar_sampled = placed scalar_sampled
-
 pub form_sampled : IsSampled quiet (λ text. SpellsForm text) (word_sample (word.Elementary elementary.Bool) ∷ [])
 form_sampled = reading (λ (s : Scalar). form.Scalar s) scalar_sampled
 
@@ -744,13 +737,6 @@ rest_sampled last (suc depth) true = record {
 abbrev pub body_samples : Keyword → List Sample
 body_samples last = line_end_sample ∷ word_sample last ∷ []
 
-pub body_sampled : (last : Keyword) → IsSampled always (λ text. SpellsBody text last) (body_samples last)
-body_sampled last = record {
-  stands = λ other vs rest a k.
-      let n = (next_lines refl line_end_sampled (ends_sampled last)).stands other vs rest a k in
-      (record { steps = []; last_labels = n.0.1.0; end = n.0.1.1 }, (refl, n.1));
-}
-
 -- UNITS
 
 -- a body's samples lack each word that begins a list
@@ -758,88 +744,6 @@ pub body_lacks : (last k : Keyword) → (last ≡ k → ⊥) → (other : List �
 body_lacks last k differs other us rest a =
     lacks_behind_line (word_sample last ∷ []) k
     (λ text vs r b. begins_lacking (word_sample last) [] k refl (λ is e. let same : Some last ≡ Some k = sym (word_known last) ∙ e in differs cc) text vs r b) other us rest a
-
--- no lists
-pub no_filled_sampled : (k : Keyword) → IsSampled (lacks k) (λ text (u : Unit {0}). SpellsFilledList text k []) []
-no_filled_sampled k = lacking_sampled k
-
-pub no_optional_sampled : (k : Keyword) (P : List ℕ → Declaration → Front) → IsSampled (lacks k) (λ text (u : Unit {0}). SpellsOptionalList text k (P text) []) []
-no_optional_sampled k P = record { stands = λ other vs rest a l. let n = (lacking_sampled k).stands other vs rest a l in (tt, inr (refl, n.1)) }
-
-pub no_externals_sampled : (u : UnitKind) → IsSampled (lacks word.VarExternal) (λ text (x : Unit {0}). SpellsExternals text u []) []
-no_externals_sampled (unit.Function result place) = record { stands = λ other vs rest a l. let n = (lacking_sampled word.VarExternal).stands other vs rest a l in (tt, (refl, n.1)) }
-no_externals_sampled unit.FunctionBlock = record { stands = λ other vs rest a l. let n = (lacking_sampled word.VarExternal).stands other vs rest a l in (tt, (refl, n.1)) }
-no_externals_sampled unit.Program = no_optional_sampled word.VarExternal (λ text. SpellsExternal text)
-
--- the words that begin lists end no unit
-begins_list : Keyword → Bool
-begins_list word.Var = true
-begins_list word.VarInput = true
-begins_list word.VarOutput = true
-begins_list word.VarExternal = true
-begins_list _ = false
-
-ends_no_list : (u : UnitKind) (k : Keyword) → begins_list k ≡ true → end_word u ≡ k → ⊥
-unfolding begins_list
-ends_no_list (unit.Function result place) k is e = let no : begins_list k ≡ false = ap begins_list (sym e) in cc
-ends_no_list unit.FunctionBlock k is e = let no : begins_list k ≡ false = ap begins_list (sym e) in cc
-ends_no_list unit.Program k is e = let no : begins_list k ≡ false = ap begins_list (sym e) in cc
-
--- a part that takes nothing where a list doesn't stand, before a body of a unit
-before_body : {A B : Type 0} {P : List ℕ → A → Front} {Q : List ℕ → B → Front} (u : UnitKind) (k : Keyword) → begins_list k ≡ true → IsSampled (lacks k) P [] → IsSampled always Q (body_samples (end_word u))
-    → IsSampled always (λ text (x : A × B). P text x.0 ⨾ Q text x.1) (body_samples (end_word u))
-before_body u k is one two = in_turn tight (λ other us rest a l. body_lacks (end_word u) k (ends_no_list u k is) other us rest a) (λ other us rest a. refl) one two
-
--- what stands in a unit behind its inputs, its outputs and its variables
-pub externals_rest_sampled : (u : UnitKind) → IsSampled always (λ text (b : Body). SpellsExternals text u [] ⨾ SpellsBody text (end_word u) b) (body_samples (end_word u))
-unfolding begins_list
-externals_rest_sampled u = reading (λ (x : Unit {0} × Body). x.1) (before_body u word.VarExternal refl (no_externals_sampled u) (body_sampled (end_word u)))
-
-pub variables_rest_sampled : (u : UnitKind) → IsSampled always (λ text (b : Body). SpellsOptionalList text word.Var (SpellsDeclaration text) [] ⨾ SpellsExternals text u [] ⨾ SpellsBody text (end_word u) b) (body_samples (end_word u))
-unfolding begins_list
-variables_rest_sampled u = reading (λ (x : Unit {0} × Body). x.1) (before_body u word.Var refl (no_optional_sampled word.Var (λ text. SpellsDeclaration text)) (externals_rest_sampled u))
-
-pub outputs_rest_sampled : (u : UnitKind) → IsSampled always (λ text (b : Body). SpellsFilledList text word.VarOutput [] ⨾ SpellsOptionalList text word.Var (SpellsDeclaration text) [] ⨾ SpellsExternals text u [] ⨾ SpellsBody text (end_word u) b)
-    (body_samples (end_word u))
-unfolding begins_list
-outputs_rest_sampled u = reading (λ (x : Unit {0} × Body). x.1) (before_body u word.VarOutput refl (no_filled_sampled word.VarOutput) (variables_rest_sampled u))
-
-pub inputs_rest_sampled : (u : UnitKind) → IsSampled always (λ text (b : Body). SpellsFilledList text word.VarInput [] ⨾ SpellsFilledList text word.VarOutput [] ⨾ SpellsOptionalList text word.Var (SpellsDeclaration text) [] ⨾ SpellsExternals text u []
-    ⨾ SpellsBody text (end_word u) b) (body_samples (end_word u))
-unfolding begins_list
-inputs_rest_sampled u = reading (λ (x : Unit {0} × Body). x.1) (before_body u word.VarInput refl (no_filled_sampled word.VarInput) (outputs_rest_sampled u))
-
--- the same of a function, which has an input
-abbrev pub input_samples : UnitKind → List Sample
-input_samples u = word_sample word.VarInput ∷ declaration_samples ++ word_sample word.EndVar ∷ body_samples (end_word u)
-
-pub filled_rest_sampled : (u : UnitKind) → IsSampled always (λ text (x : (Declaration × List Declaration) × Body). SpellsFilledList text word.VarInput (x.0.0 ∷ x.0.1) ⨾ SpellsFilledList text word.VarOutput []
-    ⨾ SpellsOptionalList text word.Var (SpellsDeclaration text) [] ⨾ SpellsExternals text u [] ⨾ SpellsBody text (end_word u) x.1) (input_samples u)
-filled_rest_sampled u = next (full_list_sampled word.VarInput) (outputs_rest_sampled u)
-
--- the result of a function
-abbrev pub result_samples : List Sample
-result_samples = sign_sample Colon ∷ word_sample (word.Elementary elementary.Bool) ∷ []
-
-pub result_sampled : IsSampled quiet (λ text (x : Place × Scalar). SpellsResult text (unit.Function x.1 x.0)) result_samples
-result_sampled = reading (λ (x : Unit {0} × (Place × Scalar)). x.1) (after_lines refl (next_lines refl (sign_sampled Colon) placed_scalar_sampled))
-
--- what stands behind a function's name
-pub function_rest_sampled : IsSampled always (λ text (x : (Place × Scalar) × ((Declaration × List Declaration) × Body)). SpellsResult text (unit.Function x.0.1 x.0.0) ⨾ SpellsFilledList text word.VarInput (x.1.0.0 ∷ x.1.0.1)
-    ⨾ SpellsFilledList text word.VarOutput [] ⨾ SpellsOptionalList text word.Var (SpellsDeclaration text) [] ⨾ SpellsNoExternals text [] ⨾ SpellsBody text word.EndFunction x.1.1) (result_samples ++ input_samples (unit.Function (record { elementary = elementary.Bool; subrange = None }) (record { offset = 0; line = 0 })))
-function_rest_sampled =
-    in_turn tight (λ other us rest a k. begins_quiet (word_sample word.VarInput) (declaration_samples ++ word_sample word.EndVar ∷ body_samples word.EndFunction) refl refl refl other us rest a) (λ other us rest a. refl)
-    result_sampled (filled_rest_sampled (unit.Function (record { elementary = elementary.Bool; subrange = None }) (record { offset = 0; line = 0 })))
-
--- units
-pub program_sampled : IsSampled always (λ text. SpellsUnit text) (word_sample word.Program ∷ name_sample ∷ body_samples word.EndProgram)
-program_sampled = record {
-  stands = λ other vs rest a k.
-      let n = (next_lines refl (placed_word_sampled word.Program) (next the_name_sampled (inputs_rest_sampled unit.Program))).stands other vs rest a k in (
-        record { place = n.0.0; kind = unit.Program; name = n.0.1.0; inputs = []; outputs = []; variables = []; externals = []; body = n.0.1.1 },
-        ((refl, refl), (n.1.0, n.1.1, (n.1.2.0, n.1.2.1, (n.1.2.0, refl, n.1.2.2)))),
-      );
-}
 
 -- THE CONFIGURATION
 

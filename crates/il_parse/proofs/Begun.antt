@@ -1,7 +1,7 @@
 -- Bodies that break off.
-use Rattle.std.proofs.Common.{◌≡◌, ℕ, zero, suc, pred, ◌<◌, ◌≤◌, Bool, true, false, ◌&&◌, List, [], ◌∷◌, ◌++◌, length, refl, sym, ◌∙◌, ap, subst, inl, inr, arith, Some, None}
 use Rattle.std.specs.Prelude.{◌⊎◌, IsTrue}
 use Rattle.std.specs.List.{slice_get}
+use Rattle.std.proofs.Common.{◌≡◌, ℕ, zero, suc, pred, ◌<◌, ◌≤◌, Bool, true, false, ◌&&◌, List, [], ◌∷◌, ◌++◌, length, refl, sym, ◌∙◌, ap, subst, inl, inr, arith, Some, None}
 use Rattle.il_spec.specs.declared.token.Token.{Token}
 use Rattle.il_spec.specs.declared.keyword.Keyword.{Keyword}
 use Rattle.il_spec.specs.declared.keyword.Keyword.TheVariants as word
@@ -32,10 +32,10 @@ use Rattle.il_read.specs.declared.stop.Stop.{Stop}
 use Rattle.il_read.proofs.Chain.{HasRead}
 use Rattle.il_read.proofs.Breaks.{s_part, s_part_tight}
 use Rattle.il_read.proofs.Completions.{place_at, placed_read, further_as}
+use Rattle.il_read.proofs.Nesting.{IsOpen}
 use Rattle.il_parse.specs.Bodies.{may_begin, bare, HasLabels}
 use Rattle.il_parse.specs.GoesOn.{Rest, SpellsRestLines, SpellsFrom, SpellsPlacedFrom, Within, BreaksOffBy, StaysShallow, BeginsSurplus, all_steps, BreaksFrom, BreaksPlaced, BreaksSteps, BreaksWith}
 use Rattle.il_parse.specs.Refused.{HasSurplus}
-use Rattle.il_read.proofs.Nesting.{IsOpen}
 use Rattle.il_parse.proofs.Entries.{may_so, TheEnds}
 
 -- what an effect leaves open, and whether a load has to follow

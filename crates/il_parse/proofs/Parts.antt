@@ -1,7 +1,7 @@
 -- Each part of a configuration is one, and a configuration is its parts.
-use Rattle.std.proofs.Common.{◌≡◌, ℕ, ◌≤◌, Bool, true, false, List, [], ◌∷◌, ◌++◌, length, length-append, arith, drop, codes, Option, Some, None, refl, ◌∙◌}
 use Rattle.std.specs.Prelude.{IsFalse}
 use Rattle.std.specs.List.{All}
+use Rattle.std.proofs.Common.{◌≡◌, ℕ, ◌≤◌, Bool, true, false, List, [], ◌∷◌, ◌++◌, length, length-append, arith, drop, codes, Option, Some, None, refl, ◌∙◌}
 use Rattle.std.proofs.lemmas.List.Elements.{All-nil, All-cons, All-head, All-tail}
 use Rattle.il_spec.specs.declared.token.Token.{Token}
 use Rattle.il_spec.specs.declared.keyword.Keyword.TheVariants as word
@@ -15,29 +15,28 @@ use Rattle.il_spec.specs.declared.tree.Task.{Task}
 use Rattle.il_spec.specs.declared.tree.ProgramLine.{ProgramLine}
 use Rattle.il_spec.specs.declared.tree.Config.{Config}
 use Rattle.il_spec.specs.Grammar.{Front, tight, loose, skip_line_ends, ◌⨾◌, ◌⋯◌, At, No, Repeats, TheEnd, TheWord, SomeName, SpellsDeclaration, SpellsUnit, SpellsGlobals, SpellsTask, SpellsProgramLine, SpellsSizes, SpellsResource, SpellsConfig, unit_word, greatest_depth}
+use Rattle.il_spec.specs.declared.keyword.Keyword.{Keyword}
 use Rattle.il_grammar_laws.specs.One.{IsDeterministic, AreApart}
+use Rattle.il_grammar_laws.specs.Alike.{AreAlike, Carries, IsLocal, IsTold}
 use Rattle.il_grammar_laws.proofs.Combinators.{chain, behind, through, no_one, place_of, repeats_until}
 use Rattle.il_grammar_laws.proofs.Leads.{reserved, lead, word_lead, at_holds, word_sure}
 use Rattle.il_grammar_laws.proofs.Units.{unit_lead}
-use Rattle.il_grammar_laws.proofs.Configurations.{some_name_sure, task_one, program_line_one, program_line_lead, end_lead}
-use Rattle.il_spec.specs.declared.keyword.Keyword.{Keyword}
-use Rattle.il_grammar_laws.specs.Alike.{AreAlike, Carries, IsLocal, IsTold}
+use Rattle.il_grammar_laws.proofs.Configurations.{some_name_sure, task_one, program_line_one, program_line_lead, end_lead, three_sizes_one}
 use Rattle.il_grammar_laws.proofs.Alike.{tight_gap, loose_gap, loosely, no_carries, follows, placed, repeated}
 use Rattle.il_grammar_laws.proofs.Local.{word_same, word_carries, some_name_carries, task_carries, program_line_carries, size_carries}
-use Rattle.il_grammar_laws.proofs.Configurations.{three_sizes_one}
-use Rattle.il_read.proofs.Leaves.{word_lead as begins_so, word_there, lead_alike}
-use Rattle.il_read.proofs.Chain.{Lacks, past}
-use Rattle.il_parse.specs.Ahead.{RefusesAhead}
-use Rattle.il_parse.proofs.Ahead.{forget, ahead_of}
 use Rattle.il_read.specs.Reads.{Reads, Refuses, RefusesBy, error_of}
 use Rattle.il_read.specs.declared.stop.SyntaxError.{SyntaxError}
 use Rattle.il_read.specs.Settings.{PlacedWord, SpellsThree}
 use Rattle.il_read.specs.declared.stop.Stop.{Stop}
+use Rattle.il_read.proofs.Leaves.{word_lead as begins_so, word_there, lead_alike}
+use Rattle.il_read.proofs.Chain.{Lacks, past}
+use Rattle.il_parse.specs.Ahead.{RefusesAhead}
 use Rattle.il_parse.specs.Bodies.{IsFewBy}
 use Rattle.il_parse.specs.Units.{SpellsSmallUnit, SpellsUnitBy}
-use Rattle.il_parse.proofs.UnitsByError.{kept, unit_by_one, unit_by_local}
 use Rattle.il_parse.specs.Refused.{Keeps}
 use Rattle.il_parse.specs.Parts.{SpellsFewUnits, SpellsFewUnitsBy, SpellsConfigBy, SpellsGlobalList, SpellsSomeGlobals, SpellsTasks, SpellsPrograms, SpellsLines, SpellsResourceOf, SpellsGroup, SpellsSmallConfig}
+use Rattle.il_parse.proofs.Ahead.{forget, ahead_of}
+use Rattle.il_parse.proofs.UnitsByError.{kept, unit_by_one, unit_by_local}
 use Rattle.il_parse.proofs.Repeated.{end_apart, end_joined, stop_apart, stop_joined}
 
 -- the sizes, the globals and the lines of a configuration

@@ -1,6 +1,6 @@
 -- Lists of variables, units and configurations that break off.
-use Rattle.std.proofs.Common.{◌≡◌, ℕ, ◌<◌, Bool, true, List, [], ◌∷◌, ◌++◌, length, refl, sym, ◌∙◌, ap, subst, inl, inr, arith, Option, Some, None, codes}
 use Rattle.std.specs.Prelude.{◌⊎◌, ⊤, if◌then◌else◌}
+use Rattle.std.proofs.Common.{◌≡◌, ℕ, ◌<◌, Bool, true, List, [], ◌∷◌, ◌++◌, length, refl, sym, ◌∙◌, ap, subst, inl, inr, arith, Option, Some, None, codes}
 use Rattle.il_spec.specs.declared.token.Token.{Token}
 use Rattle.il_spec.specs.declared.token.Kind.{Kind}
 use Rattle.il_spec.specs.declared.token.Kind.TheVariants as kind
@@ -18,33 +18,32 @@ use Rattle.il_spec.specs.declared.tree.Size.{Size}
 use Rattle.il_spec.specs.declared.tree.Task.{Task}
 use Rattle.il_spec.specs.declared.tree.ProgramLine.{ProgramLine}
 use Rattle.il_spec.specs.Text.{AreTokens}
-use Rattle.il_grammar_laws.proofs.Printed.{goes_on_with}
 use Rattle.il_spec.specs.Grammar.{Front, tight, loose, is_line_end, skip_line_ends, ◌⨾◌, ◌⋯◌, AfterLines, No, At, Repeats, TheEnd, TheSign, TheWord, SomeName, SpellsScalar, SpellsDeclaration, SpellsExternal, SpellsList, SpellsFilledList, SpellsOptionalList, SpellsStep, SpellsLabelLine, SpellsBody, SpellsUnit, SpellsTask, SpellsProgramLine}
+use Rattle.il_spec.specs.declared.tree.Config.{Config}
 use Rattle.il_grammar_laws.specs.Alike.{IsEndOf}
 use Rattle.il_grammar_laws.specs.GoesOn.{Sample, Test, IsCut, always, lacks, quiet, ended, IsSampled, Begins}
+use Rattle.il_grammar_laws.proofs.Printed.{goes_on_with}
 use Rattle.il_grammar_laws.proofs.Alike.{end_length, end_of_end, end_same, loose_gap}
 use Rattle.il_grammar_laws.proofs.Local.{word_same}
 use Rattle.il_grammar_laws.proofs.Bodies.{skip_one}
 use Rattle.il_grammar_laws.proofs.Open.{Fills, next, follows, loosely, fill_given, fill_placed, fill_any, repeated, no_after_opens, word_fills, some_name_fills, declaration_fills, external_fills, list_fills, filled_opens, optional_opens, scalar_fills, task_fills, program_line_fills, unit_fills, globals_open_at, result_opens, size_fills, loose_open, tight_open, skip_still}
-use Rattle.il_grammar_laws.proofs.Samples.{word_sample, sign_sample, name_sample, cars_sample, floors_sample, slots_sample, word_known, begins_lacking, begins_solid, declaration_samples, word_sampled, sign_sampled, placed_word_sampled, some_name_sampled, scalar_sampled, filled_end_sampled, full_list_sampled, lacking_sampled, filled_list_sampled, optional_list_sampled, body_samples, body_sampled, body_lacks}
-use Rattle.il_grammar_laws.proofs.GoesOn.{whole_or, cut_here, is_solid, Passes, stays_loose, stays_tight, stays_ended, passes_always, passes_quiet, tight_cut, loose_cut, reach_tight, reach_loose, then_sampled, behind_sampled, map_sampled, IsFilling, IsOpening, begins_here, begins_first, begins_later_open, begins_behind, begins_ahead, begins_later_lax, IsLax, IsLaxPart, lax_chain}
+use Rattle.il_grammar_laws.proofs.Samples.{word_sample, sign_sample, name_sample, cars_sample, floors_sample, slots_sample, word_known, begins_lacking, begins_solid, declaration_samples, word_sampled, sign_sampled, placed_word_sampled, some_name_sampled, scalar_sampled, filled_end_sampled, full_list_sampled, body_samples, body_lacks}
+use Rattle.il_grammar_laws.proofs.GoesOn.{whole_or, cut_here, is_solid, Passes, stays_loose, stays_tight, stays_ended, passes_always, tight_cut, loose_cut, reach_tight, reach_loose, then_sampled, behind_sampled, map_sampled, IsFilling, IsOpening, begins_here, begins_first, begins_later_open, begins_behind, begins_ahead, begins_later_lax, IsLax, IsLaxPart, lax_chain}
 use Rattle.il_read.specs.Reads.{Reads, Stands, BreaksOff, NamesFirst, Further}
 use Rattle.il_read.specs.Settings.{PlacedWord, SpellsThree}
-use Rattle.il_parse.specs.Refused.{IsBegun, GoesOnWith, GoesBeyond}
-use Rattle.il_spec.specs.declared.tree.Config.{Config}
 use Rattle.il_read.specs.declared.stop.Stop.{Stop}
 use Rattle.il_read.specs.declared.stop.SyntaxError.{SyntaxError}
 use Rattle.il_read.specs.declared.stop.SyntaxError.TheVariants.{Unexpected, TooDeep, TooMany}
 use Rattle.il_read.proofs.Chain.{HasRead}
 use Rattle.il_read.proofs.Breaks.{as_breaks, at_first, map_breaks, part_loose, s_loose, s_part, s_tight}
 use Rattle.il_read.proofs.Completions.{lines_break, placed_sampled, floors_sampled, a_size_sampled, size_samples}
+use Rattle.il_parse.specs.Refused.{IsBegun, GoesOnWith, GoesBeyond}
 use Rattle.il_parse.specs.Lists.{IsFilled, SpellsFull}
 use Rattle.il_parse.specs.Insides.{LacksList, SpellsVariables, SpellsSomeExternals}
 use Rattle.il_parse.specs.Headings.{PlacedScalar, SpellsResultAt}
-use Rattle.il_read.specs.declared.stop.SyntaxError.{SyntaxError}
 use Rattle.il_parse.specs.Units.{SpellsSmallUnit, SpellsUnitBy}
 use Rattle.il_parse.specs.Parts.{SpellsSomeGlobals, SpellsTasks, SpellsPrograms, SpellsLines, SpellsResourceOf, SpellsEnding, SpellsGroup}
-use Rattle.il_parse.specs.GoesOn.{SpellsProgramRest, SpellsBlockRest, SpellsFunctionRest, SpellsWholeProgram, SpellsWholeBlock, SpellsWholeFunction, SpellsAllUnits, SpellsAll, stopped, Within}
+use Rattle.il_parse.specs.GoesOn.{SpellsFunctionRest, SpellsWholeProgram, SpellsWholeBlock, SpellsWholeFunction, SpellsAllUnits, SpellsAll, stopped, Within}
 
 -- a line end
 line_kind : (k : Kind) → is_line_end k ≡ true → k ≡ kind.LineEnd
@@ -427,9 +426,6 @@ group_sampled =
     (λ x. (x.0, x.1.0, x.1.1)) (λ x other us r w. w) (s_part some_name_sampled sizes_rest_sampled refl)
 
 -- units and the group
-pub units_end_sampled : IsSampled always SpellsAllUnits (word_sample word.Configuration ∷ [])
-units_end_sampled = record { stands = λ other vs rest a t. ([], ((word_sampled word.Configuration).stands other vs rest a t).1) }
-
 pub units_filling : IsFilling tight always SpellsAllUnits
 units_filling = record { one = λ us. repeated {first = always} (λ u. fill_any (unit_fills u)) (word_fills word.Configuration) us }
 
@@ -469,37 +465,9 @@ text_goes_on_with Unexpected text ts at tokens b = tt
 text_goes_on_with TooDeep text ts at tokens b = (b.0, b.1, b.2, text_goes_on (λ c. ⊤) text ts b.1 tokens b.3.1)
 text_goes_on_with TooMany text ts at tokens b = (b.0, b.1, b.2, text_goes_on (λ c. GoesBeyond TooMany b.0 c.units) text ts b.1 tokens b.3.1)
 
--- what stands behind a heading, of its own samples
-pub program_rest_sampled : IsSampled always SpellsProgramRest (body_samples word.EndProgram)
-program_rest_sampled =
-    map_sampled {P = λ text (x : Unit {0} × (Unit {0} × (List Declaration × (List Declaration × Body)))). LacksList text word.VarInput ⨾ LacksList text word.VarOutput ⨾ SpellsVariables text x.1.1.0 ⨾ SpellsSomeExternals text x.1.1.1.0 ⨾ SpellsBody text word.EndProgram x.1.1.1.1}
-    {Q = SpellsProgramRest} (λ x. (x.1.1.0, x.1.1.1.0, x.1.1.1.1)) (λ x other us r w. w)
-    (s_lacks word.VarInput word.EndProgram (λ e. cc) (lacking_sampled word.VarInput) (s_lacks word.VarOutput word.EndProgram (λ e. cc) (lacking_sampled word.VarOutput)
-    (s_lacks word.Var word.EndProgram (λ e. cc) (optional_list_sampled word.Var (λ text. SpellsDeclaration text))
-    (s_lacks word.VarExternal word.EndProgram (λ e. cc) (optional_list_sampled word.VarExternal (λ text. SpellsExternal text)) (body_sampled word.EndProgram)))))
-
-pub block_rest_sampled : IsSampled always SpellsBlockRest (body_samples word.EndFunctionBlock)
-block_rest_sampled =
-    map_sampled {P = λ text (x : List Declaration × (List Declaration × (List Declaration × (Unit {0} × Body)))). SpellsFilledList text word.VarInput x.0 ⨾ SpellsFilledList text word.VarOutput x.1.0 ⨾ SpellsVariables text x.1.1.0 ⨾ LacksList text word.VarExternal ⨾ SpellsBody text word.EndFunctionBlock x.1.1.1.1}
-    {Q = SpellsBlockRest} (λ x. (x.0, x.1.0, x.1.1.0, x.1.1.1.1)) (λ x other us r w. w)
-    (s_lacks word.VarInput word.EndFunctionBlock (λ e. cc) (filled_list_sampled word.VarInput) (s_lacks word.VarOutput word.EndFunctionBlock (λ e. cc) (filled_list_sampled word.VarOutput)
-    (s_lacks word.Var word.EndFunctionBlock (λ e. cc) (optional_list_sampled word.Var (λ text. SpellsDeclaration text))
-    (s_lacks word.VarExternal word.EndFunctionBlock (λ e. cc) (lacking_sampled word.VarExternal) (body_sampled word.EndFunctionBlock)))))
-
-pub function_rest_sampled : IsSampled always SpellsFunctionRest ((word_sample word.VarInput ∷ declaration_samples ++ word_sample word.EndVar ∷ []) ++ body_samples word.EndFunction)
-function_rest_sampled =
-    map_sampled {P = λ text (x : List Declaration × (Unit {0} × (List Declaration × (Unit {0} × Body)))). SpellsFull text word.VarInput x.0 ⨾ LacksList text word.VarOutput ⨾ SpellsVariables text x.1.1.0 ⨾ LacksList text word.VarExternal ⨾ SpellsBody text word.EndFunction x.1.1.1.1}
-    {Q = SpellsFunctionRest} (λ x. (x.0, x.1.1.0, x.1.1.1.1)) (λ x other us r w. w)
-    (s_tight (full_sampled word.VarInput) (s_lacks word.VarOutput word.EndFunction (λ e. cc) (lacking_sampled word.VarOutput)
-    (s_lacks word.Var word.EndFunction (λ e. cc) (optional_list_sampled word.Var (λ text. SpellsDeclaration text))
-    (s_lacks word.VarExternal word.EndFunction (λ e. cc) (lacking_sampled word.VarExternal) (body_sampled word.EndFunction)))))
-
+-- what stands behind the name of a function, more line ends before it
 pub lax_function_rest : IsLax SpellsFunctionRest
 lax_function_rest = record { more = λ text x t ts rest line w. nested.more text (x.0, (tt, (x.1, (tt, x.2)))) t ts rest line w }
   where
     nested : IsLax (λ text (x : List Declaration × (Unit {0} × (List Declaration × (Unit {0} × Body)))). SpellsFull text word.VarInput x.0 ⨾ LacksList text word.VarOutput ⨾ SpellsVariables text x.1.1.0 ⨾ LacksList text word.VarExternal ⨾ SpellsBody text word.EndFunction x.1.1.1.1)
     nested = lax_chain (lax_full word.VarInput) (lax_chain (lax_no word.VarOutput) (lax_chain (lax_optional word.Var (λ text. SpellsDeclaration text)) (lax_chain (lax_no word.VarExternal) (lax_body word.EndFunction))))
-
-pub function_sampled_behind : IsSampled always (λ text (y : (Place × Scalar) × (List Declaration × List Declaration × Body)). SpellsResultAt text y.0 ⨾ SpellsFunctionRest text y.1)
-    ((sign_sample Colon ∷ word_sample (word.Elementary elementary.Bool) ∷ []) ++ ((word_sample word.VarInput ∷ declaration_samples ++ word_sample word.EndVar ∷ []) ++ body_samples word.EndFunction))
-function_sampled_behind = then_sampled tight result_sampled_at function_rest_sampled (passes_quiet refl) stays_tight

@@ -1,6 +1,8 @@
 -- What a limit forbids, and no rule.
-use Rattle.std.proofs.Common.{◌≡◌, ◌<◌, ◌≤◌, ◌++◌, length, arith, ℕ, Bool, true, false, List, [], ◌∷◌, refl, sym, ◌∙◌, ap, subst, inl, inr, drop}
 use Rattle.std.specs.Prelude.{◌⊎◌, IsTrue, IsFalse}
+use Rattle.std.specs.List.{All}
+use Rattle.std.proofs.Common.{◌≡◌, ◌<◌, ◌≤◌, ◌++◌, length, arith, ℕ, Bool, true, false, List, [], ◌∷◌, refl, sym, ◌∙◌, ap, subst, inl, inr, drop}
+use Rattle.std.proofs.lemmas.List.Elements.{All-nil, All-cons, All-append}
 use Rattle.il_spec.specs.declared.token.Token.{Token}
 use Rattle.il_spec.specs.declared.token.Sign.TheVariants.{Ampersand, CloseParenthesis}
 use Rattle.il_spec.specs.declared.keyword.Keyword.{Keyword}
@@ -13,52 +15,39 @@ use Rattle.il_spec.specs.declared.tree.Operator.TheVariants as operator
 use Rattle.il_spec.specs.declared.tree.Instruction.{Instruction}
 use Rattle.il_spec.specs.declared.tree.Instruction.TheVariants as instruction
 use Rattle.il_spec.specs.declared.tree.UnitKind.TheVariants as unit
-use Rattle.il_spec.specs.declared.tree.Scalar.{Scalar}
 use Rattle.il_spec.specs.declared.tree.Declaration.{Declaration}
 use Rattle.il_spec.specs.declared.tree.Body.{Body}
 use Rattle.il_spec.specs.Text.{name_of}
 use Rattle.il_spec.specs.Grammar.{skip_line_ends, AfterLines, Repeats, greatest_depth, unit_word, Front, Gap, tight, loose, ◌⨾◌, ◌⋯◌, At, TheSign, TheWord, TheLineEnd, TheName, TheLetterN, SpellsOperands, SpellsUnit}
-use Rattle.il_grammar_laws.specs.GoesOn.{Sample, calm, always, IsSampled, Begins}
-use Rattle.il_grammar_laws.proofs.Alike.{end_self}
-use Rattle.il_grammar_laws.proofs.Open.{Fills, sign_fills, word_fills, the_name_fills}
-use Rattle.il_grammar_laws.proofs.Samples.{true_sample, line_end_sample, line_end_sampled, the_name_sampled, operand_line_sampled, target_line_sampled, name_line_sampled, called_sampled, operands_sampled}
-use Rattle.il_grammar_laws.proofs.GoesOn.{cut_here, stays_loose, stays_tight, passes_always, passes_calm, begins_here, begins_first, begins_as, begins_at}
+use Rattle.il_spec.specs.declared.tree.Config.{Config}
+use Rattle.il_spec.specs.declared.tree.Unit.{Unit as ProgramUnit}
+use Rattle.il_rules.specs.Written.{IsNested}
+use Rattle.il_grammar_laws.specs.GoesOn.{Sample, calm, always, IsSampled, Begins, IsCut, ended}
+use Rattle.il_grammar_laws.proofs.Alike.{end_self, end_length, end_of_end, gap_length, loose_gap}
+use Rattle.il_grammar_laws.proofs.Open.{Fills, sign_fills, word_fills, the_name_fills, loose_open}
+use Rattle.il_grammar_laws.proofs.Samples.{true_sample, line_end_sample, line_end_sampled, the_name_sampled, operand_line_sampled, target_line_sampled, name_line_sampled, called_sampled, operands_sampled, word_sample, name_sample, body_samples, word_sampled}
+use Rattle.il_grammar_laws.proofs.GoesOn.{cut_here, stays_loose, stays_tight, passes_always, passes_calm, begins_here, begins_first, begins_as, begins_at, IsFilling, HasGone, gone_item, map_sampled, begins_lines}
 use Rattle.il_read.specs.Lead.{lead_at}
 use Rattle.il_read.specs.declared.lead.Lead.{Lead}
 use Rattle.il_read.specs.declared.lead.Lead.TheVariants as lead
-use Rattle.il_read.specs.Reads.{BreaksOff, fault_at, SpellsRoomyOf, Effect, SpellsLine}
+use Rattle.il_read.specs.Reads.{BreaksOff, fault_at, SpellsRoomyOf, Effect, SpellsLine, Reads}
 use Rattle.il_read.specs.Reads.Effect.{Even, Closing}
 use Rattle.il_read.specs.Settings.{PlacedWord}
 use Rattle.il_read.specs.declared.stop.Stop.{Stop}
-use Rattle.il_read.specs.declared.stop.SyntaxError.TheVariants.{Unexpected, TooMany}
-use Rattle.il_read.proofs.Leaves.{word_there, sign_there, name_there}
-use Rattle.il_read.proofs.Breaks.{at_first, s_tight}
-use Rattle.il_parse.specs.Bodies.{may_begin, begins_lead}
-use Rattle.il_parse.specs.Units.{unit_begins}
-use Rattle.il_parse.specs.GoesOn.{Within, StaysShallow, BeginsSurplus, BreaksPlaced, BreaksWith, BreaksUnits, BreaksAll, SpellsAll, SpellsAllUnits, SpellsWholeProgram, SpellsWholeBlock, SpellsWholeFunction, SpellsProgramRest, SpellsBlockRest, SpellsFunctionRest}
-use Rattle.il_parse.specs.Headings.{SpellsResultAt}
-use Rattle.il_parse.proofs.Begun.{placed_inside, placed_from_sampled, plainly, shorter_behind, by_breaks}
-use Rattle.il_parse.proofs.Shallow.{Headed, headed_sampled, program_within}
-use Rattle.il_parse.proofs.Parts.{Group, config, whole_config, from_small_units, are_shallow}
-use Rattle.il_parse.specs.Parts.{SpellsGroup, SpellsFewUnits}
-use Rattle.il_parse.specs.Units.{SpellsUnitBy}
-use Rattle.il_parse.specs.Refused.{IsItsPlace, HasSurplus, GoesBeyond}
-use Rattle.il_rules.specs.Written.{IsNested}
-use Rattle.il_spec.specs.declared.tree.Config.{Config}
-use Rattle.il_spec.specs.declared.tree.Unit.{Unit as ProgramUnit}
-use Rattle.std.specs.List.{All}
-use Rattle.std.proofs.lemmas.List.Elements.{All-nil, All-cons, All-append}
-use Rattle.il_grammar_laws.proofs.Alike.{end_length, end_of_end, gap_length, loose_gap}
-use Rattle.il_grammar_laws.proofs.GoesOn.{IsFilling, HasGone, gone_item, map_sampled, begins_lines}
-use Rattle.il_grammar_laws.proofs.Open.{loose_open}
-use Rattle.il_grammar_laws.proofs.Samples.{word_sample, name_sample, body_samples, word_sampled}
-use Rattle.il_read.proofs.Breaks.{as_breaks, later_loose, s_loose}
-use Rattle.il_read.proofs.Completions.{place_at, lines_break}
-use Rattle.il_read.specs.Reads.{Reads}
+use Rattle.il_read.specs.declared.stop.SyntaxError.TheVariants.{Unexpected, TooMany, TooDeep}
 use Rattle.il_read.specs.declared.stop.SyntaxError.{SyntaxError}
-use Rattle.il_read.specs.declared.stop.SyntaxError.TheVariants.{TooDeep}
-use Rattle.il_grammar_laws.specs.GoesOn.{IsCut, ended}
-use Rattle.il_parse.proofs.Rests.{group_sampled, units_filling, program_is, block_is, function_is, program_rest_sampled, block_rest_sampled, function_sampled_behind}
+use Rattle.il_read.proofs.Leaves.{word_there, sign_there, name_there}
+use Rattle.il_read.proofs.Breaks.{at_first, s_tight, as_breaks, later_loose, s_loose}
+use Rattle.il_read.proofs.Completions.{place_at, lines_break}
+use Rattle.il_parse.specs.Bodies.{may_begin, begins_lead}
+use Rattle.il_parse.specs.Units.{unit_begins, SpellsUnitBy}
+use Rattle.il_parse.specs.GoesOn.{Within, StaysShallow, BeginsSurplus, BreaksPlaced, BreaksWith, BreaksUnits, BreaksAll, SpellsAll, SpellsAllUnits, SpellsProgramRest, SpellsBlockRest}
+use Rattle.il_parse.specs.Parts.{SpellsGroup, SpellsFewUnits}
+use Rattle.il_parse.specs.Refused.{IsItsPlace, HasSurplus, GoesBeyond}
+use Rattle.il_parse.proofs.Begun.{placed_inside, placed_from_sampled, plainly, shorter_behind, by_breaks}
+use Rattle.il_parse.proofs.Shallow.{Headed, ResultRest, headed_sampled, program_within, block_within, result_within}
+use Rattle.il_parse.proofs.Parts.{Group, config, whole_config, from_small_units, are_shallow}
+use Rattle.il_parse.proofs.Rests.{group_sampled, units_filling, program_is, block_is, function_is}
 
 -- what stands there begins itself
 begins_whole : {A : Type 0} {P : List ℕ → A → Front} {look : Gap} {text : List ℕ} (x : A) (ts m : List Token) → Fills look always (λ text. P text x) → P text x ts m → Begins always P text ts m
@@ -158,20 +147,24 @@ word_begins text k ts l =
     begins_as {P = λ text (y : Place × Unit {0}). At y.0 (TheWord text k)} {Q = λ text. PlacedWord text k} (λ y. y.0) (λ y other us r w. w)
     (begins_at {P = λ text (u : Unit {0}). TheWord text k} (λ u. (word_fills k).takes) (begins_whole tt ts (drop 1 ts) (word_fills k) (word_there text k ts l)))
 
+-- a heading begins with its word
+headed_begun : {A : Type 0} (k : Keyword) (Q : List ℕ → A → Front) (body : A → Body) {zs : List Sample} → IsSampled always (Within (λ x. StaysShallow 0 (body x).steps) Q) zs → (text : List ℕ) (ts : List Token) → lead_at text ts ≡ lead.Reserved k
+    → Begins always (Headed k Q) text ts (drop 1 ts)
+headed_begun k Q body q text ts l =
+    begins_as {P = Headed k (Within (λ x. StaysShallow 0 (body x).steps) Q)} {Q = Headed k Q} (λ x. x) (λ x other us r w. (w.0, w.1, (w.2.0, w.2.1, w.2.2.0)))
+    (begins_first loose (s_tight the_name_sampled q) passes_always (stays_loose refl) (word_begins text k ts l))
+
 -- the first token begins a unit
 unit_begun : (text : List ℕ) (l : Lead) (ts : List Token) → lead_at text ts ≡ l → unit_begins l ≡ true → Begins always SpellsUnit text ts (drop 1 ts)
 unit_begun text (lead.Reserved word.Program) ts l begun =
-    begins_as {P = SpellsWholeProgram} {Q = SpellsUnit} (λ x. record { place = x.0; kind = unit.Program; name = x.1; inputs = []; outputs = []; variables = x.2.0; externals = x.2.1; body = x.2.2 }) program_is
-    (begins_as {P = λ text (x : Place × (Named × (List Declaration × List Declaration × Body))). PlacedWord text word.Program x.0 ⋯ TheName text x.1.0 ⨾ SpellsProgramRest text x.1.1} {Q = SpellsWholeProgram} (λ x. (x.0, x.1.0, x.1.1)) (λ x other us r w. w)
-    (begins_first loose (s_tight the_name_sampled program_rest_sampled) passes_always (stays_loose refl) (word_begins text word.Program ts l)))
+    begins_as {P = Headed word.Program SpellsProgramRest} {Q = SpellsUnit} (λ x. record { place = x.0; kind = unit.Program; name = x.1.0; inputs = []; outputs = []; variables = x.1.1.0; externals = x.1.1.1; body = x.1.1.2 })
+    (λ x other us r w. program_is (x.0, x.1.0, x.1.1) other us r w) (headed_begun word.Program SpellsProgramRest (λ x. x.2) program_within text ts l)
 unit_begun text (lead.Reserved word.FunctionBlock) ts l begun =
-    begins_as {P = SpellsWholeBlock} {Q = SpellsUnit} (λ x. record { place = x.0; kind = unit.FunctionBlock; name = x.1; inputs = x.2.0; outputs = x.2.1; variables = x.2.2; externals = []; body = x.2.3 }) block_is
-    (begins_as {P = λ text (x : Place × (Named × (List Declaration × List Declaration × List Declaration × Body))). PlacedWord text word.FunctionBlock x.0 ⋯ TheName text x.1.0 ⨾ SpellsBlockRest text x.1.1} {Q = SpellsWholeBlock} (λ x. (x.0, x.1.0, x.1.1)) (λ x other us r w. w)
-    (begins_first loose (s_tight the_name_sampled block_rest_sampled) passes_always (stays_loose refl) (word_begins text word.FunctionBlock ts l)))
+    begins_as {P = Headed word.FunctionBlock SpellsBlockRest} {Q = SpellsUnit} (λ x. record { place = x.0; kind = unit.FunctionBlock; name = x.1.0; inputs = x.1.1.0; outputs = x.1.1.1; variables = x.1.1.2; externals = []; body = x.1.1.3 })
+    (λ x other us r w. block_is (x.0, x.1.0, x.1.1) other us r w) (headed_begun word.FunctionBlock SpellsBlockRest (λ x. x.3) block_within text ts l)
 unit_begun text (lead.Reserved word.Function) ts l begun =
-    begins_as {P = SpellsWholeFunction} {Q = SpellsUnit} (λ x. record { place = x.0; kind = unit.Function x.2.1 x.2.0; name = x.1; inputs = x.3.0; outputs = []; variables = x.3.1; externals = []; body = x.3.2 }) function_is
-    (begins_as {P = λ text (x : Place × (Named × ((Place × Scalar) × (List Declaration × List Declaration × Body)))). PlacedWord text word.Function x.0 ⋯ TheName text x.1.0 ⨾ SpellsResultAt text x.1.1.0 ⨾ SpellsFunctionRest text x.1.1.1} {Q = SpellsWholeFunction} (λ x. (x.0, x.1.0, x.1.1.0, x.1.1.1)) (λ x other us r w. w)
-    (begins_first loose (s_tight the_name_sampled function_sampled_behind) passes_always (stays_loose refl) (word_begins text word.Function ts l)))
+    begins_as {P = Headed word.Function ResultRest} {Q = SpellsUnit} (λ x. record { place = x.0; kind = unit.Function x.1.1.0.1 x.1.1.0.0; name = x.1.0; inputs = x.1.1.1.0; outputs = []; variables = x.1.1.1.1; externals = []; body = x.1.1.1.2 })
+    (λ x other us r w. function_is (x.0, x.1.0, x.1.1.0, x.1.1.1) other us r w) (headed_begun word.Function ResultRest (λ x. x.1.2) result_within text ts l)
 unit_begun text l ts same begun = absurd cc
 
 -- UNITS THAT BREAK OFF

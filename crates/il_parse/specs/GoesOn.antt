@@ -1,5 +1,7 @@
--- What a reader promises of the tokens before a fault: the rules that they begin have no limits.
+-- What a reader promises of the tokens before a fault, and of those with it where only a limit forbids it: what they begin. The rules have no limits, so
+-- what is within one, or goes beyond it, is said besides.
 use Rattle.std.specs.Prelude.{◌≡◌, ◌<◌, ◌≤◌, ℕ, Bool, false, IsTrue, List, [], ◌∷◌, length, ⊤}
+use Rattle.std.specs.List.{All}
 use Rattle.il_spec.specs.declared.token.Token.{Token}
 use Rattle.il_spec.specs.declared.keyword.Keyword.{Keyword}
 use Rattle.il_spec.specs.declared.keyword.Keyword.TheVariants as word
@@ -13,6 +15,7 @@ use Rattle.il_spec.specs.declared.tree.Body.{Body}
 use Rattle.il_spec.specs.declared.tree.Unit.{Unit as ProgramUnit}
 use Rattle.il_spec.specs.declared.tree.Config.{Config}
 use Rattle.il_spec.specs.Grammar.{Front, skip_line_ends, ◌⨾◌, ◌⋯◌, At, AfterLines, Repeats, TheWord, TheName, SpellsFilledList, SpellsInstruction, SpellsStep, SpellsLabelLine, SpellsBody, SpellsUnit, SpellsConfig, is_nested, greatest_depth, Gap, tight}
+use Rattle.il_rules.specs.Written.{IsNested}
 use Rattle.il_grammar_laws.specs.GoesOn.{Test, always, ended, Begins}
 use Rattle.il_read.specs.declared.stop.SyntaxError.{SyntaxError}
 use Rattle.il_read.specs.declared.stop.SyntaxError.TheVariants.{Unexpected, TooDeep, TooMany}
@@ -21,8 +24,6 @@ use Rattle.il_read.specs.Reads.{IsFault, fault_at, Further}
 use Rattle.il_read.specs.Settings.{PlacedWord}
 use Rattle.il_parse.specs.Bodies.{bare}
 use Rattle.il_parse.specs.Refused.{IsItsPlace, HasSurplus, GoesBeyond}
-use Rattle.il_rules.specs.Written.{IsNested}
-use Rattle.std.specs.List.{All}
 use Rattle.il_parse.specs.Lists.{SpellsFull}
 use Rattle.il_parse.specs.Insides.{LacksList, SpellsVariables, SpellsSomeExternals}
 use Rattle.il_parse.specs.Headings.{SpellsResultAt}

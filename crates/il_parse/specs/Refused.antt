@@ -1,16 +1,16 @@
 -- Which answer refuses a text, and the limits of a tree.
 use Rattle.std.specs.List.{All, slice_get}
+use Rattle.std.specs.Prelude.{◌≡◌, ◌<◌, ◌≤◌, ◌⊎◌, Some, ℕ, List, [], ◌∷◌, ◌++◌, take, Result, Ok, Err, length, ⊤}
 use Rattle.il_spec.specs.declared.tree.Step.{Step}
 use Rattle.il_spec.specs.declared.tree.Unit.{Unit as ProgramUnit}
-use Rattle.std.specs.Prelude.{◌≡◌, ◌<◌, ◌≤◌, ◌⊎◌, Some, ℕ, List, [], ◌∷◌, ◌++◌, take, Result, Ok, Err, length, ⊤}
 use Rattle.il_spec.specs.declared.fault.Refusal.{Refusal}
 use Rattle.il_spec.specs.declared.fault.Refusal.TheVariants as refusal
 use Rattle.il_spec.specs.declared.tree.Config.{Config}
-use Rattle.il_rules.specs.Written.{HasFewInstructions, IsNested}
 use Rattle.il_spec.specs.declared.token.Token.{Token}
 use Rattle.il_spec.specs.declared.tree.Place.{Place}
 use Rattle.il_spec.specs.Text.{AreTokens, line_at}
 use Rattle.il_spec.specs.Grammar.{AfterLines, SpellsConfig}
+use Rattle.il_rules.specs.Written.{HasFewInstructions, IsNested}
 use Rattle.il_grammar_laws.specs.Alike.{IsEndOf, AreAlike}
 use Rattle.il_grammar_laws.specs.GoesOn.{IsCut}
 use Rattle.il_read.specs.declared.stop.SyntaxError.{SyntaxError}

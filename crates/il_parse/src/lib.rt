@@ -35,8 +35,9 @@ pub use variables::{comes, externals, filled_list, full_list, no_list, optional_
 ///
 /// Fault 10 stands at the first token with which no text goes on; at the end of the text its line is one more than the line
 /// feeds. Fault 11 stands at the 17th parenthesis that is open at once, and fault 12 at the 65th unit and at the operator of a
-/// unit's 4097th instruction. That no text goes on with it is proved, and that one goes on with the tokens before it. With the
-/// token of fault 11 or 12 one goes on too, where no limits count: 10 is what the grammar forbids, and 11 and 12 what a limit does.
+/// unit's 4097th instruction. That no text goes on with it is proved, and that one of at most 16 open parentheses goes on with
+/// the tokens before it. With the token of fault 11 or 12 one goes on too, beyond the limit: 10 is what the grammar forbids, and
+/// 11 and 12 what a limit does. In the one of fault 12 the first unit or instruction too many stands at that token.
 pub fn parse(alloc: Global, text: &[u8], tokens: &[Token]) -> Result<Written, Refusal>
     requires { AreTokens text.now 0 tokens.now }
     // What is read is spelled so.

@@ -1,14 +1,14 @@
 use Rattle.std.proofs.Common.{[], ◌∷◌, ◌++◌, sym, ◌∙◌, ap, subst}
-use Rattle.il_read.specs.Reads.{number_of}
-use Rattle.il_parse.specs.Refused.{IsPlaceAt, Keeps}
-use Rattle.il_parse.proofs.UnitsByError.{keeps_each}
+use Rattle.il_rules.specs.Written.{IsNested}
 use Rattle.il_grammar_laws.proofs.Bytes.{texts_alike}
-use Rattle.il_parse.proofs.Turn.{fault_parts}
 use Rattle.il_grammar_laws.proofs.Configurations.{config_one}
 use Rattle.il_grammar_laws.proofs.Spelled.{spelled_written}
 use Rattle.il_grammar_laws.proofs.Alike.{alike_self}
+use Rattle.il_read.specs.Reads.{number_of}
+use Rattle.il_parse.specs.Refused.{IsPlaceAt, Keeps}
+use Rattle.il_parse.proofs.UnitsByError.{keeps_each}
+use Rattle.il_parse.proofs.Turn.{fault_parts}
 use Rattle.il_parse.proofs.Rests.{text_goes_on, text_goes_on_with}
-use Rattle.il_rules.specs.Written.{IsNested}
 use Rattle.il_parse.proofs.parse.Goals as goal
 
 pub returns-in-Ok-clause-found : goal.returns-in-Ok-clause-found

@@ -1,8 +1,7 @@
-use Rattle.il_parse.proofs.Ahead.{no_line_end, no_steps}
 use Rattle.il_read.proofs.Breaks.{at_first}
-use Rattle.il_parse.proofs.Ahead.{up_so}
-use Rattle.il_parse.proofs.Begun.{body_breaks, body_within, plainly}
 use Rattle.il_parse.specs.Bodies.{SpellsBodyBy}
+use Rattle.il_parse.proofs.Ahead.{no_line_end, no_steps, up_so}
+use Rattle.il_parse.proofs.Begun.{body_breaks, body_within, plainly}
 use Rattle.il_parse.proofs.ByError.{up_ahead_by}
 use Rattle.il_parse.proofs.bodies.body.Goals as goal
 

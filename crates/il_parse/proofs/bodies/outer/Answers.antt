@@ -1,9 +1,9 @@
 use Rattle.std.proofs.Common.{refl, sym, ap, ◌∙◌}
 use Rattle.il_read.specs.Lead.{lead_at}
 use Rattle.il_read.proofs.ByError.{up_by}
+use Rattle.il_read.proofs.Breaks.{memory_breaks}
 use Rattle.il_parse.specs.Bodies.{SpellsNextBy}
 use Rattle.il_parse.proofs.Entries.{outer_refused}
-use Rattle.il_read.proofs.Breaks.{memory_breaks}
 use Rattle.il_parse.proofs.Ahead.{up_so}
 use Rattle.il_parse.proofs.Begun.{outer_breaks, plainly}
 use Rattle.il_parse.proofs.bodies.outer.Goals as goal

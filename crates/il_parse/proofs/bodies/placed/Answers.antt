@@ -1,10 +1,10 @@
 use Rattle.std.proofs.Common.{sym, ◌∙◌, ap}
+use Rattle.il_spec.specs.declared.keyword.Keyword.{Keyword}
+use Rattle.il_read.proofs.Breaks.{at_first}
 use Rattle.il_parse.specs.Bodies.{may_begin, RefusesPlaced}
+use Rattle.il_parse.specs.GoesOn.{BreaksPlaced}
 use Rattle.il_parse.proofs.Ahead.{up_so}
 use Rattle.il_parse.proofs.Entries.{stands_not, full_refused, placed_refused, placed_read}
-use Rattle.il_spec.specs.declared.keyword.Keyword.{Keyword}
-use Rattle.il_parse.specs.GoesOn.{BreaksPlaced}
-use Rattle.il_read.proofs.Breaks.{at_first}
 use Rattle.il_parse.proofs.Begun.{instruction_breaks, placed_from_sampled, plainly}
 use Rattle.il_parse.proofs.Surplus.{surplus_breaks}
 use Rattle.il_parse.proofs.bodies.placed.Goals as goal

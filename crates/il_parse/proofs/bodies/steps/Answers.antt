@@ -1,9 +1,9 @@
-use Rattle.std.proofs.Common.{◌≡◌, ◌+◌, length, length-append, [], ◌∷◌, arith}
 use Rattle.std.specs.Prelude.{max}
+use Rattle.std.proofs.Common.{◌≡◌, ◌+◌, length, length-append, [], ◌∷◌, arith}
 use Rattle.il_read.proofs.Chain.{starts}
 use Rattle.il_read.proofs.ByError.{up_by}
-use Rattle.il_parse.specs.Bodies.{SpellsStepsBy}
 use Rattle.il_read.proofs.Nesting.{none_open}
+use Rattle.il_parse.specs.Bodies.{SpellsStepsBy}
 use Rattle.il_parse.proofs.Entries.{steps_refused, steps_read, step_on, open_on, few_on}
 use Rattle.il_parse.proofs.Begun.{steps_breaks}
 use Rattle.il_parse.proofs.Ahead.{up_so}

@@ -1,12 +1,12 @@
+use Rattle.il_spec.specs.Grammar.{loose}
+use Rattle.il_grammar_laws.proofs.Alike.{loose_gap}
+use Rattle.il_read.proofs.Chain.{first, later, part}
+use Rattle.il_read.proofs.ByError.{up_by}
+use Rattle.il_parse.specs.Parts.{SpellsGroup, SpellsConfigBy}
 use Rattle.il_parse.proofs.Surplus.{text_units_break, text_group_break}
 use Rattle.il_parse.proofs.Ahead.{up_so}
-use Rattle.il_spec.specs.Grammar.{loose}
-use Rattle.il_read.proofs.Chain.{first, later, part}
-use Rattle.il_parse.specs.Parts.{SpellsGroup, SpellsConfigBy}
 use Rattle.il_parse.proofs.Parts.{config_read, config_refused, few_units_local}
-use Rattle.il_read.proofs.ByError.{up_by}
 use Rattle.il_parse.proofs.UnitsByError.{units_by_read}
-use Rattle.il_grammar_laws.proofs.Alike.{loose_gap}
 use Rattle.il_parse.proofs.configuration.configuration.Goals as goal
 
 pub returns-in_err-units-clause-refused : goal.returns-in_err-units-clause-refused

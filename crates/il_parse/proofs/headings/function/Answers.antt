@@ -1,20 +1,18 @@
-use Rattle.il_parse.proofs.Begun.{plainly}
-use Rattle.il_parse.proofs.Shallow.{Headed, ResultRest, mapped, headed_sampled, headed_name, headed_on, result_within, result_first, result_on}
-use Rattle.il_parse.specs.GoesOn.{SpellsWholeFunction}
-use Rattle.il_parse.proofs.Ahead.{up_so}
 use Rattle.std.proofs.Common.{refl}
 use Rattle.il_spec.specs.declared.keyword.Keyword.TheVariants as word
 use Rattle.il_spec.specs.Grammar.{tight, loose, ◌⨾◌, TheName}
-use Rattle.il_parse.specs.Insides.{SpellsFunctionInsideBy}
-use Rattle.il_parse.specs.Headings.{SpellsFunctionBy, SpellsResultAt}
-use Rattle.il_read.proofs.Chain.{first, later}
-use Rattle.il_read.proofs.ByError.{up_by}
 use Rattle.il_grammar_laws.proofs.Local.{the_name_local, result_local, placed_word_local}
 use Rattle.il_grammar_laws.proofs.Alike.{tight_gap, loose_gap}
-use Rattle.il_parse.proofs.Ahead.{later_ahead, part_ahead, forget}
-use Rattle.il_read.proofs.Breaks.{at_first, s_tight}
 use Rattle.il_grammar_laws.proofs.Samples.{the_name_sampled}
-use Rattle.std.proofs.Common.{refl}
+use Rattle.il_read.proofs.Chain.{first, later}
+use Rattle.il_read.proofs.ByError.{up_by}
+use Rattle.il_read.proofs.Breaks.{at_first, s_tight}
+use Rattle.il_parse.specs.GoesOn.{SpellsWholeFunction}
+use Rattle.il_parse.specs.Insides.{SpellsFunctionInsideBy}
+use Rattle.il_parse.specs.Headings.{SpellsFunctionBy, SpellsResultAt}
+use Rattle.il_parse.proofs.Begun.{plainly}
+use Rattle.il_parse.proofs.Shallow.{Headed, ResultRest, mapped, headed_sampled, headed_name, headed_on, result_within, result_first, result_on}
+use Rattle.il_parse.proofs.Ahead.{up_so, later_ahead, part_ahead, forget}
 use Rattle.il_parse.proofs.headings.function.Goals as goal
 
 pub returns-in_err-place-clause-refused : goal.returns-in_err-place-clause-refused

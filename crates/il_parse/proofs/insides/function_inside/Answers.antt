@@ -1,17 +1,17 @@
 use Rattle.il_spec.specs.declared.keyword.Keyword.TheVariants as word
 use Rattle.il_spec.specs.Grammar.{◌⨾◌, SpellsDeclaration}
+use Rattle.il_grammar_laws.proofs.Local.{optional_list_local}
+use Rattle.il_grammar_laws.proofs.Samples.{lacking_sampled, optional_list_sampled}
+use Rattle.il_grammar_laws.proofs.GoesOn.{lax_chain, passes_always}
+use Rattle.il_read.proofs.Breaks.{first_tight, map_breaks}
 use Rattle.il_parse.specs.Bodies.{SpellsBodyBy}
 use Rattle.il_parse.specs.Insides.{LacksList, SpellsVariables, SpellsFunctionInsideBy}
-use Rattle.il_grammar_laws.proofs.Local.{optional_list_local}
+use Rattle.il_parse.specs.GoesOn.{Within, StaysShallow, SpellsFunctionRest}
 use Rattle.il_parse.proofs.Missing.{no_list_local, as_read, full_local}
 use Rattle.il_parse.proofs.Ahead.{first_ahead, later_ahead, part_ahead, up_so}
 use Rattle.il_parse.proofs.Begun.{plainly, body_within}
 use Rattle.il_parse.proofs.Shallow.{function_on, function_parts, lax_within}
-use Rattle.il_parse.specs.GoesOn.{Within, StaysShallow, SpellsFunctionRest}
 use Rattle.il_parse.proofs.Rests.{ahead_first, full_opening, later_lax, lax_no, lax_optional, no_list_opening, passes_lacks, s_lacks, variables_opening}
-use Rattle.il_grammar_laws.proofs.Samples.{lacking_sampled, optional_list_sampled}
-use Rattle.il_read.proofs.Breaks.{first_tight, map_breaks}
-use Rattle.il_grammar_laws.proofs.GoesOn.{lax_chain, passes_always}
 use Rattle.il_parse.proofs.ByError.{up_ahead_by}
 use Rattle.il_parse.proofs.insides.function_inside.Goals as goal
 

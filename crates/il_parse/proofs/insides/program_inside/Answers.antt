@@ -1,17 +1,17 @@
 use Rattle.il_spec.specs.declared.keyword.Keyword.TheVariants as word
 use Rattle.il_spec.specs.Grammar.{◌⨾◌, SpellsDeclaration, SpellsExternal}
+use Rattle.il_grammar_laws.proofs.Local.{optional_list_local}
+use Rattle.il_grammar_laws.proofs.Samples.{lacking_sampled, optional_list_sampled}
+use Rattle.il_grammar_laws.proofs.GoesOn.{lax_chain}
+use Rattle.il_read.proofs.Breaks.{first_tight, map_breaks}
 use Rattle.il_parse.specs.Bodies.{SpellsBodyBy}
 use Rattle.il_parse.specs.Insides.{LacksList, SpellsVariables, SpellsSomeExternals, SpellsProgramInsideBy}
-use Rattle.il_grammar_laws.proofs.Local.{optional_list_local}
+use Rattle.il_parse.specs.GoesOn.{Within, StaysShallow, SpellsProgramRest}
 use Rattle.il_parse.proofs.Missing.{no_list_local, as_read, some_externals_local}
 use Rattle.il_parse.proofs.Ahead.{first_ahead, later_ahead, part_ahead, up_so}
 use Rattle.il_parse.proofs.Begun.{plainly, body_within}
 use Rattle.il_parse.proofs.Shallow.{program_on, program_parts, lax_within}
-use Rattle.il_parse.specs.GoesOn.{Within, StaysShallow, SpellsProgramRest}
 use Rattle.il_parse.proofs.Rests.{ahead_first, later_lax, lax_no, lax_optional, no_list_opening, passes_lacks, s_lacks, variables_opening}
-use Rattle.il_grammar_laws.proofs.Samples.{lacking_sampled, optional_list_sampled}
-use Rattle.il_read.proofs.Breaks.{first_tight, map_breaks}
-use Rattle.il_grammar_laws.proofs.GoesOn.{lax_chain}
 use Rattle.il_parse.proofs.ByError.{up_ahead_by}
 use Rattle.il_parse.proofs.insides.program_inside.Goals as goal
 

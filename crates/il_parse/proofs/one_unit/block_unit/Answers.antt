@@ -1,14 +1,13 @@
-use Rattle.il_parse.specs.GoesOn.{SpellsWholeBlock}
+use Rattle.std.proofs.Common.{refl, []}
 use Rattle.il_spec.specs.Grammar.{SpellsUnit}
+use Rattle.il_spec.specs.declared.keyword.Keyword.TheVariants as word
+use Rattle.il_spec.specs.declared.tree.UnitKind.TheVariants as unit
+use Rattle.il_read.proofs.ByError.{up_by}
+use Rattle.il_parse.specs.GoesOn.{SpellsWholeBlock}
+use Rattle.il_parse.specs.Units.{SpellsUnitOfBy}
 use Rattle.il_parse.proofs.Shallow.{mapped}
 use Rattle.il_parse.proofs.Ahead.{up_so}
-use Rattle.std.proofs.Common.{refl}
-use Rattle.il_spec.specs.declared.keyword.Keyword.TheVariants as word
-use Rattle.il_read.proofs.ByError.{up_by}
-use Rattle.il_parse.specs.Units.{SpellsUnitOfBy}
 use Rattle.il_parse.proofs.OneUnit.{block_read, block_refused}
-use Rattle.il_spec.specs.declared.tree.UnitKind.TheVariants as unit
-use Rattle.std.proofs.Common.{[]}
 use Rattle.il_parse.proofs.Rests.{block_is}
 use Rattle.il_parse.proofs.one_unit.block_unit.Goals as goal
 

@@ -1,19 +1,19 @@
+use Rattle.std.proofs.Common.{arith, length, ◌≤◌}
+use Rattle.std.proofs.lemmas.List.Elements.{All-nil}
 use Rattle.il_spec.specs.declared.keyword.Keyword.TheVariants as word
 use Rattle.il_spec.specs.Grammar.{TheWord}
+use Rattle.il_spec.specs.declared.tree.Unit.{Unit as ProgramUnit}
+use Rattle.il_grammar_laws.proofs.Local.{word_told}
+use Rattle.il_grammar_laws.proofs.GoesOn.{gone_on, gone_starts}
+use Rattle.il_read.specs.declared.stop.SyntaxError.TheVariants.{TooDeep}
 use Rattle.il_read.proofs.Chain.{starts, goes_on, ended, was_there, was_missing, within_read}
 use Rattle.il_read.proofs.ByError.{up_by}
+use Rattle.il_parse.specs.Parts.{SpellsUnits, SpellsFewUnitsBy}
 use Rattle.il_parse.proofs.UnitsByError.{unit_gone, units_full, unit_by_local, unit_by_read}
 use Rattle.il_parse.proofs.Parts.{few_more}
-use Rattle.il_grammar_laws.proofs.Local.{word_told}
 use Rattle.il_parse.proofs.OneUnit.{small_unit_local}
-use Rattle.il_parse.specs.Parts.{SpellsUnits, SpellsFewUnitsBy}
-use Rattle.std.proofs.Common.{arith, length, ◌≤◌}
 use Rattle.il_parse.proofs.Surplus.{few_with, units_break, units_full_break}
-use Rattle.std.proofs.lemmas.List.Elements.{All-nil}
-use Rattle.il_spec.specs.declared.tree.Unit.{Unit as ProgramUnit}
-use Rattle.il_read.specs.declared.stop.SyntaxError.TheVariants.{TooDeep}
 use Rattle.il_parse.proofs.Rests.{small_unit_filling, unit_by_filling, unit_filling}
-use Rattle.il_grammar_laws.proofs.GoesOn.{gone_on, gone_starts}
 use Rattle.il_parse.proofs.Ahead.{up_so}
 use Rattle.il_parse.proofs.units.units.Goals as goal
 

@@ -1,12 +1,12 @@
+use Rattle.std.specs.List.{All}
 use Rattle.std.proofs.Common.{length, ◌≤◌, ◌-◌}
 use Rattle.il_spec.specs.declared.keyword.Keyword.TheVariants as word
 use Rattle.il_spec.specs.Grammar.{TheWord, SpellsUnit}
-use Rattle.il_parse.specs.Units.{SpellsSmallUnit, SpellsUnitBy}
+use Rattle.il_spec.specs.declared.tree.Unit.{Unit as ProgramUnit}
+use Rattle.il_grammar_laws.proofs.GoesOn.{HasGone}
 use Rattle.il_read.specs.declared.stop.SyntaxError.{SyntaxError}
 use Rattle.il_read.proofs.Chain.{HasRead}
-use Rattle.il_grammar_laws.proofs.GoesOn.{HasGone}
-use Rattle.std.specs.List.{All}
-use Rattle.il_spec.specs.declared.tree.Unit.{Unit as ProgramUnit}
+use Rattle.il_parse.specs.Units.{SpellsSmallUnit, SpellsUnitBy}
 use Rattle.il_parse.proofs.units.units.Given as goal
 
 abbrev pub invariant-units : goal.invariant-units
