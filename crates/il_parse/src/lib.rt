@@ -57,7 +57,7 @@ pub fn parse(alloc: Global, text: &[u8], tokens: &[Token]) -> Result<Written, Re
     ensures texts { IfErr result (λ e. NoTextGoesOn text.now tokens.now e) }
 
     // With the tokens before it, some text does, at most 16 parentheses deep. With it one does too where only a limit
-    // forbids it, and there the first unit or instruction too many stands at it.
+    // forbids it, and for 12 the first unit or instruction too many stands at it.
     ensures before { IfErr result (λ e. GoesOnBefore text.now tokens.now e) }
 
     // What is refused is 10, what no text goes on with, 11, too many open parentheses, or 12, too many units or instructions.
