@@ -10,8 +10,8 @@ use Rattle.il_spec.specs.declared.tree.Place.{Place}
 use Rattle.il_spec.specs.Text.{upper_case, name_of}
 use Rattle.il_spec.specs.Grammar.{Front, Gap, tight, loose, is_line_end, skip_line_ends, ◌⟨◌⟩◌, ◌⨾◌, AfterLines, One, At, Repeats, Listed, TheSign}
 use Rattle.il_grammar_laws.specs.Alike.{IsEndOf}
-use Rattle.il_grammar_laws.specs.GoesOn.{Sample, IsOf, AreOf, IsCut, Test, always, stops, quiet, calm, settled, ended, IsSampled, Begins}
-use Rattle.il_grammar_laws.proofs.Alike.{end_length, end_self, end_of_end, loose_gap, gap_length}
+use Rattle.il_grammar_laws.specs.GoesOn.{Sample, IsOf, AreOf, IsCut, Test, always, stops, quiet, calm, settled, ended, IsSampled, BeginsBy, Begins}
+use Rattle.il_grammar_laws.proofs.Alike.{end_length, end_self, end_same, end_of_end, loose_gap, gap_length}
 use Rattle.il_grammar_laws.proofs.Open.{Opens, Takes, Fills, IsOpenGap, tight_open, loose_open, skip_still, cut_end, sign_fills}
 
 -- an end is the whole, or shorter
@@ -30,6 +30,11 @@ cut_here text other at (t ∷ ts) us vs (inr c) e = let less = end_length at ts 
 pub samples_apart : (other : List ℕ) (ss zs : List Sample) (vs rest : List Token) → AreOf other (ss ++ zs) vs rest → (mid : List Token) × AreOf other ss vs mid × AreOf other zs mid rest
 samples_apart other [] zs vs rest a = (vs, refl, a)
 samples_apart other (s ∷ ss) zs vs rest a = let b = samples_apart other ss zs a.1 rest a.4 in (b.0, (a.0, a.1, a.2, a.3, b.1), b.2)
+
+-- what stands behind tokens of samples is an end of them
+pub samples_end : (other : List ℕ) (ss : List Sample) (vs rest : List Token) → AreOf other ss vs rest → IsEndOf rest vs
+samples_end other [] vs rest a = end_same vs rest a
+samples_end other (s ∷ ss) vs rest a = subst (λ x. IsEndOf rest x) (sym a.2) (inr (samples_end other ss a.1 rest a.4))
 
 -- whether the first sample is there, and no line end
 abbrev pub is_solid : List Sample → Bool
@@ -228,19 +233,23 @@ at_sampled {A = A} {P = P} some p = record { stands = λ other vs rest a t. let 
     go other (u ∷ us) rest x p = ((record { offset = u.start; line = u.line }, x), (refl, refl, p))
 
 -- nothing is read yet
-pub begins_here : {A : Type 0} {P : List ℕ → A → Front} {test : Test} {ss : List Sample} → IsSampled test P ss → (text : List ℕ) (ts : List Token) → Begins test P text ts ts
-begins_here {P = P} {test = test} {ss = ss} p text ts = record {
+pub begins_here_by : {A : Type 0} {P : List Token → List ℕ → A → Front} {test : Test} (ss : List Sample) → ((other : List ℕ) (vs rest : List Token) → AreOf other ss vs rest → test other rest → (x : A) × P vs other x vs rest)
+    → (text : List ℕ) (ts : List Token) → BeginsBy test P text ts ts
+begins_here_by {P = P} {test = test} ss stands text ts = record {
   inside = end_self ts;
   samples = ss;
   goes = λ other us vs rest c a t.
-      let x = p.stands other vs rest a t in
-      (x.0, subst (λ k. P other x.0 k rest) (sym (cut_here text other ts ts us vs c refl)) x.1);
+      let x = stands other vs rest a t in
+      (x.0, subst (λ k. P vs other x.0 k rest) (sym (cut_here text other ts ts us vs c refl)) x.1);
 }
 
+pub begins_here : {A : Type 0} {P : List ℕ → A → Front} {test : Test} {ss : List Sample} → IsSampled test P ss → (text : List ℕ) (ts : List Token) → Begins test P text ts ts
+begins_here {P = P} {ss = ss} p text ts = begins_here_by {P = λ vs. P} ss p.stands text ts
+
 -- the first part breaks off
-pub begins_first : {A B : Type 0} {P : List ℕ → A → Front} {Q : List ℕ → B → Front} {first second : Test} {zs : List Sample} {text : List ℕ} {ts at : List Token} (gap : Gap)
-    → IsSampled second Q zs → Passes first zs second → Stays gap zs second → Begins first P text ts at → Begins second (λ text (x : A × B). P text x.0 ⟨ gap ⟩ Q text x.1) text ts at
-begins_first {Q = Q} {zs = zs} gap q passes stays b = record {
+pub begins_first_by : {A B : Type 0} {P : List Token → List ℕ → A → Front} {Q : List ℕ → B → Front} {first second : Test} {zs : List Sample} {text : List ℕ} {ts at : List Token} (gap : Gap)
+    → IsSampled second Q zs → Passes first zs second → Stays gap zs second → BeginsBy first P text ts at → BeginsBy second (λ vs text (x : A × B). P vs text x.0 ⟨ gap ⟩ Q text x.1) text ts at
+begins_first_by {Q = Q} {zs = zs} gap q passes stays b = record {
   inside = b.inside;
   samples = b.samples ++ zs;
   goes = λ other us vs rest c a t.
@@ -249,6 +258,10 @@ begins_first {Q = Q} {zs = zs} gap q passes stays b = record {
       let y = q.stands other mid.0 rest mid.2 t in
       ((x.0, y.0), (mid.0, x.1, subst (λ k. Q other y.0 k rest) (sym (stays.same other mid.0 rest mid.2 t)) y.1));
 }
+
+pub begins_first : {A B : Type 0} {P : List ℕ → A → Front} {Q : List ℕ → B → Front} {first second : Test} {zs : List Sample} {text : List ℕ} {ts at : List Token} (gap : Gap)
+    → IsSampled second Q zs → Passes first zs second → Stays gap zs second → Begins first P text ts at → Begins second (λ text (x : A × B). P text x.0 ⟨ gap ⟩ Q text x.1) text ts at
+begins_first {P = P} gap q passes stays b = begins_first_by {P = λ vs. P} gap q passes stays b
 
 -- a rule of which each value holds of cut tokens, and takes one
 pub record IsFilling {A : Type 0} (look : Gap) (test : Test) (P : List ℕ → A → Front) : Type 0 where
@@ -259,12 +272,12 @@ pub record IsOpening {A : Type 0} (look : Gap) (test : Test) (P : List ℕ → A
   pub one : (x : A) → Opens look test (λ text. P text x)
 
 -- a part stands there, and what has to follow breaks off
-pub begins_later_open : {A B : Type 0} {P : List ℕ → A → Front} {Q : List ℕ → B → Front} {first second : Test} {zs : List Sample} {text : List ℕ} {ts m at : List Token} {x : A} {look gap : Gap}
-    → IsCutGap gap → Reaches gap look → IsOpening look first P → P text x ts m → IsSampled second Q zs → Passes first zs second → Stays gap zs second → Begins second Q text (gap m) at
-    → Begins second (λ text (y : A × B). P text y.0 ⟨ gap ⟩ Q text y.1) text ts at
-begins_later_open {A = A} {B = B} {P = P} {Q = Q} {first = first} {second = second} {zs = zs} {text = text} {ts = ts} {m = m} {at = at} {x = x} {gap = gap} cut far one here q passes stays b = go (whole_or at (gap m) b.inside)
+pub begins_later_open_by : {A B : Type 0} {P : List ℕ → A → Front} {Q : List Token → List ℕ → B → Front} {first second : Test} {zs : List Sample} {text : List ℕ} {ts m at : List Token} {x : A} {look gap : Gap}
+    → IsCutGap gap → Reaches gap look → IsOpening look first P → P text x ts m → ((vs : List Token) → IsSampled second (Q vs) zs) → Passes first zs second → Stays gap zs second → BeginsBy second Q text (gap m) at
+    → BeginsBy second (λ vs text (y : A × B). P text y.0 ⟨ gap ⟩ Q vs text y.1) text ts at
+begins_later_open_by {A = A} {B = B} {P = P} {Q = Q} {first = first} {second = second} {zs = zs} {text = text} {ts = ts} {m = m} {at = at} {x = x} {gap = gap} cut far one here q passes stays b = go (whole_or at (gap m) b.inside)
   where
-    go : ((at ≡ gap m) ⊎ (length at < length (gap m))) → Begins second (λ text (y : A × B). P text y.0 ⟨ gap ⟩ Q text y.1) text ts at
+    go : ((at ≡ gap m) ⊎ (length at < length (gap m))) → BeginsBy second (λ vs text (y : A × B). P text y.0 ⟨ gap ⟩ Q vs text y.1) text ts at
     go (inl edge) =
         let inside = end_of_end at (gap m) m (cut.over.is.ends m) b.inside in
         record {
@@ -272,9 +285,9 @@ begins_later_open {A = A} {B = B} {P = P} {Q = Q} {first = first} {second = seco
           samples = zs;
           goes = λ other us vs rest c a t.
               let p = (one.one x).keeps text other at ts us vs m here inside c (inr (passes.yes other vs rest a t)) in
-              let y = q.stands other vs rest a t in
+              let y = (q vs).stands other vs rest a t in
               let same = cut_here text other at (gap m) (gap p.0) vs (cut.still text other at m p.0 vs p.2 b.inside (stays.same other vs rest a t)) edge in
-              ((x, y.0), (p.0, p.1, subst (λ k. Q other y.0 k rest) (sym same) y.1));
+              ((x, y.0), (p.0, p.1, subst (λ k. Q vs other y.0 k rest) (sym same) y.1));
         }
     go (inr less) =
         let inside = end_of_end at (gap m) m (cut.over.is.ends m) b.inside in
@@ -287,6 +300,16 @@ begins_later_open {A = A} {B = B} {P = P} {Q = Q} {first = first} {second = seco
               let y = b.goes other (gap p.0) vs rest (cut.over.cut text other at m p.0 vs p.2 less) a t in
               ((x, y.0), (p.0, p.1, y.1));
         }
+
+pub begins_later_open : {A B : Type 0} {P : List ℕ → A → Front} {Q : List ℕ → B → Front} {first second : Test} {zs : List Sample} {text : List ℕ} {ts m at : List Token} {x : A} {look gap : Gap}
+    → IsCutGap gap → Reaches gap look → IsOpening look first P → P text x ts m → IsSampled second Q zs → Passes first zs second → Stays gap zs second → Begins second Q text (gap m) at
+    → Begins second (λ text (y : A × B). P text y.0 ⟨ gap ⟩ Q text y.1) text ts at
+begins_later_open {Q = Q} cut far one here q passes stays b = begins_later_open_by {Q = λ vs. Q} cut far one here (λ vs. q) passes stays b
+
+pub begins_later_by : {A B : Type 0} {P : List ℕ → A → Front} {Q : List Token → List ℕ → B → Front} {first second : Test} {zs : List Sample} {text : List ℕ} {ts m at : List Token} {x : A} {look gap : Gap}
+    → IsCutGap gap → Reaches gap look → IsFilling look first P → P text x ts m → ((vs : List Token) → IsSampled second (Q vs) zs) → Passes first zs second → Stays gap zs second → BeginsBy second Q text (gap m) at
+    → BeginsBy second (λ vs text (y : A × B). P text y.0 ⟨ gap ⟩ Q vs text y.1) text ts at
+begins_later_by cut far one here q passes stays b = begins_later_open_by cut far (record { one = λ x. (one.one x).opens }) here q passes stays b
 
 pub begins_later : {A B : Type 0} {P : List ℕ → A → Front} {Q : List ℕ → B → Front} {first second : Test} {zs : List Sample} {text : List ℕ} {ts m at : List Token} {x : A} {look gap : Gap}
     → IsCutGap gap → Reaches gap look → IsFilling look first P → P text x ts m → IsSampled second Q zs → Passes first zs second → Stays gap zs second → Begins second Q text (gap m) at
@@ -309,9 +332,13 @@ begins_inside {text = text} {ts = ts} {m = m} {at = at} {gap = gap} cut far one 
     }
 
 -- the same for another value, or under a harder test
+pub begins_as_by : {A B : Type 0} {P : List Token → List ℕ → A → Front} {Q : List Token → List ℕ → B → Front} {test : Test} {text : List ℕ} {ts at : List Token} (h : A → B)
+    → ((x : A) (vs : List Token) (other : List ℕ) (us r : List Token) → P vs other x us r → Q vs other (h x) us r) → BeginsBy test P text ts at → BeginsBy test Q text ts at
+begins_as_by h f b = record { inside = b.inside; samples = b.samples; goes = λ other us vs rest c a t. let x = b.goes other us vs rest c a t in (h x.0, f x.0 vs other us rest x.1) }
+
 pub begins_as : {A B : Type 0} {P : List ℕ → A → Front} {Q : List ℕ → B → Front} {test : Test} {text : List ℕ} {ts at : List Token} (h : A → B)
     → ((x : A) (other : List ℕ) (us r : List Token) → P other x us r → Q other (h x) us r) → Begins test P text ts at → Begins test Q text ts at
-begins_as h f b = record { inside = b.inside; samples = b.samples; goes = λ other us vs rest c a t. let x = b.goes other us vs rest c a t in (h x.0, f x.0 other us rest x.1) }
+begins_as {P = P} {Q = Q} h f b = begins_as_by {P = λ vs. P} {Q = λ vs. Q} h (λ x vs. f x) b
 
 pub begins_under : {A : Type 0} {P : List ℕ → A → Front} {weak strong : Test} {text : List ℕ} {ts at : List Token} → ((other : List ℕ) (vs : List Token) → strong other vs → weak other vs)
     → Begins weak P text ts at → Begins strong P text ts at
@@ -327,12 +354,17 @@ begins_at {A = A} {P = P} some b = record { inside = b.inside; samples = b.sampl
     go other (u ∷ us) rest x p = ((record { offset = u.start; line = u.line }, x), (refl, refl, p))
 
 -- the same behind a part without a value
+pub begins_behind_by : {B : Type 0} {F : List ℕ → Front} {Q : List Token → List ℕ → B → Front} {first second : Test} {zs : List Sample} {text : List ℕ} {ts m at : List Token} {look gap : Gap}
+    → IsCutGap gap → Reaches gap look → Fills look first F → F text ts m → ((vs : List Token) → IsSampled second (Q vs) zs) → Passes first zs second → Stays gap zs second → BeginsBy second Q text (gap m) at
+    → BeginsBy second (λ vs text (y : B). F text ⟨ gap ⟩ Q vs text y) text ts at
+begins_behind_by {B = B} {F = F} {Q = Q} {gap = gap} cut far one here q passes stays b =
+    begins_as_by {P = λ vs text (x : Unit {0} × B). F text ⟨ gap ⟩ Q vs text x.1} {Q = λ vs text (y : B). F text ⟨ gap ⟩ Q vs text y} (λ x. x.1) (λ x vs other us r w. w)
+    (begins_later_by {P = λ text (u : Unit {0}). F text} {Q = Q} {x = tt} cut far (record { one = λ u. one }) here q passes stays b)
+
 pub begins_behind : {B : Type 0} {F : List ℕ → Front} {Q : List ℕ → B → Front} {first second : Test} {zs : List Sample} {text : List ℕ} {ts m at : List Token} {look gap : Gap}
     → IsCutGap gap → Reaches gap look → Fills look first F → F text ts m → IsSampled second Q zs → Passes first zs second → Stays gap zs second → Begins second Q text (gap m) at
     → Begins second (λ text (y : B). F text ⟨ gap ⟩ Q text y) text ts at
-begins_behind {B = B} {F = F} {Q = Q} {gap = gap} cut far one here q passes stays b =
-    begins_as {P = λ text (x : Unit {0} × B). F text ⟨ gap ⟩ Q text x.1} {Q = λ text (y : B). F text ⟨ gap ⟩ Q text y} (λ x. x.1) (λ x other us r w. w)
-    (begins_later {P = λ text (u : Unit {0}). F text} {Q = Q} {x = tt} cut far (record { one = λ u. one }) here q passes stays b)
+begins_behind {Q = Q} cut far one here q passes stays b = begins_behind_by {Q = λ vs. Q} cut far one here (λ vs. q) passes stays b
 
 -- one more at the end
 pub one_more : {A : Type 0} (xs : List A) (x : A) (more : List A) → xs ++ (x ∷ more) ≡ (xs ++ x ∷ []) ++ more
@@ -487,24 +519,28 @@ module _ {A : Type 0} {gap : Gap} {P : List ℕ → A → Front} {E : List ℕ �
       }
 
 -- a rule behind any number of line ends breaks off
-pub begins_lines : {A : Type 0} {P : List ℕ → A → Front} {test : Test} {zs : List Sample} {text : List ℕ} {ts at : List Token} → IsSampled test P zs → is_solid zs ≡ true → Begins test P text (skip_line_ends ts) at
-    → Begins test (λ text x. AfterLines (P text x)) text ts at
-begins_lines {A = A} {P = P} {test = test} {zs = zs} {text = text} {ts = ts} {at = at} q solid b = go (whole_or at (skip_line_ends ts) b.inside)
+pub begins_lines_by : {A : Type 0} {P : List Token → List ℕ → A → Front} {test : Test} {zs : List Sample} {text : List ℕ} {ts at : List Token} → ((vs : List Token) → IsSampled test (P vs) zs) → is_solid zs ≡ true → BeginsBy test P text (skip_line_ends ts) at
+    → BeginsBy test (λ vs text x. AfterLines (P vs text x)) text ts at
+begins_lines_by {A = A} {P = P} {test = test} {zs = zs} {text = text} {ts = ts} {at = at} q solid b = go (whole_or at (skip_line_ends ts) b.inside)
   where
-    go : ((at ≡ skip_line_ends ts) ⊎ (length at < length (skip_line_ends ts))) → Begins test (λ text x. AfterLines (P text x)) text ts at
+    go : ((at ≡ skip_line_ends ts) ⊎ (length at < length (skip_line_ends ts))) → BeginsBy test (λ vs text x. AfterLines (P vs text x)) text ts at
     go (inl edge) = record {
       inside = end_of_end at (skip_line_ends ts) ts (loose_gap.ends ts) b.inside;
       samples = zs;
       goes = λ other us vs rest c a t.
-          let y = q.stands other vs rest a t in
+          let y = (q vs).stands other vs rest a t in
           let same = cut_here text other at (skip_line_ends ts) (skip_line_ends us) vs (skip_still text other at ts us vs c b.inside ((stays_loose {test = test} solid).same other vs rest a t)) edge in
-          (y.0, subst (λ k. P other y.0 k rest) (sym same) y.1);
+          (y.0, subst (λ k. P vs other y.0 k rest) (sym same) y.1);
     }
     go (inr less) = record {
       inside = end_of_end at (skip_line_ends ts) ts (loose_gap.ends ts) b.inside;
       samples = b.samples;
       goes = λ other us vs rest c a t. b.goes other (skip_line_ends us) vs rest (loose_open.cut text other at ts us vs c less) a t;
     }
+
+pub begins_lines : {A : Type 0} {P : List ℕ → A → Front} {test : Test} {zs : List Sample} {text : List ℕ} {ts at : List Token} → IsSampled test P zs → is_solid zs ≡ true → Begins test P text (skip_line_ends ts) at
+    → Begins test (λ text x. AfterLines (P text x)) text ts at
+begins_lines {P = P} q solid b = begins_lines_by {P = λ vs. P} (λ vs. q) solid b
 
 -- one number is less than another, or not
 pub less_or : (a b : ℕ) → (a < b) ⊎ (b ≤ a)
@@ -544,11 +580,11 @@ front_lax {Q = Q} lax text other y at (t ∷ m) n vs rest (inr c) l w =
     go false line l f = let less = end_length at m (cut_end text other at m c.0 vs c.3) in absurd (omega (arith, less, l))
 
 -- a part that looks behind line ends stands there, and what follows directly breaks off
-pub begins_later_lax : {A B : Type 0} {P : List ℕ → A → Front} {Q : List ℕ → B → Front} {first second : Test} {zs : List Sample} {text : List ℕ} {ts m at : List Token} {x : A}
-    → IsOpening loose first P → P text x ts m → IsSampled second Q zs → IsLax Q → Passes first zs second → Begins second Q text m at → Begins second (λ text (y : A × B). P text y.0 ⨾ Q text y.1) text ts at
-begins_later_lax {A = A} {B = B} {P = P} {Q = Q} {first = first} {second = second} {zs = zs} {text = text} {ts = ts} {m = m} {at = at} {x = x} one here q lax passes b = go (less_or (length at) (length (skip_line_ends m)))
+pub begins_later_lax_by : {A B : Type 0} {P : List ℕ → A → Front} {Q : List Token → List ℕ → B → Front} {first second : Test} {zs : List Sample} {text : List ℕ} {ts m at : List Token} {x : A}
+    → IsOpening loose first P → P text x ts m → ((vs : List Token) → IsSampled second (Q vs) zs) → ((vs : List Token) → IsLax (Q vs)) → Passes first zs second → BeginsBy second Q text m at → BeginsBy second (λ vs text (y : A × B). P text y.0 ⨾ Q vs text y.1) text ts at
+begins_later_lax_by {A = A} {B = B} {P = P} {Q = Q} {first = first} {second = second} {zs = zs} {text = text} {ts = ts} {m = m} {at = at} {x = x} one here q lax passes b = go (less_or (length at) (length (skip_line_ends m)))
   where
-    go : ((length at < length (skip_line_ends m)) ⊎ (length (skip_line_ends m) ≤ length at)) → Begins second (λ text (y : A × B). P text y.0 ⨾ Q text y.1) text ts at
+    go : ((length at < length (skip_line_ends m)) ⊎ (length (skip_line_ends m) ≤ length at)) → BeginsBy second (λ vs text (y : A × B). P text y.0 ⨾ Q vs text y.1) text ts at
     go (inl less) = record {
       inside = end_of_end at m ts ((one.one x).ends text ts m here) b.inside;
       samples = b.samples;
@@ -562,9 +598,13 @@ begins_later_lax {A = A} {B = B} {P = P} {Q = Q} {first = first} {second = secon
       samples = zs;
       goes = λ other us vs rest c a t.
           let p = (one.one x).keeps text other at ts us vs m here b.inside c (inr (passes.yes other vs rest a t)) in
-          let y = q.stands other vs rest a t in
-          ((x, y.0), (p.0, p.1, front_lax lax text other y.0 at m p.0 vs rest p.2 far y.1));
+          let y = (q vs).stands other vs rest a t in
+          ((x, y.0), (p.0, p.1, front_lax (lax vs) text other y.0 at m p.0 vs rest p.2 far y.1));
     }
+
+pub begins_later_lax : {A B : Type 0} {P : List ℕ → A → Front} {Q : List ℕ → B → Front} {first second : Test} {zs : List Sample} {text : List ℕ} {ts m at : List Token} {x : A}
+    → IsOpening loose first P → P text x ts m → IsSampled second Q zs → IsLax Q → Passes first zs second → Begins second Q text m at → Begins second (λ text (y : A × B). P text y.0 ⨾ Q text y.1) text ts at
+begins_later_lax {Q = Q} one here q lax passes b = begins_later_lax_by {Q = λ vs. Q} one here (λ vs. q) (λ vs. lax) passes b
 
 -- nothing is read yet but line ends
 pub begins_ahead : {A : Type 0} {P : List ℕ → A → Front} {test : Test} {zs : List Sample} → IsSampled test P zs → IsLax P → (text : List ℕ) (ts : List Token) → Begins test P text ts (skip_line_ends ts)

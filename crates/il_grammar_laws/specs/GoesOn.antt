@@ -81,8 +81,12 @@ pub record IsSampled {A : Type 0} (test : Test) (P : List ℕ → A → Front) (
   pub stands : (other : List ℕ) (vs rest : List Token) → AreOf other samples vs rest → test other rest → (x : A) × P other x vs rest
 
 -- The tokens before the first of `at` are the beginning of a P: with tokens of some samples behind them they are one, in any text, wherever what
--- stands behind these passes a test (own rule).
-pub record Begins {A : Type 0} (test : Test) (P : List ℕ → A → Front) (text : List ℕ) (ts at : List Token) : Type 0 where
+-- stands behind these passes a test. What a P is may depend on the tokens from the samples on (own rule).
+pub record BeginsBy {A : Type 0} (test : Test) (P : List Token → List ℕ → A → Front) (text : List ℕ) (ts at : List Token) : Type 0 where
   pub inside : IsEndOf at ts
   pub samples : List Sample
-  pub goes : (other : List ℕ) (us vs rest : List Token) → IsCut text other at ts us vs → AreOf other samples vs rest → test other rest → (x : A) × P other x us rest
+  pub goes : (other : List ℕ) (us vs rest : List Token) → IsCut text other at ts us vs → AreOf other samples vs rest → test other rest → (x : A) × P vs other x us rest
+
+-- The same of a P that doesn't depend on them (own rule).
+abbrev pub Begins : {A : Type 0} → Test → (List ℕ → A → Front) → List ℕ → List Token → List Token → Type 0
+Begins test P text ts at = BeginsBy test (λ vs. P) text ts at
