@@ -8,6 +8,7 @@ pub mod Missing
 pub mod External
 pub mod OneUnit
 pub mod Turn
+pub mod Behind
 pub mod Begun
 pub mod Rests
 pub mod Shallow

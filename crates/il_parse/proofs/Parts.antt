@@ -202,7 +202,7 @@ module _ (text : List ℕ) where
   pub from_small_units : {us : List ProgramUnit} {ts r : List Token} → Reads (SpellsFewUnits text) ts us r → Repeats (SpellsUnit text) us (TheWord text word.Configuration) ts r
   from_small_units {us = us} {ts = ts} {r = r} here = from_small (TheWord text word.Configuration) us ts r here.found.0
 
-  are_short : (E : Front) (us : List ProgramUnit) (ts r : List Token) → Repeats (SpellsSmallUnit text) us E ts r → All IsShort us
+  pub are_short : (E : Front) (us : List ProgramUnit) (ts r : List Token) → Repeats (SpellsSmallUnit text) us E ts r → All IsShort us
   are_short E [] ts r w = All-nil IsShort
   are_short E (u ∷ us) ts r w = All-cons IsShort u us w.1.1.0 (are_short E us (skip_line_ends w.0) r w.2)
 

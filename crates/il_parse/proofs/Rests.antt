@@ -21,7 +21,7 @@ use Rattle.il_spec.specs.Text.{AreTokens}
 use Rattle.il_spec.specs.Grammar.{Front, tight, loose, is_line_end, skip_line_ends, ◌⨾◌, ◌⋯◌, AfterLines, No, At, Repeats, TheEnd, TheSign, TheWord, SomeName, SpellsScalar, SpellsDeclaration, SpellsExternal, SpellsList, SpellsFilledList, SpellsOptionalList, SpellsStep, SpellsLabelLine, SpellsBody, SpellsUnit, SpellsTask, SpellsProgramLine}
 use Rattle.il_spec.specs.declared.tree.Config.{Config}
 use Rattle.il_grammar_laws.specs.Alike.{IsEndOf}
-use Rattle.il_grammar_laws.specs.GoesOn.{Sample, Test, IsCut, always, lacks, quiet, ended, IsSampled, Begins}
+use Rattle.il_grammar_laws.specs.GoesOn.{Sample, Test, IsCut, always, lacks, quiet, ended, IsSampled, BeginsBy, Begins}
 use Rattle.il_grammar_laws.proofs.Printed.{goes_on_with}
 use Rattle.il_grammar_laws.proofs.Alike.{end_length, end_of_end, end_same, loose_gap}
 use Rattle.il_grammar_laws.proofs.Local.{word_same}
@@ -452,7 +452,7 @@ unit_by_filling error = record {
 }
 
 -- The tokens before the first of `at` are those of a text that spells a configuration.
-pub text_goes_on : (K : Config → Type 0) (text : List ℕ) (ts at : List Token) → AreTokens text 0 ts → Begins ended (Within K SpellsAll) text ts at → IsBegun K text ts at
+pub text_goes_on : (K : List Token → Config → Type 0) (text : List ℕ) (ts at : List Token) → AreTokens text 0 ts → BeginsBy ended (λ vs. Within (K vs) SpellsAll) text ts at → IsBegun K text ts at
 text_goes_on K text ts at tokens b =
     let k = goes_on_with text ts at b.samples tokens b.inside in
     let w = b.goes k.0 k.1 k.2 [] k.4 k.5 refl in
@@ -462,8 +462,8 @@ text_goes_on K text ts at tokens b =
 pub text_goes_on_with : (error : SyntaxError) (text : List ℕ) (ts at : List Token) → AreTokens text 0 ts
     → Further (λ error t back. (length back < length ts) × Begins ended (Within (λ c. GoesBeyond error t c.units) SpellsAll) text ts back) error at → GoesOnWith error text ts at
 text_goes_on_with Unexpected text ts at tokens b = tt
-text_goes_on_with TooDeep text ts at tokens b = (b.0, b.1, b.2, text_goes_on (λ c. ⊤) text ts b.1 tokens b.3.1)
-text_goes_on_with TooMany text ts at tokens b = (b.0, b.1, b.2, text_goes_on (λ c. GoesBeyond TooMany b.0 c.units) text ts b.1 tokens b.3.1)
+text_goes_on_with TooDeep text ts at tokens b = (b.0, b.1, b.2, text_goes_on (λ vs c. ⊤) text ts b.1 tokens b.3.1)
+text_goes_on_with TooMany text ts at tokens b = (b.0, b.1, b.2, text_goes_on (λ vs c. GoesBeyond TooMany b.0 c.units) text ts b.1 tokens b.3.1)
 
 -- what stands behind the name of a function, more line ends before it
 pub lax_function_rest : IsLax SpellsFunctionRest

@@ -1,7 +1,7 @@
 -- What a limit forbids, and no rule.
 use Rattle.std.specs.Prelude.{◌⊎◌, IsTrue, IsFalse}
 use Rattle.std.specs.List.{All}
-use Rattle.std.proofs.Common.{◌≡◌, ◌<◌, ◌≤◌, ◌++◌, length, arith, ℕ, Bool, true, false, List, [], ◌∷◌, refl, sym, ◌∙◌, ap, subst, inl, inr, drop}
+use Rattle.std.proofs.Common.{◌≡◌, ◌<◌, ◌≤◌, ◌++◌, length, length-append, arith, ℕ, Bool, true, false, List, [], ◌∷◌, refl, sym, ◌∙◌, ap, subst, inl, inr, drop}
 use Rattle.std.proofs.lemmas.List.Elements.{All-nil, All-cons, All-append}
 use Rattle.il_spec.specs.declared.token.Token.{Token}
 use Rattle.il_spec.specs.declared.token.Sign.TheVariants.{Ampersand, CloseParenthesis}
@@ -21,12 +21,11 @@ use Rattle.il_spec.specs.Text.{name_of}
 use Rattle.il_spec.specs.Grammar.{skip_line_ends, AfterLines, Repeats, greatest_depth, unit_word, Front, Gap, tight, loose, ◌⨾◌, ◌⋯◌, At, TheSign, TheWord, TheLineEnd, TheName, TheLetterN, SpellsOperands, SpellsUnit}
 use Rattle.il_spec.specs.declared.tree.Config.{Config}
 use Rattle.il_spec.specs.declared.tree.Unit.{Unit as ProgramUnit}
-use Rattle.il_rules.specs.Written.{IsNested}
-use Rattle.il_grammar_laws.specs.GoesOn.{Sample, calm, always, IsSampled, Begins, IsCut, ended}
+use Rattle.il_grammar_laws.specs.GoesOn.{Sample, calm, always, IsSampled, BeginsBy, Begins, IsCut, ended}
 use Rattle.il_grammar_laws.proofs.Alike.{end_self, end_length, end_of_end, gap_length, loose_gap}
 use Rattle.il_grammar_laws.proofs.Open.{Fills, sign_fills, word_fills, the_name_fills, loose_open}
 use Rattle.il_grammar_laws.proofs.Samples.{true_sample, line_end_sample, line_end_sampled, the_name_sampled, operand_line_sampled, target_line_sampled, name_line_sampled, called_sampled, operands_sampled, word_sample, name_sample, body_samples, word_sampled}
-use Rattle.il_grammar_laws.proofs.GoesOn.{cut_here, stays_loose, stays_tight, passes_always, passes_calm, begins_here, begins_first, begins_as, begins_at, IsFilling, HasGone, gone_item, map_sampled, begins_lines}
+use Rattle.il_grammar_laws.proofs.GoesOn.{whole_or, cut_here, stays_loose, stays_tight, passes_always, passes_calm, begins_first, begins_first_by, begins_as, begins_as_by, begins_at, IsFilling, HasGone, begins_lines_by}
 use Rattle.il_read.specs.Lead.{lead_at}
 use Rattle.il_read.specs.declared.lead.Lead.{Lead}
 use Rattle.il_read.specs.declared.lead.Lead.TheVariants as lead
@@ -41,12 +40,13 @@ use Rattle.il_read.proofs.Breaks.{at_first, s_tight, as_breaks, later_loose, s_l
 use Rattle.il_read.proofs.Completions.{place_at, lines_break}
 use Rattle.il_parse.specs.Bodies.{may_begin, begins_lead}
 use Rattle.il_parse.specs.Units.{unit_begins, SpellsUnitBy}
-use Rattle.il_parse.specs.GoesOn.{Within, StaysShallow, BeginsSurplus, BreaksPlaced, BreaksWith, BreaksUnits, BreaksAll, SpellsAll, SpellsAllUnits, SpellsProgramRest, SpellsBlockRest}
+use Rattle.il_parse.specs.GoesOn.{Within, KeepsRest, KeepsSteps, KeepsUnits, BeginsSurplus, BreaksPlaced, BreaksWith, BreaksUnits, BreaksAll, SpellsAll, SpellsAllUnits, SpellsProgramRest, SpellsBlockRest}
 use Rattle.il_parse.specs.Parts.{SpellsGroup, SpellsFewUnits}
-use Rattle.il_parse.specs.Refused.{IsItsPlace, HasSurplus, GoesBeyond}
-use Rattle.il_parse.proofs.Begun.{placed_inside, placed_from_sampled, plainly, shorter_behind, by_breaks}
-use Rattle.il_parse.proofs.Shallow.{Headed, ResultRest, headed_sampled, program_within, block_within, result_within}
-use Rattle.il_parse.proofs.Parts.{Group, config, whole_config, from_small_units, are_shallow}
+use Rattle.il_parse.specs.Refused.{IsItsPlace, HasSurplus, GoesBeyond, IsLateSurplus, KeepsBefore}
+use Rattle.il_parse.proofs.Behind.{all_late}
+use Rattle.il_parse.proofs.Begun.{placed_inside, placed_here, placed_first, plainly, shorter_behind, by_breaks, KeepsAnyhow}
+use Rattle.il_parse.proofs.Shallow.{Headed, ResultRest, program_within, block_within, result_within}
+use Rattle.il_parse.proofs.Parts.{Group, config, whole_config, from_small_units, are_short, are_shallow}
 use Rattle.il_parse.proofs.Rests.{group_sampled, units_filling, program_is, block_is, function_is}
 
 -- what stands there begins itself
@@ -126,7 +126,7 @@ its_place t back ts same = subst (λ x. IsItsPlace t (place_at x)) (sym same) (r
 -- a body is full
 pub surplus_breaks : {text : List ℕ} {ts : List Token} {e : Stop} (depth : ℕ) (load full : Bool) (last : Keyword) (l : Lead) → depth ≤ 16 → full ≡ true → l ≡ lead_at text ts → may_begin depth load (lead_at text ts) ≡ true
     → ((e ≡ fault_at TooMany ts) × IsTrue (begins_lead l)) ⊎ ((e ≡ fault_at Unexpected ts) × IsFalse (begins_lead l)) → BreaksPlaced last depth load full text ts e
-surplus_breaks depth load full last l few is_full same may (inr here) = plainly (at_first (placed_from_sampled last depth load few) (λ is. here.0))
+surplus_breaks depth load full last l few is_full same may (inr here) = placed_first last depth load full few (λ is. here.0)
 surplus_breaks {text = text} {ts = ts} depth load full last l few is_full same may (inl here) = record {
   fault = λ is.
       let b = instruction_begun text l ts (sym same) here.1 in
@@ -136,8 +136,8 @@ surplus_breaks {text = text} {ts = ts} depth load full last l few is_full same m
         TooMany,
         ts,
         here.0,
-        begins_here (placed_from_sampled last depth load few) text ts,
-        (k.0, k.1, k.2, (less, placed_inside depth load last (λ steps. BeginsSurplus full TooMany k.0 steps) may k.1 b.0 (λ i steps has most. (is_full, its_place k.0 k.1 ts k.2)) behind less)),
+        placed_here last depth load full few,
+        (k.0, k.1, k.2, (less, placed_inside depth load last (λ vs steps. BeginsSurplus full TooMany k.0 steps) may k.1 b.0 (λ vs i steps has most among. (is_full, its_place k.0 k.1 ts k.2)) behind less)),
       );
 }
 
@@ -148,10 +148,10 @@ word_begins text k ts l =
     (begins_at {P = λ text (u : Unit {0}). TheWord text k} (λ u. (word_fills k).takes) (begins_whole tt ts (drop 1 ts) (word_fills k) (word_there text k ts l)))
 
 -- a heading begins with its word
-headed_begun : {A : Type 0} (k : Keyword) (Q : List ℕ → A → Front) (body : A → Body) {zs : List Sample} → IsSampled always (Within (λ x. StaysShallow 0 (body x).steps) Q) zs → (text : List ℕ) (ts : List Token) → lead_at text ts ≡ lead.Reserved k
+headed_begun : {A : Type 0} (k : Keyword) (Q : List ℕ → A → Front) (body : A → Body) {zs : List Sample} → IsSampled always (Within (λ x. KeepsAnyhow (body x).steps) Q) zs → (text : List ℕ) (ts : List Token) → lead_at text ts ≡ lead.Reserved k
     → Begins always (Headed k Q) text ts (drop 1 ts)
 headed_begun k Q body q text ts l =
-    begins_as {P = Headed k (Within (λ x. StaysShallow 0 (body x).steps) Q)} {Q = Headed k Q} (λ x. x) (λ x other us r w. (w.0, w.1, (w.2.0, w.2.1, w.2.2.0)))
+    begins_as {P = Headed k (Within (λ x. KeepsAnyhow (body x).steps) Q)} {Q = Headed k Q} (λ x. x) (λ x other us r w. (w.0, w.1, (w.2.0, w.2.1, w.2.2.0)))
     (begins_first loose (s_tight the_name_sampled q) passes_always (stays_loose refl) (word_begins text k ts l))
 
 -- the first token begins a unit
@@ -168,13 +168,6 @@ unit_begun text (lead.Reserved word.Function) ts l begun =
 unit_begun text l ts same begun = absurd cc
 
 -- UNITS THAT BREAK OFF
-
--- a unit with a shallow body, of its own samples
-pub unit_within : IsSampled always (Within (λ (u : ProgramUnit). StaysShallow 0 u.body.steps) SpellsUnit) (word_sample word.Program ∷ name_sample ∷ body_samples word.EndProgram)
-unit_within =
-    map_sampled {P = Within (λ (x : Place × (Named × (List Declaration × List Declaration × Body))). StaysShallow 0 x.1.1.2.steps) (Headed word.Program SpellsProgramRest)} {Q = Within (λ (u : ProgramUnit). StaysShallow 0 u.body.steps) SpellsUnit}
-    (λ x. record { place = x.0; kind = unit.Program; name = x.1.0; inputs = []; outputs = []; variables = x.1.1.0; externals = x.1.1.1; body = x.1.1.2 })
-    (λ x other us r w. (program_is (x.0, x.1.0, x.1.1) other us r w.0, w.1)) (headed_sampled word.Program SpellsProgramRest (λ x. x.2) program_within)
 
 -- the place of what begins is that of the first token
 at_place : (F : Front) (p : Place) (ts r : List Token) → At p F ts r → (t : Token) (back : List Token) → ts ≡ t ∷ back → IsItsPlace t p
@@ -226,11 +219,45 @@ unit_placed {text = text} {ts = ts} t back at same less b = record {
 }
 
 module _ {text : List ℕ} {start ts : List Token} {us : List ProgramUnit} where
-  shallow_on : HasGone (SpellsUnitBy TooDeep) (λ text. TheWord text word.Configuration) text start us ts → (at : List Token) → Begins always (Within (λ (u : ProgramUnit). StaysShallow 0 u.body.steps) SpellsUnit) text ts at
-      → Begins always (Within (λ us. All (λ (u : ProgramUnit). greatest_depth 0 u.body.steps ≤ 16) us) SpellsAllUnits) text start at
-  shallow_on so_far at b =
-      begins_as {P = λ text ys. Repeats (SpellsUnitBy TooDeep text) ys (TheWord text word.Configuration)} {Q = Within (λ us. All (λ (u : ProgramUnit). greatest_depth 0 u.body.steps ≤ 16) us) SpellsAllUnits} (λ ys. ys)
-      (λ ys other vs r w. apart ys other vs r w) (gone_item {P = SpellsUnitBy TooDeep} (word_sampled word.Configuration) passes_always (stays_loose refl) so_far b)
+  -- what units keep, with CONFIGURATION behind them
+  edge_on : HasGone (SpellsUnitBy TooDeep) (λ text. TheWord text word.Configuration) text start us ts → All (λ (v : ProgramUnit). length v.body.steps ≤ 4096) us → length us ≤ 64
+      → BeginsBy always (λ ws. Within (KeepsUnits ws) SpellsAllUnits) text start ts
+  edge_on so_far few most = record {
+    inside = so_far.inside;
+    samples = word_sample word.Configuration ∷ [];
+    goes = λ other vs ws rest c a t.
+        let n = so_far.on other ts vs ws (end_self ts) c (inr ((stays_loose {samples = word_sample word.Configuration ∷ []} {test = always} refl).same other ws rest a t)) in
+        let x = (word_sampled word.Configuration).stands other ws rest a t in
+        let p = apart (us ++ []) other vs rest (n.2 [] rest (subst (λ k. TheWord other word.Configuration k rest) (sym (cut_here text other ts ts n.0 ws n.1 refl)) x.1)) in
+        (us ++ [], (p.0, (p.1, count, All-append (λ (u : ProgramUnit). IsLateSurplus ws u.body.steps) us [] (all_late ws us few) (All-nil (λ (u : ProgramUnit). IsLateSurplus ws u.body.steps)))));
+  }
+    where
+      count : length (us ++ []) ≤ 64
+      count = let l = length-append us [] in omega (arith, l, most)
+
+  -- and with one of them, of which something is read
+  before_on : HasGone (SpellsUnitBy TooDeep) (λ text. TheWord text word.Configuration) text start us ts → All (λ (v : ProgramUnit). length v.body.steps ≤ 4096) us → length us < 64 → (at : List Token)
+      → BeginsBy always (λ ws. Within (λ (u : ProgramUnit). KeepsSteps ws u.body.steps) SpellsUnit) text ts at → BeginsBy always (λ ws. Within (KeepsUnits ws) SpellsAllUnits) text start at
+  before_on so_far few some at b = go (whole_or at ts b.inside)
+    where
+      count : (u : ProgramUnit) → length (us ++ u ∷ []) ≤ 64
+      count u = let l = length-append us (u ∷ []) in omega (arith, l, some)
+
+      go : ((at ≡ ts) ⊎ (length at < length ts)) → BeginsBy always (λ ws. Within (KeepsUnits ws) SpellsAllUnits) text start at
+      go (inl edge) = subst (λ k. BeginsBy always (λ ws. Within (KeepsUnits ws) SpellsAllUnits) text start k) (sym edge) (edge_on so_far few (omega (arith, some)))
+      go (inr less) =
+          let f = begins_first_by {P = λ ws. Within (λ (u : ProgramUnit). KeepsSteps ws u.body.steps) SpellsUnit} {Q = λ text (u : Unit {0}). TheWord text word.Configuration} loose (word_sampled word.Configuration) passes_always (stays_loose refl) b in
+          record {
+            inside = end_of_end at ts start so_far.inside b.inside;
+            samples = f.samples;
+            goes = λ other vs ws rest c a t.
+                let n = so_far.on other at vs ws b.inside c (inl less) in
+                let x = f.goes other n.0 ws rest n.1 a t in
+                let u = x.0.0 in
+                let p = apart (us ++ u ∷ []) other vs rest (n.2 (u ∷ []) rest (x.1.0, (x.1.1.0, x.1.1.1.0), x.1.2)) in
+                let late = All-cons (λ (v : ProgramUnit). IsLateSurplus ws v.body.steps) u [] x.1.1.1.1 (All-nil (λ (v : ProgramUnit). IsLateSurplus ws v.body.steps)) in
+                (us ++ u ∷ [], (p.0, (p.1, count u, All-append (λ (v : ProgramUnit). IsLateSurplus ws v.body.steps) us (u ∷ []) (all_late ws us few) late)));
+          }
 
   -- the last unit keeps something
   last_on : (K : ProgramUnit → Type 0) (M : List ProgramUnit → Type 0) → ((u : ProgramUnit) → K u → M (us ++ u ∷ [])) → HasGone SpellsUnit (λ text. TheWord text word.Configuration) text start us ts → (at : List Token)
@@ -253,12 +280,12 @@ module _ {text : List ℕ} {start ts : List Token} {us : List ProgramUnit} where
   pub units_break : {e : Stop} (full : Bool) → full ≡ false → (IsFalse full → length us ≡ 64 → ⊥) → length us ≤ 64 → All (λ (v : ProgramUnit). length v.body.steps ≤ 4096) us → HasGone (SpellsUnitBy TooDeep) (λ text. TheWord text word.Configuration) text start us ts → HasGone SpellsUnit (λ text. TheWord text word.Configuration) text start us ts → BreaksWith tight (λ u. u.body) SpellsUnit text ts e
       → BreaksUnits text start e
   units_break full is not_all most few shallow so_far bad =
-      by_breaks (λ at b. shallow_on shallow at b) (λ error t back end less b. last_on (λ u. HasSurplus error t u.body.steps) (λ us. GoesBeyond error t us) (λ u h. beyond us error t u few (fewer full us is not_all most) h) so_far back less b) bad
+      by_breaks (λ at b. before_on shallow few (fewer full us is not_all most) at b) (λ error t back end less b. last_on (λ u. HasSurplus error t u.body.steps) (λ us. GoesBeyond error t us) (λ u h. beyond us error t u few (fewer full us is not_all most) h) so_far back less b) bad
 
   -- a text is full
   pub units_full_break : {e : Stop} → All (λ (v : ProgramUnit). length v.body.steps ≤ 4096) us → HasGone (SpellsUnitBy TooDeep) (λ text. TheWord text word.Configuration) text start us ts → HasGone SpellsUnit (λ text. TheWord text word.Configuration) text start us ts → length us ≡ 64
       → ((e ≡ fault_at TooMany ts) × IsTrue (unit_begins (lead_at text ts))) ⊎ ((e ≡ fault_at Unexpected ts) × IsFalse (unit_begins (lead_at text ts))) → BreaksUnits text start e
-  units_full_break few shallow so_far full (inr here) = plainly (as_breaks (λ at b. shallow_on shallow at b) (at_first unit_within (λ is. here.0)))
+  units_full_break few shallow so_far full (inr here) = record { fault = λ is. (Unexpected, ts, here.0, edge_on shallow few (omega (arith, full)), tt) }
   units_full_break few shallow so_far full (inl here) = record {
     fault = λ is.
         let k = a_token text ts unit_begins refl here.1 in
@@ -267,16 +294,16 @@ module _ {text : List ℕ} {start ts : List Token} {us : List ProgramUnit} where
           TooMany,
           ts,
           here.0,
-          shallow_on shallow ts (begins_here unit_within text ts),
+          edge_on shallow few (omega (arith, full)),
           (k.0, k.1, k.2, last_on (λ u. IsItsPlace k.0 u.place) (λ us. GoesBeyond TooMany k.0 us) (λ u h. (us, u, [], refl, few, inl (full, h))) so_far k.1 less (unit_placed k.0 k.1 k.1 k.2 less behind)),
         );
   }
 
 -- THE TEXT
 
--- units within something hold of cut tokens, as all do
-shallow_filling : IsFilling tight always (Within (λ us. All (λ (u : ProgramUnit). greatest_depth 0 u.body.steps ≤ 16) us) SpellsAllUnits)
-shallow_filling = record {
+-- units that keep something hold of cut tokens, as all do
+kept_filling : (K : List ProgramUnit → Type 0) → IsFilling tight always (Within K SpellsAllUnits)
+kept_filling K = record {
   one = λ us. record {
     opens = record {
       ends = λ text ts m p. (units_filling.one us).opens.ends text ts m p.0;
@@ -286,22 +313,33 @@ shallow_filling = record {
   };
 }
 
-units_end_within : IsSampled always (Within (λ us. All (λ (u : ProgramUnit). greatest_depth 0 u.body.steps ≤ 16) us) SpellsAllUnits) (word_sample word.Configuration ∷ [])
-units_end_within = record { stands = λ other vs rest a t. ([], (((word_sampled word.Configuration).stands other vs rest a t).1, All-nil (λ (u : ProgramUnit). greatest_depth 0 u.body.steps ≤ 16))) }
+-- none at all
+units_end_kept : (K : List ProgramUnit → Type 0) → K [] → IsSampled always (Within K SpellsAllUnits) (word_sample word.Configuration ∷ [])
+units_end_kept K none = record { stands = λ other vs rest a t. ([], (((word_sampled word.Configuration).stands other vs rest a t).1, none)) }
+
+no_units_kept : (vs : List Token) → KeepsUnits vs []
+no_units_kept vs = (All-nil (λ (u : ProgramUnit). greatest_depth 0 u.body.steps ≤ 16), omega arith, All-nil (λ (u : ProgramUnit). IsLateSurplus vs u.body.steps))
+
+-- what units keep with all tokens
+abbrev UnitsKeepAnyhow : List ProgramUnit → Type 0
+UnitsKeepAnyhow us = (vs : List Token) → KeepsUnits vs us
 
 module _ {text : List ℕ} {ts : List Token} where
-  as_all : (K : List ProgramUnit → Type 0) {at : List Token} → Begins ended (λ text (x : List ProgramUnit × Group). AfterLines (Within K SpellsAllUnits text x.0 ⋯ SpellsGroup text x.1)) text ts at
-      → Begins ended (Within (λ (c : Config). K c.units) SpellsAll) text ts at
+  as_all : (K : List Token → List ProgramUnit → Type 0) {at : List Token} → BeginsBy ended (λ vs text (x : List ProgramUnit × Group). AfterLines (Within (K vs) SpellsAllUnits text x.0 ⋯ SpellsGroup text x.1)) text ts at
+      → BeginsBy ended (λ vs. Within (λ (c : Config). K vs c.units) SpellsAll) text ts at
   as_all K b =
-      begins_as {P = λ text (x : List ProgramUnit × Group). AfterLines (Within K SpellsAllUnits text x.0 ⋯ SpellsGroup text x.1)} {Q = Within (λ (c : Config). K c.units) SpellsAll} (λ x. config x.0 x.1)
-      (λ x other us r w. (whole_config other x.0 x.1 (skip_line_ends us) r (w.0, w.1.0, w.2), w.1.1)) b
+      begins_as_by {P = λ vs text (x : List ProgramUnit × Group). AfterLines (Within (K vs) SpellsAllUnits text x.0 ⋯ SpellsGroup text x.1)} {Q = λ vs. Within (λ (c : Config). K vs c.units) SpellsAll} (λ x. config x.0 x.1)
+      (λ x vs other us r w. (whole_config other x.0 x.1 (skip_line_ends us) r (w.0, w.1.0, w.2), w.1.1)) b
 
   -- its units break off
   pub text_units_break : {e : Stop} → BreaksUnits text (skip_line_ends ts) e → BreaksAll text ts e
   text_units_break bad = by_breaks before (λ error t back end less b. with (λ us. GoesBeyond error t us) back less b) bad
     where
-      before : (at : List Token) → Begins always (Within (λ us. All (λ (u : ProgramUnit). greatest_depth 0 u.body.steps ≤ 16) us) SpellsAllUnits) text (skip_line_ends ts) at → Begins ended (Within (λ c. IsNested c) SpellsAll) text ts at
-      before at b = as_all (λ us. All (λ (u : ProgramUnit). greatest_depth 0 u.body.steps ≤ 16) us) (begins_lines (s_loose units_end_within group_sampled refl) refl (begins_first loose group_sampled passes_always (stays_loose refl) b))
+      before : (at : List Token) → BeginsBy always (λ vs. Within (KeepsUnits vs) SpellsAllUnits) text (skip_line_ends ts) at → BeginsBy ended (λ vs. Within (KeepsBefore vs) SpellsAll) text ts at
+      before at b =
+          as_all KeepsUnits
+          (begins_lines_by {P = λ vs text (x : List ProgramUnit × Group). Within (KeepsUnits vs) SpellsAllUnits text x.0 ⋯ SpellsGroup text x.1} (λ vs. s_loose (units_end_kept (KeepsUnits vs) (no_units_kept vs)) group_sampled refl) refl
+          (begins_first_by {P = λ vs. Within (KeepsUnits vs) SpellsAllUnits} {Q = SpellsGroup} loose group_sampled passes_always (stays_loose refl) b))
 
       with : (K : List ProgramUnit → Type 0) (at : List Token) → length at < length (skip_line_ends ts) → Begins always (Within K SpellsAllUnits) text (skip_line_ends ts) at
           → (length at < length ts) × Begins ended (Within (λ (c : Config). K c.units) SpellsAll) text ts at
@@ -309,7 +347,7 @@ module _ {text : List ℕ} {ts : List Token} where
           let f = begins_first {P = Within K SpellsAllUnits} {Q = SpellsGroup} loose group_sampled passes_always (stays_loose refl) b in
           let l = gap_length loose_gap ts in (
             omega (arith, less, l),
-            as_all K (record {
+            as_all (λ vs. K) (record {
               inside = end_of_end at (skip_line_ends ts) ts (loose_gap.ends ts) f.inside;
               samples = f.samples;
               goes = λ other us vs rest c a t. f.goes other (skip_line_ends us) vs rest (loose_open.cut text other at ts us vs c less) a t;
@@ -318,8 +356,10 @@ module _ {text : List ℕ} {ts : List Token} where
 
   -- or what stands behind them does
   pub text_group_break : {e : Stop} {us : List ProgramUnit} {m : List Token} → Reads (SpellsFewUnits text) (skip_line_ends ts) us m → BreaksOff ended SpellsGroup text (skip_line_ends m) e → BreaksAll text ts e
-  text_group_break read bad = plainly
-      (as_breaks {P = λ text (x : List ProgramUnit × Group). AfterLines (Within (λ us. All (λ (u : ProgramUnit). greatest_depth 0 u.body.steps ≤ 16) us) SpellsAllUnits text x.0 ⋯ SpellsGroup text x.1)} {Q = Within (λ c. IsNested c) SpellsAll}
-      (λ at b. as_all (λ us. All (λ (u : ProgramUnit). greatest_depth 0 u.body.steps ≤ 16) us) b)
-      (lines_break (s_loose units_end_within group_sampled refl) refl
-      (later_loose shallow_filling (record { found = (from_small_units text read, are_shallow text (TheWord text word.Configuration) _ _ _ read.found.0) }) group_sampled refl bad)))
+  text_group_break {us = us} read bad =
+      let shallow = are_shallow text (TheWord text word.Configuration) _ _ _ read.found.0 in
+      let short = are_short text (TheWord text word.Configuration) _ _ _ read.found.0 in
+      plainly
+      (as_breaks {P = λ text (x : List ProgramUnit × Group). AfterLines (Within UnitsKeepAnyhow SpellsAllUnits text x.0 ⋯ SpellsGroup text x.1)} {Q = Within (λ c. (vs : List Token) → KeepsBefore vs c) SpellsAll} (λ at b. as_all (λ vs. UnitsKeepAnyhow) b)
+      (lines_break (s_loose (units_end_kept UnitsKeepAnyhow no_units_kept) group_sampled refl) refl
+      (later_loose (kept_filling UnitsKeepAnyhow) (record { found = (from_small_units text read, (λ vs. (shallow, read.found.1, all_late vs us short))) }) group_sampled refl bad)))

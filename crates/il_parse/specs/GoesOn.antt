@@ -15,15 +15,14 @@ use Rattle.il_spec.specs.declared.tree.Body.{Body}
 use Rattle.il_spec.specs.declared.tree.Unit.{Unit as ProgramUnit}
 use Rattle.il_spec.specs.declared.tree.Config.{Config}
 use Rattle.il_spec.specs.Grammar.{Front, skip_line_ends, ◌⨾◌, ◌⋯◌, At, AfterLines, Repeats, TheWord, TheName, SpellsFilledList, SpellsInstruction, SpellsStep, SpellsLabelLine, SpellsBody, SpellsUnit, SpellsConfig, is_nested, greatest_depth, Gap, tight}
-use Rattle.il_rules.specs.Written.{IsNested}
-use Rattle.il_grammar_laws.specs.GoesOn.{Test, always, ended, Begins}
+use Rattle.il_grammar_laws.specs.GoesOn.{Test, always, ended, BeginsBy, Begins}
 use Rattle.il_read.specs.declared.stop.SyntaxError.{SyntaxError}
 use Rattle.il_read.specs.declared.stop.SyntaxError.TheVariants.{Unexpected, TooDeep, TooMany}
 use Rattle.il_read.specs.declared.stop.Stop.{Stop}
 use Rattle.il_read.specs.Reads.{IsFault, fault_at, Further}
 use Rattle.il_read.specs.Settings.{PlacedWord}
 use Rattle.il_parse.specs.Bodies.{bare}
-use Rattle.il_parse.specs.Refused.{IsItsPlace, HasSurplus, GoesBeyond}
+use Rattle.il_parse.specs.Refused.{IsItsPlace, HasSurplus, GoesBeyond, StandsAmong, IsLateSurplus, KeepsBefore}
 use Rattle.il_parse.specs.Lists.{SpellsFull}
 use Rattle.il_parse.specs.Insides.{LacksList, SpellsVariables, SpellsSomeExternals}
 use Rattle.il_parse.specs.Headings.{SpellsResultAt}
@@ -32,15 +31,28 @@ use Rattle.il_parse.specs.Headings.{SpellsResultAt}
 abbrev pub Within : {A : Type 0} → (A → Type 0) → (List ℕ → A → Front) → List ℕ → A → Front
 Within K P text x ts rest = P text x ts rest × K x
 
--- A fault stands where the tokens before its place are the beginning of a P that keeps K. Where only a limit forbids its token, it stands behind the gap,
--- and with it others are the beginning of a P that goes beyond the limit as L says.
-pub record BreaksOffBy {A : Type 0} (look : Gap) (test : Test) (K : A → Type 0) (L : SyntaxError → Token → A → Type 0) (P : List ℕ → A → Front) (text : List ℕ) (ts : List Token) (e : Stop) : Type 0 where
-  pub fault : IsFault e → (error : SyntaxError) × (at : List Token) × (e ≡ fault_at error at) × Begins test (Within K P) text ts at
+-- A fault stands where the tokens before its place are the beginning of a P that keeps K, with the tokens that complete it and all behind. Where only a
+-- limit forbids its token, it stands behind the gap, and with it others are the beginning of a P that goes beyond the limit as L says.
+pub record BreaksOffBy {A : Type 0} (look : Gap) (test : Test) (K : List Token → A → Type 0) (L : SyntaxError → Token → A → Type 0) (P : List ℕ → A → Front) (text : List ℕ) (ts : List Token) (e : Stop) : Type 0 where
+  pub fault : IsFault e → (error : SyntaxError) × (at : List Token) × (e ≡ fault_at error at) × BeginsBy test (λ vs. Within (K vs) P) text ts at
       × Further (λ error t back. (length back < length (look ts)) × Begins test (Within (L error t) P) text ts back) error at
 
 -- with so many parentheses open, these instructions open at most 16 at once
 abbrev pub StaysShallow : ℕ → List Step → Type 0
 StaysShallow depth steps = greatest_depth depth steps ≤ 16
+
+-- All of these instructions but the first stand at these tokens, and so does the first where the body is full.
+abbrev pub AreBehind : Bool → List Token → List Step → Type 0
+AreBehind full vs [] = ⊤
+AreBehind full vs (s ∷ steps) = (IsTrue full → StandsAmong vs s.place) × All (λ (s : Step). StandsAmong vs s.place) steps
+
+-- what the rest of a body keeps
+abbrev pub KeepsRest : ℕ → Bool → List Token → List Step → Type 0
+KeepsRest depth full vs steps = StaysShallow depth steps × AreBehind full vs steps
+
+-- what a body keeps
+abbrev pub KeepsSteps : List Token → List Step → Type 0
+KeepsSteps vs steps = StaysShallow 0 steps × IsLateSurplus vs steps
 
 -- Where one instruction is too many, the first of these is, and stands at the token of the fault, behind its labels: the body is full.
 abbrev pub BeginsSurplus : Bool → SyntaxError → Token → List Step → Type 0
@@ -51,7 +63,7 @@ BeginsSurplus full TooMany t (s ∷ steps) = IsTrue full × IsItsPlace t s.place
 
 -- what has a body breaks off
 abbrev pub BreaksWith : {A : Type 0} → Gap → (A → Body) → (List ℕ → A → Front) → List ℕ → List Token → Stop → Type 0
-BreaksWith look body P text ts e = BreaksOffBy look always (λ x. StaysShallow 0 (body x).steps) (λ error t x. HasSurplus error t (body x).steps) P text ts e
+BreaksWith look body P text ts e = BreaksOffBy look always (λ vs x. KeepsSteps vs (body x).steps) (λ error t x. HasSurplus error t (body x).steps) P text ts e
 
 -- instructions, and the end of the body with the labels that name it
 abbrev pub Rest : Type 0
@@ -75,15 +87,15 @@ all_steps x = bare x.0.0 x.0.1 ∷ x.1.0
 
 -- such a body breaks off; `full` says that it has as many instructions as it may have
 abbrev pub BreaksFrom : Keyword → ℕ → Bool → Bool → List ℕ → List Token → Stop → Type 0
-BreaksFrom last depth load full text ts e = BreaksOffBy tight always (λ x. StaysShallow depth x.0) (λ error t x. BeginsSurplus full error t x.0) (λ text. SpellsFrom text last depth load) text ts e
+BreaksFrom last depth load full text ts e = BreaksOffBy tight always (λ vs x. KeepsRest depth full vs x.0) (λ error t x. BeginsSurplus full error t x.0) (λ text. SpellsFrom text last depth load) text ts e
 
 abbrev pub BreaksPlaced : Keyword → ℕ → Bool → Bool → List ℕ → List Token → Stop → Type 0
 BreaksPlaced last depth load full text ts e =
-    BreaksOffBy tight always (λ x. StaysShallow depth (all_steps x)) (λ error t x. BeginsSurplus full error t (all_steps x)) (λ text. SpellsPlacedFrom text last depth load) text ts e
+    BreaksOffBy tight always (λ vs x. KeepsRest depth full vs (all_steps x)) (λ error t x. BeginsSurplus full error t (all_steps x)) (λ text. SpellsPlacedFrom text last depth load) text ts e
 
 -- all of a body behind its first line end
 abbrev pub BreaksSteps : Keyword → List ℕ → List Token → Stop → Type 0
-BreaksSteps last text ts e = BreaksOffBy tight always (λ x. StaysShallow 0 x.0) (λ error t x. HasSurplus error t x.0) (λ text. SpellsFrom text last 0 false) text ts e
+BreaksSteps last text ts e = BreaksOffBy tight always (λ vs x. KeepsSteps vs x.0) (λ error t x. HasSurplus error t x.0) (λ text. SpellsFrom text last 0 false) text ts e
 
 -- what stands behind the heading of a unit
 abbrev pub SpellsProgramRest : List ℕ → List Declaration × List Declaration × Body → Front
@@ -118,9 +130,13 @@ stopped keyword other vs = ((rest : List Token) → TheWord other keyword vs res
 abbrev pub SpellsAll : List ℕ → Config → Front
 SpellsAll text c = AfterLines (SpellsConfig text c)
 
+-- what units keep
+abbrev pub KeepsUnits : List Token → List ProgramUnit → Type 0
+KeepsUnits vs us = All (λ (u : ProgramUnit). greatest_depth 0 u.body.steps ≤ 16) us × (length us ≤ 64) × All (λ (u : ProgramUnit). IsLateSurplus vs u.body.steps) us
+
 -- units, and a whole text, that break off
 abbrev pub BreaksUnits : List ℕ → List Token → Stop → Type 0
-BreaksUnits text ts e = BreaksOffBy tight always (λ us. All (λ (u : ProgramUnit). greatest_depth 0 u.body.steps ≤ 16) us) GoesBeyond SpellsAllUnits text ts e
+BreaksUnits text ts e = BreaksOffBy tight always KeepsUnits GoesBeyond SpellsAllUnits text ts e
 
 abbrev pub BreaksAll : List ℕ → List Token → Stop → Type 0
-BreaksAll text ts e = BreaksOffBy tight ended (λ c. IsNested c) (λ error t c. GoesBeyond error t c.units) SpellsAll text ts e
+BreaksAll text ts e = BreaksOffBy tight ended KeepsBefore (λ error t c. GoesBeyond error t c.units) SpellsAll text ts e

@@ -82,22 +82,36 @@ GoesBeyond TooMany t us =
     (front : List ProgramUnit) × (u : ProgramUnit) × (behind : List ProgramUnit) × (us ≡ front ++ u ∷ behind) × All (λ (v : ProgramUnit). length v.body.steps ≤ 4096) front
     × (((length front ≡ 64) × IsItsPlace t u.place) ⊎ ((length front < 64) × HasSurplus TooMany t u.body.steps))
 
+-- a place is that of one of these tokens
+abbrev pub StandsAmong : List Token → Place → Type 0
+StandsAmong vs place = (t : Token) × (back : List Token) × IsEndOf (t ∷ back) vs × IsItsPlace t place
+
+-- The 4097th of these instructions, if there is one, stands at one of these tokens, behind its labels.
+abbrev pub IsLateSurplus : List Token → List Step → Type 0
+IsLateSurplus vs steps = (s : Step) → slice_get steps 4096 ≡ Some s → StandsAmong vs s.place
+
+-- Nothing before these tokens is beyond a limit: no more than 16 parentheses are open at once, there are at most 64 units, and where one of them has a
+-- 4097th instruction, it stands at one of these tokens.
+abbrev pub KeepsBefore : List Token → Config → Type 0
+KeepsBefore vs c = IsNested c × (length c.units ≤ 64) × All (λ (u : ProgramUnit). IsLateSurplus vs u.body.steps) c.units
+
 -- Some text goes on with the tokens before the first of `at`: one that has these tokens, of the same bytes, and others behind, is of the
--- language, and its tree is a K. No limits count but those that K names.
-abbrev pub IsBegun : (Config → Type 0) → List ℕ → List Token → List Token → Type 0
+-- language, and with the others its tree is a K. No limits count but those that K names.
+abbrev pub IsBegun : (List Token → Config → Type 0) → List ℕ → List Token → List Token → Type 0
 IsBegun K text tokens at =
-    (other : List ℕ) × (others : List Token) × (vs : List Token) × AreTokens other 0 others × IsCut text other at tokens others vs × (c : Config) × AfterLines (SpellsConfig other c) others [] × K c
+    (other : List ℕ) × (others : List Token) × (vs : List Token) × AreTokens other 0 others × IsCut text other at tokens others vs × (c : Config) × AfterLines (SpellsConfig other c) others [] × K vs c
 
 -- Some text goes on with the token that a fault names too, where only a limit forbids it: 12 stands at the first thing that is too many.
 abbrev pub GoesOnWith : SyntaxError → List ℕ → List Token → List Token → Type 0
 GoesOnWith Unexpected text tokens at = ⊤
-GoesOnWith TooDeep text tokens at = (t : Token) × (back : List Token) × (at ≡ t ∷ back) × IsBegun (λ c. ⊤) text tokens back
-GoesOnWith TooMany text tokens at = (t : Token) × (back : List Token) × (at ≡ t ∷ back) × IsBegun (λ c. GoesBeyond TooMany t c.units) text tokens back
+GoesOnWith TooDeep text tokens at = (t : Token) × (back : List Token) × (at ≡ t ∷ back) × IsBegun (λ vs c. ⊤) text tokens back
+GoesOnWith TooMany text tokens at = (t : Token) × (back : List Token) × (at ≡ t ∷ back) × IsBegun (λ vs c. GoesBeyond TooMany t c.units) text tokens back
 
--- With the tokens before the one that a fault names, or with all before the end, some text goes on, whose parentheses are at most 16 deep. So one does
--- with that token, where the fault is about a limit: 10 is what no text goes on with, and 11 and 12 are what only a limit forbids.
+-- With the tokens before the one that a fault names, or with all before the end, some text goes on, in which nothing before is beyond a limit: no fault
+-- is told behind a 12. So one goes on with that token, where the fault is about a limit: 10 is what no text goes on with, and 11 and 12 are what only a
+-- limit forbids.
 abbrev pub GoesOnBefore : List ℕ → List Token → Refusal → Type 0
 GoesOnBefore text tokens (refusal.Fault number place) =
     (error : SyntaxError) × (at : List Token) × (number ≡ number_of error) × IsEndOf at tokens × IsPlaceAt text place at
-    × IsBegun IsNested text tokens at × GoesOnWith error text tokens at
+    × IsBegun KeepsBefore text tokens at × GoesOnWith error text tokens at
 GoesOnBefore text tokens refusal.Memory = ⊤

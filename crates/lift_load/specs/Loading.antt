@@ -89,7 +89,7 @@ ReportsFaultOfText text answer = (number : ℕ) (place : Place) → IsFaultOfTex
 abbrev pub NamesTurn : List ℕ → Refusal → Type 0
 NamesTurn text refusal = SpellsNone text → length text ≤ 262144 → (ts : List Token) → AreTokens text 0 ts → GoesOnNowhere text ts refusal
 
--- And with the tokens before it some text does: one has these tokens, of the same bytes, and others behind, and is of the language, where no
--- limits count.
+-- And with the tokens before it some text does: one has these tokens, of the same bytes, and others behind, and is of the language, and nothing
+-- before the fault is beyond a limit.
 abbrev pub IsNamedFirst : List ℕ → Refusal → Type 0
 IsNamedFirst text refusal = SpellsNone text → length text ≤ 262144 → (ts : List Token) → AreTokens text 0 ts → GoesOnBefore text ts refusal

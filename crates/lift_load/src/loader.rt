@@ -49,7 +49,7 @@ pub fn load(alloc: Global, text: &[u8]) -> Result<Verified, Refusal>
     // Of a text that has tokens and spells none, no text goes on with the token that the fault names.
     ensures nowhere { IfErr result (NamesTurn text.now) }
 
-    // With the tokens before it, some text does.
+    // With the tokens before it, some text does, in which nothing before it is beyond a limit.
     ensures before { IfErr result (IsNamedFirst text.now) }
 
     // A text that spells a configuration has no other fault.

@@ -1,11 +1,10 @@
 use Rattle.std.proofs.Common.{[], ◌∷◌, ◌++◌, sym, ◌∙◌, ap, subst}
-use Rattle.il_rules.specs.Written.{IsNested}
 use Rattle.il_grammar_laws.proofs.Bytes.{texts_alike}
 use Rattle.il_grammar_laws.proofs.Configurations.{config_one}
 use Rattle.il_grammar_laws.proofs.Spelled.{spelled_written}
 use Rattle.il_grammar_laws.proofs.Alike.{alike_self}
 use Rattle.il_read.specs.Reads.{number_of}
-use Rattle.il_parse.specs.Refused.{IsPlaceAt, Keeps}
+use Rattle.il_parse.specs.Refused.{IsPlaceAt, Keeps, KeepsBefore}
 use Rattle.il_parse.proofs.UnitsByError.{keeps_each}
 use Rattle.il_parse.proofs.Turn.{fault_parts}
 use Rattle.il_parse.proofs.Rests.{text_goes_on, text_goes_on_with}
@@ -67,6 +66,6 @@ returns-in-Err-Fault-clause-before c =
       c.number.ensures ∙ ap number_of parts.0,
       bad.3.inside,
       subst (λ x. IsPlaceAt c.args.text.now x bad.1) (sym c.unwrap_or.ensures) parts.1,
-      text_goes_on IsNested c.args.text.now c.args.tokens.now bad.1 c.requires bad.3,
+      text_goes_on KeepsBefore c.args.text.now c.args.tokens.now bad.1 c.requires bad.3,
       text_goes_on_with bad.0 c.args.text.now c.args.tokens.now bad.1 c.requires bad.4,
     )

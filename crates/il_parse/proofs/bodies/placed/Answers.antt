@@ -1,11 +1,10 @@
 use Rattle.std.proofs.Common.{sym, ◌∙◌, ap}
 use Rattle.il_spec.specs.declared.keyword.Keyword.{Keyword}
-use Rattle.il_read.proofs.Breaks.{at_first}
 use Rattle.il_parse.specs.Bodies.{may_begin, RefusesPlaced}
 use Rattle.il_parse.specs.GoesOn.{BreaksPlaced}
 use Rattle.il_parse.proofs.Ahead.{up_so}
 use Rattle.il_parse.proofs.Entries.{stands_not, full_refused, placed_refused, placed_read}
-use Rattle.il_parse.proofs.Begun.{instruction_breaks, placed_from_sampled, plainly}
+use Rattle.il_parse.proofs.Begun.{instruction_breaks, placed_first}
 use Rattle.il_parse.proofs.Surplus.{surplus_breaks}
 use Rattle.il_parse.proofs.bodies.placed.Goals as goal
 
@@ -26,10 +25,10 @@ returns-in_err-instruction-clause-refused c =
     up_so (λ e. RefusesPlaced c.args.source.now c.args.depth c.args.load c.args.full c.args.tokens.now e) _ c.from_residual.ensures.1 (placed_refused c.args.source.now _ _ _ _ _ _ c.has_room.ensures.no c.in_err-instruction.ensures.refused)
 
 pub returns-in_default-clause-begins : goal.returns-in_default-clause-begins
-returns-in_default-clause-begins c = λ last. plainly (at_first (placed_from_sampled last c.args.depth c.args.load c.requires.depth) (λ _. c.outside.ensures))
+returns-in_default-clause-begins c = λ last. placed_first last c.args.depth c.args.load c.args.full c.requires.depth (λ _. c.outside.ensures)
 
 pub returns-then-not-may_begin-clause-begins : goal.returns-then-not-may_begin-clause-begins
-returns-then-not-may_begin-clause-begins c = λ last. plainly (at_first (placed_from_sampled last c.args.depth c.args.load c.requires.depth) (λ _. c.outside-then-not-may_begin.ensures))
+returns-then-not-may_begin-clause-begins c = λ last. placed_first last c.args.depth c.args.load c.args.full c.requires.depth (λ _. c.outside-then-not-may_begin.ensures)
 
 pub returns-then-full-clause-begins : goal.returns-then-full-clause-begins
 returns-then-full-clause-begins c =
@@ -38,4 +37,4 @@ returns-then-full-clause-begins c =
 pub returns-in_err-instruction-clause-begins : goal.returns-in_err-instruction-clause-begins
 returns-in_err-instruction-clause-begins c =
     up_so (λ e. (last : Keyword) → BreaksPlaced last c.args.depth c.args.load c.args.full c.args.source.now c.args.tokens.now e) _ c.from_residual.ensures.1
-    (λ last. instruction_breaks c.args.depth c.args.load c.args.full last c.requires.depth c.has_room.ensures.yes (ap (λ l. may_begin c.args.depth c.args.load l) (sym c.requires.lead) ∙ sym c.may_begin.ensures ∙ c.if-not-may_begin.false) c.in_err-instruction.ensures.begins)
+    (λ last. instruction_breaks c.args.depth c.args.load c.args.full last c.requires.depth c.if-full.false c.has_room.ensures.yes (ap (λ l. may_begin c.args.depth c.args.load l) (sym c.requires.lead) ∙ sym c.may_begin.ensures ∙ c.if-not-may_begin.false) c.in_err-instruction.ensures.begins)

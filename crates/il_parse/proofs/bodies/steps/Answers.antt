@@ -33,4 +33,4 @@ pub steps-init : goal.steps-init
 steps-init c = rw c.new-steps.ensures (omega arith, omega arith, (0, omega arith, none_open), λ b. starts _ _ _ _)
 
 pub returns-in_err-labels-clause-begins : goal.returns-in_err-labels-clause-begins
-returns-in_err-labels-clause-begins c = up_so _ _ c.from_residual.ensures.1 (steps_breaks c.args.last c.steps.depth c.steps.load c.is_full-full.result c.steps.invariant.0 c.steps.invariant.2.1 c.is_full-full.ensures.yes c.steps.invariant.2.2 c.steps.invariant.3 c.in_err-labels.ensures.begins)
+returns-in_err-labels-clause-begins c = up_so _ _ c.from_residual.ensures.1 (steps_breaks c.args.last c.steps.depth c.steps.load c.is_full-full.result c.steps.invariant.0 c.steps.invariant.1 c.steps.invariant.2.1 c.is_full-full.ensures.yes c.is_full-full.ensures.no c.steps.invariant.2.2 c.steps.invariant.3 c.in_err-labels.ensures.begins)

@@ -6,10 +6,10 @@ use Rattle.il_grammar_laws.proofs.GoesOn.{lax_chain}
 use Rattle.il_read.proofs.Breaks.{first_tight, map_breaks}
 use Rattle.il_parse.specs.Bodies.{SpellsBodyBy}
 use Rattle.il_parse.specs.Insides.{LacksList, SpellsVariables, SpellsBlockInsideBy}
-use Rattle.il_parse.specs.GoesOn.{Within, StaysShallow, SpellsBlockRest}
+use Rattle.il_parse.specs.GoesOn.{Within, SpellsBlockRest}
 use Rattle.il_parse.proofs.Missing.{no_list_local, as_read}
 use Rattle.il_parse.proofs.Ahead.{first_ahead, later_ahead, part_ahead, up_so}
-use Rattle.il_parse.proofs.Begun.{plainly, body_within}
+use Rattle.il_parse.proofs.Begun.{plainly, KeepsAnyhow, body_within}
 use Rattle.il_parse.proofs.Shallow.{block_on, block_parts, lax_within}
 use Rattle.il_parse.proofs.Rests.{ahead_first, filled_opening, later_lax, lax_filled, lax_no, lax_optional, passes_lacks, s_lacks, variables_opening}
 use Rattle.il_parse.proofs.ByError.{up_ahead_by}
@@ -55,19 +55,19 @@ returns-clause-reads c = record { found = (_, c.in_ok-inputs.ensures.reads.found
 
 pub returns-in_err-inputs-clause-begins : goal.returns-in_err-inputs-clause-begins
 returns-in_err-inputs-clause-begins c =
-    up_so _ _ c.from_residual.ensures.1 (plainly (map_breaks {Q = Within (λ x. StaysShallow 0 x.3.steps) SpellsBlockRest} (λ x. (x.0, x.1.0, x.1.1.0, x.1.1.1.1)) (λ x other us r w. block_parts (λ steps. StaysShallow 0 steps) (x.0, x.1.0, x.1.1.0, x.1.1.1.1) other us r w) (first_tight (s_lacks word.VarOutput word.EndFunctionBlock (λ e. cc) (filled_list_sampled word.VarOutput) (s_lacks word.Var word.EndFunctionBlock (λ e. cc) (optional_list_sampled word.Var (λ text. SpellsDeclaration text)) (s_lacks word.VarExternal word.EndFunctionBlock (λ e. cc) (lacking_sampled word.VarExternal) (body_within word.EndFunctionBlock)))) c.in_err-inputs.ensures.begins)))
+    up_so _ _ c.from_residual.ensures.1 (plainly (map_breaks {Q = Within (λ x. KeepsAnyhow x.3.steps) SpellsBlockRest} (λ x. (x.0, x.1.0, x.1.1.0, x.1.1.1.1)) (λ x other us r w. block_parts KeepsAnyhow (x.0, x.1.0, x.1.1.0, x.1.1.1.1) other us r w) (first_tight (s_lacks word.VarOutput word.EndFunctionBlock (λ e. cc) (filled_list_sampled word.VarOutput) (s_lacks word.Var word.EndFunctionBlock (λ e. cc) (optional_list_sampled word.Var (λ text. SpellsDeclaration text)) (s_lacks word.VarExternal word.EndFunctionBlock (λ e. cc) (lacking_sampled word.VarExternal) (body_within word.EndFunctionBlock)))) c.in_err-inputs.ensures.begins)))
 
 pub returns-in_err-outputs-clause-begins : goal.returns-in_err-outputs-clause-begins
 returns-in_err-outputs-clause-begins c =
-    up_so _ _ c.from_residual-in_err-outputs.ensures.1 (plainly (map_breaks {Q = Within (λ x. StaysShallow 0 x.3.steps) SpellsBlockRest} (λ x. (x.0, x.1.0, x.1.1.0, x.1.1.1.1)) (λ x other us r w. block_parts (λ steps. StaysShallow 0 steps) (x.0, x.1.0, x.1.1.0, x.1.1.1.1) other us r w) (later_lax (filled_opening word.VarInput) c.in_ok-inputs.ensures.reads (s_lacks word.VarOutput word.EndFunctionBlock (λ e. cc) (filled_list_sampled word.VarOutput) (s_lacks word.Var word.EndFunctionBlock (λ e. cc) (optional_list_sampled word.Var (λ text. SpellsDeclaration text)) (s_lacks word.VarExternal word.EndFunctionBlock (λ e. cc) (lacking_sampled word.VarExternal) (body_within word.EndFunctionBlock)))) (lax_chain (lax_filled word.VarOutput) (lax_chain (lax_optional word.Var (λ text. SpellsDeclaration text)) (lax_chain (lax_no word.VarExternal) (lax_within (λ steps. StaysShallow 0 steps) word.EndFunctionBlock)))) (passes_lacks word.VarInput word.EndFunctionBlock (λ e. cc)) (first_tight (s_lacks word.Var word.EndFunctionBlock (λ e. cc) (optional_list_sampled word.Var (λ text. SpellsDeclaration text)) (s_lacks word.VarExternal word.EndFunctionBlock (λ e. cc) (lacking_sampled word.VarExternal) (body_within word.EndFunctionBlock))) c.in_err-outputs.ensures.begins))))
+    up_so _ _ c.from_residual-in_err-outputs.ensures.1 (plainly (map_breaks {Q = Within (λ x. KeepsAnyhow x.3.steps) SpellsBlockRest} (λ x. (x.0, x.1.0, x.1.1.0, x.1.1.1.1)) (λ x other us r w. block_parts KeepsAnyhow (x.0, x.1.0, x.1.1.0, x.1.1.1.1) other us r w) (later_lax (filled_opening word.VarInput) c.in_ok-inputs.ensures.reads (s_lacks word.VarOutput word.EndFunctionBlock (λ e. cc) (filled_list_sampled word.VarOutput) (s_lacks word.Var word.EndFunctionBlock (λ e. cc) (optional_list_sampled word.Var (λ text. SpellsDeclaration text)) (s_lacks word.VarExternal word.EndFunctionBlock (λ e. cc) (lacking_sampled word.VarExternal) (body_within word.EndFunctionBlock)))) (lax_chain (lax_filled word.VarOutput) (lax_chain (lax_optional word.Var (λ text. SpellsDeclaration text)) (lax_chain (lax_no word.VarExternal) (lax_within KeepsAnyhow word.EndFunctionBlock)))) (passes_lacks word.VarInput word.EndFunctionBlock (λ e. cc)) (first_tight (s_lacks word.Var word.EndFunctionBlock (λ e. cc) (optional_list_sampled word.Var (λ text. SpellsDeclaration text)) (s_lacks word.VarExternal word.EndFunctionBlock (λ e. cc) (lacking_sampled word.VarExternal) (body_within word.EndFunctionBlock))) c.in_err-outputs.ensures.begins))))
 
 pub returns-in_err-variables-clause-begins : goal.returns-in_err-variables-clause-begins
 returns-in_err-variables-clause-begins c =
-    up_so _ _ c.from_residual-in_err-variables.ensures.1 (plainly (map_breaks {Q = Within (λ x. StaysShallow 0 x.3.steps) SpellsBlockRest} (λ x. (x.0, x.1.0, x.1.1.0, x.1.1.1.1)) (λ x other us r w. block_parts (λ steps. StaysShallow 0 steps) (x.0, x.1.0, x.1.1.0, x.1.1.1.1) other us r w) (later_lax (filled_opening word.VarInput) c.in_ok-inputs.ensures.reads (s_lacks word.VarOutput word.EndFunctionBlock (λ e. cc) (filled_list_sampled word.VarOutput) (s_lacks word.Var word.EndFunctionBlock (λ e. cc) (optional_list_sampled word.Var (λ text. SpellsDeclaration text)) (s_lacks word.VarExternal word.EndFunctionBlock (λ e. cc) (lacking_sampled word.VarExternal) (body_within word.EndFunctionBlock)))) (lax_chain (lax_filled word.VarOutput) (lax_chain (lax_optional word.Var (λ text. SpellsDeclaration text)) (lax_chain (lax_no word.VarExternal) (lax_within (λ steps. StaysShallow 0 steps) word.EndFunctionBlock)))) (passes_lacks word.VarInput word.EndFunctionBlock (λ e. cc)) (later_lax (filled_opening word.VarOutput) c.in_ok-outputs.ensures.reads (s_lacks word.Var word.EndFunctionBlock (λ e. cc) (optional_list_sampled word.Var (λ text. SpellsDeclaration text)) (s_lacks word.VarExternal word.EndFunctionBlock (λ e. cc) (lacking_sampled word.VarExternal) (body_within word.EndFunctionBlock))) (lax_chain (lax_optional word.Var (λ text. SpellsDeclaration text)) (lax_chain (lax_no word.VarExternal) (lax_within (λ steps. StaysShallow 0 steps) word.EndFunctionBlock))) (passes_lacks word.VarOutput word.EndFunctionBlock (λ e. cc)) (first_tight (s_lacks word.VarExternal word.EndFunctionBlock (λ e. cc) (lacking_sampled word.VarExternal) (body_within word.EndFunctionBlock)) c.in_err-variables.ensures.begins)))))
+    up_so _ _ c.from_residual-in_err-variables.ensures.1 (plainly (map_breaks {Q = Within (λ x. KeepsAnyhow x.3.steps) SpellsBlockRest} (λ x. (x.0, x.1.0, x.1.1.0, x.1.1.1.1)) (λ x other us r w. block_parts KeepsAnyhow (x.0, x.1.0, x.1.1.0, x.1.1.1.1) other us r w) (later_lax (filled_opening word.VarInput) c.in_ok-inputs.ensures.reads (s_lacks word.VarOutput word.EndFunctionBlock (λ e. cc) (filled_list_sampled word.VarOutput) (s_lacks word.Var word.EndFunctionBlock (λ e. cc) (optional_list_sampled word.Var (λ text. SpellsDeclaration text)) (s_lacks word.VarExternal word.EndFunctionBlock (λ e. cc) (lacking_sampled word.VarExternal) (body_within word.EndFunctionBlock)))) (lax_chain (lax_filled word.VarOutput) (lax_chain (lax_optional word.Var (λ text. SpellsDeclaration text)) (lax_chain (lax_no word.VarExternal) (lax_within KeepsAnyhow word.EndFunctionBlock)))) (passes_lacks word.VarInput word.EndFunctionBlock (λ e. cc)) (later_lax (filled_opening word.VarOutput) c.in_ok-outputs.ensures.reads (s_lacks word.Var word.EndFunctionBlock (λ e. cc) (optional_list_sampled word.Var (λ text. SpellsDeclaration text)) (s_lacks word.VarExternal word.EndFunctionBlock (λ e. cc) (lacking_sampled word.VarExternal) (body_within word.EndFunctionBlock))) (lax_chain (lax_optional word.Var (λ text. SpellsDeclaration text)) (lax_chain (lax_no word.VarExternal) (lax_within KeepsAnyhow word.EndFunctionBlock))) (passes_lacks word.VarOutput word.EndFunctionBlock (λ e. cc)) (first_tight (s_lacks word.VarExternal word.EndFunctionBlock (λ e. cc) (lacking_sampled word.VarExternal) (body_within word.EndFunctionBlock)) c.in_err-variables.ensures.begins)))))
 
 pub returns-in_err-no_list-clause-begins : goal.returns-in_err-no_list-clause-begins
 returns-in_err-no_list-clause-begins c =
-    up_so _ _ c.from_residual-in_err-no_list.ensures.1 (plainly (map_breaks {Q = Within (λ x. StaysShallow 0 x.3.steps) SpellsBlockRest} (λ x. (x.0, x.1.0, x.1.1.0, x.1.1.1.1)) (λ x other us r w. block_parts (λ steps. StaysShallow 0 steps) (x.0, x.1.0, x.1.1.0, x.1.1.1.1) other us r w) (later_lax (filled_opening word.VarInput) c.in_ok-inputs.ensures.reads (s_lacks word.VarOutput word.EndFunctionBlock (λ e. cc) (filled_list_sampled word.VarOutput) (s_lacks word.Var word.EndFunctionBlock (λ e. cc) (optional_list_sampled word.Var (λ text. SpellsDeclaration text)) (s_lacks word.VarExternal word.EndFunctionBlock (λ e. cc) (lacking_sampled word.VarExternal) (body_within word.EndFunctionBlock)))) (lax_chain (lax_filled word.VarOutput) (lax_chain (lax_optional word.Var (λ text. SpellsDeclaration text)) (lax_chain (lax_no word.VarExternal) (lax_within (λ steps. StaysShallow 0 steps) word.EndFunctionBlock)))) (passes_lacks word.VarInput word.EndFunctionBlock (λ e. cc)) (later_lax (filled_opening word.VarOutput) c.in_ok-outputs.ensures.reads (s_lacks word.Var word.EndFunctionBlock (λ e. cc) (optional_list_sampled word.Var (λ text. SpellsDeclaration text)) (s_lacks word.VarExternal word.EndFunctionBlock (λ e. cc) (lacking_sampled word.VarExternal) (body_within word.EndFunctionBlock))) (lax_chain (lax_optional word.Var (λ text. SpellsDeclaration text)) (lax_chain (lax_no word.VarExternal) (lax_within (λ steps. StaysShallow 0 steps) word.EndFunctionBlock))) (passes_lacks word.VarOutput word.EndFunctionBlock (λ e. cc)) (later_lax (variables_opening) c.in_ok-variables.ensures.reads (s_lacks word.VarExternal word.EndFunctionBlock (λ e. cc) (lacking_sampled word.VarExternal) (body_within word.EndFunctionBlock)) (lax_chain (lax_no word.VarExternal) (lax_within (λ steps. StaysShallow 0 steps) word.EndFunctionBlock)) (passes_lacks word.Var word.EndFunctionBlock (λ e. cc)) (ahead_first (s_lacks word.VarExternal word.EndFunctionBlock (λ e. cc) (lacking_sampled word.VarExternal) (body_within word.EndFunctionBlock)) (lax_chain (lax_no word.VarExternal) (lax_within (λ steps. StaysShallow 0 steps) word.EndFunctionBlock)) c.in_err-no_list.ensures.first))))))
+    up_so _ _ c.from_residual-in_err-no_list.ensures.1 (plainly (map_breaks {Q = Within (λ x. KeepsAnyhow x.3.steps) SpellsBlockRest} (λ x. (x.0, x.1.0, x.1.1.0, x.1.1.1.1)) (λ x other us r w. block_parts KeepsAnyhow (x.0, x.1.0, x.1.1.0, x.1.1.1.1) other us r w) (later_lax (filled_opening word.VarInput) c.in_ok-inputs.ensures.reads (s_lacks word.VarOutput word.EndFunctionBlock (λ e. cc) (filled_list_sampled word.VarOutput) (s_lacks word.Var word.EndFunctionBlock (λ e. cc) (optional_list_sampled word.Var (λ text. SpellsDeclaration text)) (s_lacks word.VarExternal word.EndFunctionBlock (λ e. cc) (lacking_sampled word.VarExternal) (body_within word.EndFunctionBlock)))) (lax_chain (lax_filled word.VarOutput) (lax_chain (lax_optional word.Var (λ text. SpellsDeclaration text)) (lax_chain (lax_no word.VarExternal) (lax_within KeepsAnyhow word.EndFunctionBlock)))) (passes_lacks word.VarInput word.EndFunctionBlock (λ e. cc)) (later_lax (filled_opening word.VarOutput) c.in_ok-outputs.ensures.reads (s_lacks word.Var word.EndFunctionBlock (λ e. cc) (optional_list_sampled word.Var (λ text. SpellsDeclaration text)) (s_lacks word.VarExternal word.EndFunctionBlock (λ e. cc) (lacking_sampled word.VarExternal) (body_within word.EndFunctionBlock))) (lax_chain (lax_optional word.Var (λ text. SpellsDeclaration text)) (lax_chain (lax_no word.VarExternal) (lax_within KeepsAnyhow word.EndFunctionBlock))) (passes_lacks word.VarOutput word.EndFunctionBlock (λ e. cc)) (later_lax (variables_opening) c.in_ok-variables.ensures.reads (s_lacks word.VarExternal word.EndFunctionBlock (λ e. cc) (lacking_sampled word.VarExternal) (body_within word.EndFunctionBlock)) (lax_chain (lax_no word.VarExternal) (lax_within KeepsAnyhow word.EndFunctionBlock)) (passes_lacks word.Var word.EndFunctionBlock (λ e. cc)) (ahead_first (s_lacks word.VarExternal word.EndFunctionBlock (λ e. cc) (lacking_sampled word.VarExternal) (body_within word.EndFunctionBlock)) (lax_chain (lax_no word.VarExternal) (lax_within KeepsAnyhow word.EndFunctionBlock)) c.in_err-no_list.ensures.first))))))
 
 pub returns-in_err-body-clause-begins : goal.returns-in_err-body-clause-begins
 returns-in_err-body-clause-begins c =
