@@ -15,7 +15,6 @@ use Rattle.il_spec.specs.declared.tree.Operator.TheVariants as operator
 use Rattle.il_spec.specs.declared.tree.Instruction.{Instruction}
 use Rattle.il_spec.specs.declared.tree.Instruction.TheVariants as instruction
 use Rattle.il_spec.specs.declared.tree.UnitKind.TheVariants as unit
-use Rattle.il_spec.specs.declared.tree.Declaration.{Declaration}
 use Rattle.il_spec.specs.declared.tree.Body.{Body}
 use Rattle.il_spec.specs.Text.{name_of}
 use Rattle.il_spec.specs.Grammar.{skip_line_ends, AfterLines, Repeats, greatest_depth, unit_word, Front, Gap, tight, loose, ◌⨾◌, ◌⋯◌, At, TheSign, TheWord, TheLineEnd, TheName, TheLetterN, SpellsOperands, SpellsUnit}
@@ -24,7 +23,7 @@ use Rattle.il_spec.specs.declared.tree.Unit.{Unit as ProgramUnit}
 use Rattle.il_grammar_laws.specs.GoesOn.{Sample, calm, always, IsSampled, BeginsBy, Begins, IsCut, ended}
 use Rattle.il_grammar_laws.proofs.Alike.{end_self, end_length, end_of_end, gap_length, loose_gap}
 use Rattle.il_grammar_laws.proofs.Open.{Fills, sign_fills, word_fills, the_name_fills, loose_open}
-use Rattle.il_grammar_laws.proofs.Samples.{true_sample, line_end_sample, line_end_sampled, the_name_sampled, operand_line_sampled, target_line_sampled, name_line_sampled, called_sampled, operands_sampled, word_sample, name_sample, body_samples, word_sampled}
+use Rattle.il_grammar_laws.proofs.Samples.{true_sample, line_end_sample, line_end_sampled, the_name_sampled, operand_line_sampled, target_line_sampled, name_line_sampled, called_sampled, operands_sampled, word_sample, word_sampled}
 use Rattle.il_grammar_laws.proofs.GoesOn.{whole_or, cut_here, stays_loose, stays_tight, passes_always, passes_calm, begins_first, begins_first_by, begins_as, begins_as_by, begins_at, IsFilling, HasGone, begins_lines_by}
 use Rattle.il_read.specs.Lead.{lead_at}
 use Rattle.il_read.specs.declared.lead.Lead.{Lead}
@@ -36,11 +35,11 @@ use Rattle.il_read.specs.declared.stop.Stop.{Stop}
 use Rattle.il_read.specs.declared.stop.SyntaxError.TheVariants.{Unexpected, TooMany, TooDeep}
 use Rattle.il_read.specs.declared.stop.SyntaxError.{SyntaxError}
 use Rattle.il_read.proofs.Leaves.{word_there, sign_there, name_there}
-use Rattle.il_read.proofs.Breaks.{at_first, s_tight, as_breaks, later_loose, s_loose}
+use Rattle.il_read.proofs.Breaks.{s_tight, as_breaks, later_loose, s_loose}
 use Rattle.il_read.proofs.Completions.{place_at, lines_break}
 use Rattle.il_parse.specs.Bodies.{may_begin, begins_lead}
 use Rattle.il_parse.specs.Units.{unit_begins, SpellsUnitBy}
-use Rattle.il_parse.specs.GoesOn.{Within, KeepsRest, KeepsSteps, KeepsUnits, BeginsSurplus, BreaksPlaced, BreaksWith, BreaksUnits, BreaksAll, SpellsAll, SpellsAllUnits, SpellsProgramRest, SpellsBlockRest}
+use Rattle.il_parse.specs.GoesOn.{Within, KeepsSteps, KeepsUnits, BeginsSurplus, BreaksPlaced, BreaksWith, BreaksUnits, BreaksAll, SpellsAll, SpellsAllUnits, SpellsProgramRest, SpellsBlockRest}
 use Rattle.il_parse.specs.Parts.{SpellsGroup, SpellsFewUnits}
 use Rattle.il_parse.specs.Refused.{IsItsPlace, HasSurplus, GoesBeyond, IsLateSurplus, KeepsBefore}
 use Rattle.il_parse.proofs.Behind.{all_late}
