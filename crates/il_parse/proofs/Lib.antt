@@ -2,6 +2,7 @@ pub mod Ahead
 pub mod Repeated
 pub mod Parts
 pub mod Ascii
+pub mod Among
 pub mod Labels
 pub mod Entries
 pub mod Missing
@@ -14,3 +15,5 @@ pub mod Shallow
 pub mod Surplus
 pub mod ByError
 pub mod UnitsByError
+pub mod Late
+pub mod LateBodies

@@ -1,5 +1,6 @@
 pub mod Ahead
 pub mod Refused
+pub mod Among
 pub mod Parts
 pub mod Bodies
 pub mod Lists
@@ -7,3 +8,4 @@ pub mod Insides
 pub mod Headings
 pub mod Units
 pub mod GoesOn
+pub mod Late

@@ -1,0 +1,64 @@
+-- What a reader promises of all texts that have the tokens before a fault, where its token is one with which no text goes on: what is too many stands behind
+-- these tokens.
+use Rattle.std.specs.Prelude.{◌≡◌, Bool, false, IsTrue, ℕ, List, [], ◌∷◌, Some, ⊤}
+use Rattle.std.specs.List.{slice_get}
+use Rattle.il_spec.specs.declared.token.Token.{Token}
+use Rattle.il_spec.specs.declared.keyword.Keyword.{Keyword}
+use Rattle.il_spec.specs.declared.tree.Place.{Place}
+use Rattle.il_spec.specs.declared.tree.Instruction.{Instruction}
+use Rattle.il_spec.specs.declared.tree.Step.{Step}
+use Rattle.il_spec.specs.declared.tree.Body.{Body}
+use Rattle.il_spec.specs.Grammar.{Front, SpellsInstruction}
+use Rattle.il_grammar_laws.specs.Alike.{IsEndOf}
+use Rattle.il_grammar_laws.specs.GoesOn.{IsCut}
+use Rattle.il_read.specs.declared.stop.SyntaxError.{SyntaxError}
+use Rattle.il_read.specs.declared.stop.SyntaxError.TheVariants.{Unexpected, TooDeep, TooMany}
+use Rattle.il_read.specs.declared.stop.Stop.{Stop}
+use Rattle.il_read.specs.Reads.{IsFault, fault_at}
+use Rattle.il_parse.specs.Among.{StandsAmong}
+use Rattle.il_parse.specs.GoesOn.{SpellsFrom}
+
+-- The 4097th of these instructions, if there is one, stands at one of these tokens.
+abbrev pub IsLate : List Token → List Step → Type 0
+IsLate vs steps = (s : Step) → slice_get steps 4096 ≡ Some s → StandsAmong vs s.place
+
+-- all of these stand among these tokens
+abbrev pub AllStand : List Token → List Step → Type 0
+AllStand vs [] = ⊤
+AllStand vs (s ∷ steps) = StandsAmong vs s.place × AllStand vs steps
+
+-- said of an unexpected token alone
+abbrev pub WhereUnexpected : SyntaxError → Type 0 → Type 0
+WhereUnexpected Unexpected P = P
+WhereUnexpected TooDeep P = ⊤
+WhereUnexpected TooMany P = ⊤
+
+-- In every text that has the tokens of this one before `at`, and then `vs`, what stands there is a C of these.
+abbrev pub Leaves : {A : Type 0} → (List Token → A → Type 0) → (List ℕ → A → Front) → List ℕ → List Token → List Token → Type 0
+Leaves {A = A} C P text ts at = (other : List ℕ) (us vs rest : List Token) → IsCut text other at ts us vs → (x : A) → P other x us rest → C vs x
+
+-- The same before a fault of an unexpected token.
+pub record LeavesLate {A : Type 0} (C : List Token → A → Type 0) (P : List ℕ → A → Front) (text : List ℕ) (ts : List Token) (e : Stop) : Type 0 where
+  pub fault : IsFault e → (error : SyntaxError) × (at : List Token) × (e ≡ fault_at error at) × IsEndOf at ts × WhereUnexpected error (Leaves C P text ts at)
+
+-- No instruction ends before a fault of an unexpected token. It is the first token where no instruction more may stand.
+pub record EndsNone (full : Bool) (text : List ℕ) (ts : List Token) (e : Stop) : Type 0 where
+  pub fault : IsFault e → (error : SyntaxError) × (at : List Token) × (e ≡ fault_at error at) × IsEndOf at ts
+      × WhereUnexpected error ((IsTrue full → at ≡ ts) × ((i : Instruction) (r : List Token) → SpellsInstruction text i ts r → IsEndOf at r → ⊥))
+
+-- Of the rest of a body all but the first instruction stand among these tokens, and where the body is full the first as well.
+abbrev pub AreLate : Bool → List Token → List Step → Type 0
+AreLate full vs [] = ⊤
+AreLate full vs (s ∷ steps) = (IsTrue full → StandsAmong vs s.place) × AllStand vs steps
+
+-- the rest of a body
+abbrev pub LeavesRest : Keyword → ℕ → Bool → Bool → List ℕ → List Token → Stop → Type 0
+LeavesRest last depth load full text ts e = LeavesLate (λ vs x. AreLate full vs x.0) (λ text. SpellsFrom text last depth load) text ts e
+
+-- all of a body behind its first line end
+abbrev pub LeavesSteps : Keyword → List ℕ → List Token → Stop → Type 0
+LeavesSteps last text ts e = LeavesLate (λ vs x. IsLate vs x.0) (λ text. SpellsFrom text last 0 false) text ts e
+
+-- what has a body
+abbrev pub LeavesWith : {A : Type 0} → (A → Body) → (List ℕ → A → Front) → List ℕ → List Token → Stop → Type 0
+LeavesWith body P text ts e = LeavesLate (λ vs x. IsLate vs (body x).steps) P text ts e
