@@ -18,6 +18,7 @@ use Rattle.il_grammar_laws.proofs.GoesOn.{whole_or, cut_here, IsOpening, IsFilli
 use Rattle.il_read.specs.declared.stop.SyntaxError.{SyntaxError}
 use Rattle.il_read.specs.declared.stop.SyntaxError.TheVariants.{Unexpected, TooDeep, TooMany}
 use Rattle.il_read.specs.declared.stop.Stop.{Stop}
+use Rattle.il_read.specs.declared.stop.Stop.TheVariants as stop
 use Rattle.il_read.specs.Reads.{IsFault, fault_at, Refuses, RefusesBy, GoesOnNoMore, turn, error_of, HasRoom, room_by, SpellsRoomyBy}
 use Rattle.il_read.proofs.ByError.{error_is}
 use Rattle.il_parse.proofs.ByError.{any_room}
@@ -93,6 +94,10 @@ own_inside room {full = full} {text = text} {ts = ts} {e = e} open_ bad = record
     go TooMany at here gone = tt
 
 -- PARTS, ONE BEHIND ANOTHER
+
+-- want of memory says nothing
+pub late_memory : {A : Type 0} {C : List Token → A → Type 0} {P : List ℕ → A → Front} {text : List ℕ} {ts : List Token} {e : Stop} → e ≡ stop.Memory → LeavesLate C P text ts e
+late_memory same = record { fault = λ f. absurd (subst IsFault same f) }
 
 -- What stands wholly behind the cut is late.
 pub record Spreads {B : Type 0} (gap : Gap) (C : List Token → B → Type 0) (Q : List ℕ → B → Front) : Type 0 where

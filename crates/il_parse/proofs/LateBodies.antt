@@ -15,8 +15,8 @@ use Rattle.il_grammar_laws.specs.GoesOn.{IsCut, always}
 use Rattle.il_grammar_laws.proofs.Alike.{end_self, end_length, end_of_end, alike_self, loose_gap, tight_gap, gap_length}
 use Rattle.il_grammar_laws.proofs.Leads.{at_holds, line_end_sure}
 use Rattle.il_grammar_laws.proofs.Combinators.{valueless}
-use Rattle.il_grammar_laws.proofs.Bodies.{skip_one}
-use Rattle.il_grammar_laws.proofs.Local.{step_local}
+use Rattle.il_grammar_laws.proofs.Bodies.{skip_one, step_no_end}
+use Rattle.il_grammar_laws.proofs.Local.{step_local, loosely_local}
 use Rattle.il_grammar_laws.proofs.Open.{tight_open, loose_open, cut_end, step_fills, line_end_fills}
 use Rattle.il_grammar_laws.proofs.GoesOn.{whole_or, cut_here, IsFilling, IsOpening}
 use Rattle.il_read.specs.declared.stop.SyntaxError.{SyntaxError}
@@ -25,12 +25,12 @@ use Rattle.il_read.specs.Reads.{Refuses, Stands, Misses}
 use Rattle.il_read.proofs.Chain.{as_value, regroup}
 use Rattle.il_read.proofs.Nesting.{IsOpen}
 use Rattle.il_parse.specs.Among.{StandsAmong}
-use Rattle.il_parse.specs.Bodies.{HasLabels}
+use Rattle.il_parse.specs.Bodies.{HasLabels, IsLast}
 use Rattle.il_parse.specs.GoesOn.{Rest, SpellsRestLines, SpellsFrom}
 use Rattle.il_parse.specs.Late.{IsLate, AllStand, AreLate, Leaves, LeavesLate, EndsNone, LeavesRest, LeavesSteps, LeavesWith}
 use Rattle.il_parse.proofs.Among.{one_within, cut_back, among_more, labelled_stands, end_none, alike_whole, loose_past}
 use Rattle.il_parse.proofs.Late.{all_more, all_late, each_stands, late_behind, rest_stands, then_so, Spreads, leaves_first, leaves_later, leaves_as}
-use Rattle.il_parse.proofs.Entries.{TheEnds, step_filling, not_zero, both_left}
+use Rattle.il_parse.proofs.Entries.{TheEnds, step_filling, last_none, not_zero, both_left}
 
 -- the instructions behind one that doesn't end before the cut
 tail_late : (text other : List ℕ) (at start us vs : List Token) (E : Front) (s : Step) (steps : List Step) (r : List Token) → IsCut text other at start us vs → ((n : List Token) → SpellsStep text s start n → IsEndOf at n → ⊥)
@@ -138,6 +138,11 @@ module _ {A : Type 0} {P : List ℕ → A → Front} {E : List ℕ → Front} {t
       go other at vs e less ys r n more (inl c) same w =
           let k = (fill.one x).opens.keeps text other at ts n vs m here (end_of_end at (skip_line_ends m) m (loose_gap.ends m) e) c (inr tt) in
           next other at n vs k.0 e k.1 k.2 ys more r same w
+
+-- an instruction more
+pub step_cut : {text : List ℕ} {start ts : List Token} {xs : List Step} (x : Step) (m : List Token) (last : Keyword) → IsLast last → ((b : List Named × Place) → HasCut SpellsStep (λ text. TheEnds text last b) text start xs ts) → SpellsStep text x ts m
+    → (b : List Named × Place) → HasCut SpellsStep (λ text. TheEnds text last b) text start (xs ++ x ∷ []) (skip_line_ends m)
+step_cut x m last is so_far here b = cut_on step_filling (loosely_local step_local) (λ other us r q w v. (step_no_end other last (last_none last is)).never _ b us q r w v) (so_far b) here
 
 -- behind the instructions that a loop has read
 pub steps_late : {text : List ℕ} {start ts : List Token} {xs : List Step} {most : ℕ} {e : Stop} (last : Keyword) (depth : ℕ) (load full : Bool) → length xs ≤ 4096 → (IsFalse full → length xs ≡ 4096 → ⊥) → IsOpen xs depth load most
