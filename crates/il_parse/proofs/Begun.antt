@@ -139,7 +139,7 @@ placed_from_sampled last depth load few =
     closing = record { stands = λ other vs rest a t. let x = (closing_sampled last depth).stands other vs rest a t in (x.0, ((x.1.0, x.1.1), within (greatest_depth depth x.0.0) x.1.2)) }
 
 -- tokens that are cut behind the front begin with the same
-lead_cut : (text other : List ℕ) (at ts us vs : List Token) → IsCut text other at ts us vs → length at < length ts → lead_at other us ≡ lead_at text ts
+pub lead_cut : (text other : List ℕ) (at ts us vs : List Token) → IsCut text other at ts us vs → length at < length ts → lead_at other us ≡ lead_at text ts
 unfolding lead_at
 lead_cut text other at [] us vs c l = absurd (omega (arith, l))
 lead_cut text other at (t ∷ ts) us vs (inl c) l = let same = ap length c.0 in absurd (omega (arith, l, same))

@@ -9,7 +9,7 @@ use Rattle.il_spec.specs.declared.tree.Named.{Named}
 use Rattle.il_spec.specs.declared.tree.Instruction.{Instruction}
 use Rattle.il_spec.specs.declared.tree.Step.{Step}
 use Rattle.il_spec.specs.declared.tree.Body.{Body}
-use Rattle.il_spec.specs.Grammar.{Front, tight, loose, skip_line_ends, ◌⋯◌, At, Repeats, TheLineEnd, SpellsInstruction, SpellsLabelled, SpellsStep, SpellsBody, is_nested, may_stand, depth_after, needs_load}
+use Rattle.il_spec.specs.Grammar.{Front, tight, loose, skip_line_ends, ◌⋯◌, At, Repeats, TheLineEnd, SpellsInstruction, SpellsLabelled, SpellsStep, is_nested, may_stand, depth_after, needs_load}
 use Rattle.il_grammar_laws.specs.Alike.{IsEndOf, IsLocal}
 use Rattle.il_grammar_laws.specs.GoesOn.{IsCut, always}
 use Rattle.il_grammar_laws.proofs.Alike.{end_self, end_length, end_of_end, alike_self, loose_gap, tight_gap, gap_length}
@@ -20,12 +20,13 @@ use Rattle.il_grammar_laws.proofs.Local.{step_local, loosely_local}
 use Rattle.il_grammar_laws.proofs.Open.{tight_open, loose_open, cut_end, step_fills, line_end_fills}
 use Rattle.il_grammar_laws.proofs.GoesOn.{whole_or, cut_here, IsFilling, IsOpening}
 use Rattle.il_read.specs.declared.stop.SyntaxError.{SyntaxError}
+use Rattle.il_read.specs.declared.stop.SyntaxError.TheVariants.{Unexpected}
 use Rattle.il_read.specs.declared.stop.Stop.{Stop}
 use Rattle.il_read.specs.Reads.{Refuses, Stands, Misses}
 use Rattle.il_read.proofs.Chain.{as_value, regroup}
 use Rattle.il_read.proofs.Nesting.{IsOpen}
 use Rattle.il_parse.specs.Among.{StandsAmong}
-use Rattle.il_parse.specs.Bodies.{HasLabels, IsLast}
+use Rattle.il_parse.specs.Bodies.{HasLabels, IsLast, SpellsBodyBy}
 use Rattle.il_parse.specs.GoesOn.{Rest, SpellsRestLines, SpellsFrom}
 use Rattle.il_parse.specs.Late.{IsLate, AllStand, AreLate, Leaves, LeavesLate, EndsNone, LeavesRest, LeavesSteps, LeavesWith}
 use Rattle.il_parse.proofs.Among.{one_within, cut_back, among_more, labelled_stands, end_none, alike_whole, loose_past}
@@ -182,23 +183,23 @@ line_end_opening = record { one = λ u. line_end_fills.opens }
 
 -- a body, as its parts
 body_so : {text : List ℕ} {ts : List Token} {e : Stop} (last : Keyword) → LeavesLate (λ vs (x : Rest). IsLate vs x.0) (λ text x. TheLineEnd ⋯ SpellsFrom text last 0 false x) text ts e
-    → LeavesWith (λ b. b) (λ text. SpellsBody text last) text ts e
-body_so last bad = leaves_as {Q = λ text. SpellsBody text last} (λ (b : Body). (b.steps, (b.last_labels, b.end))) (λ x other us r w. (w.1.0, w.1.1, (w.0, w.1.2))) (λ vs x h. h) bad
+    → LeavesWith (λ b. b) (SpellsBodyBy last Unexpected) text ts e
+body_so last bad = leaves_as {Q = SpellsBodyBy last Unexpected} (λ (b : Body). (b.steps, (b.last_labels, b.end))) (λ x other us r w. (w.0, w.1, (w.2.1, w.2.0))) (λ vs x h. h) bad
 
 -- where its first line end is missing
-pub body_none : {text : List ℕ} {ts : List Token} {e : Stop} (last : Keyword) → Misses (λ text. TheLineEnd) text ts e → LeavesWith (λ b. b) (λ text. SpellsBody text last) text ts e
+pub body_none : {text : List ℕ} {ts : List Token} {e : Stop} (last : Keyword) → Misses (λ text. TheLineEnd) text ts e → LeavesWith (λ b. b) (SpellsBodyBy last Unexpected) text ts e
 body_none last bad = body_so last (leaves_first (λ x. tt) loose tight (λ text. SpellsFrom text last 0 false) tight_open (λ k. loose_gap.ends k) line_end_opening (from_spreads last) (as_value bad))
 
 -- where its instructions break off
-pub body_late : {text : List ℕ} {ts m : List Token} {e : Stop} (last : Keyword) → Stands TheLineEnd ts m → LeavesSteps last text (skip_line_ends m) e → LeavesWith (λ b. b) (λ text. SpellsBody text last) text ts e
+pub body_late : {text : List ℕ} {ts m : List Token} {e : Stop} (last : Keyword) → Stands TheLineEnd ts m → LeavesSteps last text (skip_line_ends m) e → LeavesWith (λ b. b) (SpellsBodyBy last Unexpected) text ts e
 body_late last here bad =
     body_so last (leaves_later {P = λ text (u : Unit {0}). TheLineEnd} (λ x. tt) loose tight (λ text. SpellsFrom text last 0 false) tight_open loose_open tight_gap (λ k. loose_gap.ends k) loose_past line_end_opening
     (λ text. valueless line_end_sure) (from_spreads last) here.found bad)
 
 -- a body that is wholly behind the cut, or behind line ends
-pub body_spreads : (last : Keyword) → Spreads loose (λ vs (b : Body). IsLate vs b.steps) (λ text. SpellsBody text last)
+pub body_spreads : (last : Keyword) → Spreads loose (λ vs (b : Body). IsLate vs b.steps) (SpellsBodyBy last Unexpected)
 body_spreads last = record {
   all = λ other us vs rest b w end.
-      let to = subst (λ k. IsEndOf k vs) (skip_one us w.1.0 w.1.1) end in
-      λ s here. each_stands vs b.steps 4096 (all_more (skip_line_ends w.1.0) vs to b.steps (rest_stands other (TheEnds other last (b.last_labels, b.end)) b.steps (skip_line_ends w.1.0) rest w.1.2)) s here;
+      let to = subst (λ k. IsEndOf k vs) (skip_one us w.0 w.1) end in
+      λ s here. each_stands vs b.steps 4096 (all_more (skip_line_ends w.0) vs to b.steps (rest_stands other (TheEnds other last (b.last_labels, b.end)) b.steps (skip_line_ends w.0) rest w.2.0)) s here;
 }

@@ -17,3 +17,4 @@ pub mod ByError
 pub mod UnitsByError
 pub mod Late
 pub mod LateBodies
+pub mod LateUnits

@@ -1,13 +1,14 @@
 -- What a reader promises of all texts that have the tokens before a fault, where its token is one with which no text goes on: what is too many stands behind
 -- these tokens.
 use Rattle.std.specs.Prelude.{◌≡◌, Bool, false, IsTrue, ℕ, List, [], ◌∷◌, Some, ⊤}
-use Rattle.std.specs.List.{slice_get}
+use Rattle.std.specs.List.{All, slice_get}
 use Rattle.il_spec.specs.declared.token.Token.{Token}
 use Rattle.il_spec.specs.declared.keyword.Keyword.{Keyword}
 use Rattle.il_spec.specs.declared.tree.Place.{Place}
 use Rattle.il_spec.specs.declared.tree.Instruction.{Instruction}
 use Rattle.il_spec.specs.declared.tree.Step.{Step}
 use Rattle.il_spec.specs.declared.tree.Body.{Body}
+use Rattle.il_spec.specs.declared.tree.Unit.{Unit as ProgramUnit}
 use Rattle.il_spec.specs.Grammar.{Front, SpellsInstruction}
 use Rattle.il_grammar_laws.specs.Alike.{IsEndOf}
 use Rattle.il_grammar_laws.specs.GoesOn.{IsCut}
@@ -62,3 +63,7 @@ LeavesSteps last text ts e = LeavesLate (λ vs x. IsLate vs x.0) (λ text. Spell
 -- what has a body
 abbrev pub LeavesWith : {A : Type 0} → (A → Body) → (List ℕ → A → Front) → List ℕ → List Token → Stop → Type 0
 LeavesWith body P text ts e = LeavesLate (λ vs x. IsLate vs (body x).steps) P text ts e
+
+-- The 65th of these units, if there is one, stands among these tokens, and so does the 4097th instruction of each.
+abbrev pub AreLateUnits : List Token → List ProgramUnit → Type 0
+AreLateUnits vs us = ((u : ProgramUnit) → slice_get us 64 ≡ Some u → StandsAmong vs u.place) × All (λ (u : ProgramUnit). IsLate vs u.body.steps) us

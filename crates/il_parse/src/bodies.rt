@@ -332,8 +332,8 @@ pub fn body(source: &Source, tokens: &mut Tokens, last: Keyword) -> Result<Body,
         (SpellsBodyBy last) source.now tokens.old e) }
     ensures begins { IfErr result (λ e. BreaksWith loose (λ b. b) (λ text. SpellsBody text last)
         source.now tokens.old e) }
-    ensures late { IfErr result (λ e. LeavesWith (λ b. b) (λ text. SpellsBody text last) source.now
-        tokens.old e) }
+    ensures late { IfErr result (λ e. LeavesWith (λ b. b)
+        (SpellsBodyBy last Unexpected) source.now tokens.old e) }
 {
     source.line_end(tokens)?;
     tokens.skip_lines();
