@@ -109,6 +109,12 @@ then_so Unexpected f w = f refl w
 then_so TooDeep f w = tt
 then_so TooMany f w = tt
 
+-- what holds whatever the fault is
+pub always_so : {P : Type 0} (error : SyntaxError) → P → WhereUnexpected error P
+always_so Unexpected w = w
+always_so TooDeep w = tt
+always_so TooMany w = tt
+
 module _ {A B : Type 0} {P : List ℕ → A → Front} {C : List Token → B → Type 0} {text : List ℕ} {ts : List Token} {e : Stop} {first : Test} {look : Gap} where
   -- a part doesn't stand there
   pub leaves_first : (f : B → A) (gap behind : Gap) (Q : List ℕ → B → Front) → IsOpenGap look → ((k : List Token) → IsEndOf (behind (gap k)) (look k)) → IsOpening look first P → Spreads behind C Q → Refuses P text ts e
@@ -183,3 +189,12 @@ pub spreads_on : {A B : Type 0} {P : List ℕ → A → Front} {C : List Token �
 spreads_on f Q one q = record {
   all = λ other us vs rest x w end. q.all other w.0 vs rest x w.2 (end_of_end (skip_line_ends w.0) (skip_line_ends us) vs end (skip_end w.0 us ((one.one (f x)).ends other us w.0 w.1)));
 }
+
+-- a part of the value
+pub leaves_part : {A B : Type 0} {P : List ℕ → A → Front} {C : List Token → A → Type 0} {text : List ℕ} {ts : List Token} {e : Stop} (f : B → A) → LeavesLate C P text ts e → LeavesLate (λ vs b. C vs (f b)) (λ text b. P text (f b)) text ts e
+leaves_part f bad = record {
+  fault = λ is. let b = bad.fault is in (b.0, b.1, b.2, b.3, then_so b.0 (λ k leaves other us vs rest c x w. leaves other us vs rest c (f x) w) b.4);
+}
+
+pub spreads_part : {A B : Type 0} {P : List ℕ → A → Front} {C : List Token → A → Type 0} {gap : Gap} (f : B → A) → Spreads gap C P → Spreads gap (λ vs b. C vs (f b)) (λ text b. P text (f b))
+spreads_part f p = record { all = λ other us vs rest x w end. p.all other us vs rest (f x) w end }

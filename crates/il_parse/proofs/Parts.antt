@@ -59,7 +59,7 @@ config us g = record {
 }
 
 -- the parts of a configuration
-abbrev group : Config → Group
+abbrev pub group : Config → Group
 group c = ((c.cars, (c.floors, c.slots)), (c.globals_place, c.globals), (c.tasks, c.programs, c.end_resource))
 
 -- there is room for one more
@@ -203,7 +203,7 @@ module _ (text : List ℕ) where
   pub from_small_units : {us : List ProgramUnit} {ts r : List Token} → Reads (SpellsFewUnits text) ts us r → Repeats (SpellsUnit text) us (TheWord text word.Configuration) ts r
   from_small_units {us = us} {ts = ts} {r = r} here = from_small (TheWord text word.Configuration) us ts r here.found.0
 
-  are_short : (E : Front) (us : List ProgramUnit) (ts r : List Token) → Repeats (SpellsSmallUnit text) us E ts r → All IsShort us
+  pub are_short : (E : Front) (us : List ProgramUnit) (ts r : List Token) → Repeats (SpellsSmallUnit text) us E ts r → All IsShort us
   are_short E [] ts r w = All-nil IsShort
   are_short E (u ∷ us) ts r w = All-cons IsShort u us w.1.1.0 (are_short E us (skip_line_ends w.0) r w.2)
 
@@ -219,7 +219,7 @@ module _ (text : List ℕ) where
   abbrev pub SpellsWholeBy : SyntaxError → List ProgramUnit × Group → Front
   SpellsWholeBy error x = SpellsFewUnitsBy error text x.0 ⋯ SpellsGroup text x.1
 
-  to_whole : (error : SyntaxError) (c : Config) (ts r : List Token) → SpellsConfig text c ts r → Keeps error c → SpellsWholeBy error (c.units, group c) ts r
+  pub to_whole : (error : SyntaxError) (c : Config) (ts r : List Token) → SpellsConfig text c ts r → Keeps error c → SpellsWholeBy error (c.units, group c) ts r
   to_whole error c ts r w keeps =
       let few = kept error c keeps in
       let split = end_apart (SpellsUnit text) (TheWord text word.Configuration) (Behind c) c.units ts r w in
