@@ -300,7 +300,7 @@ module _ {A : Type 0} (k : Keyword) (Q : List ℕ → A → Front) (body : A →
         (name_later (λ x. x.1.0) (λ text x. Q text x.1.1) (opens the_name_filling) the_name_local inside_spreads named (leaves_part (λ x. x.1.1) bad))
 
 -- a result, and what stands behind it
-abbrev ResultInside : List ℕ → (Place × Scalar) × (List Declaration × List Declaration × Body) → Front
+abbrev pub ResultInside : List ℕ → (Place × Scalar) × (List Declaration × List Declaration × Body) → Front
 ResultInside text y = SpellsResultAt text y.0 ⨾ SpellsFunctionInsideBy Unexpected text y.1
 
 pub result_spreads : Spreads loose (λ vs (y : (Place × Scalar) × (List Declaration × List Declaration × Body)). IsLate vs y.1.2.steps) ResultInside

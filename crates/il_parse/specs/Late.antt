@@ -9,13 +9,17 @@ use Rattle.il_spec.specs.declared.tree.Instruction.{Instruction}
 use Rattle.il_spec.specs.declared.tree.Step.{Step}
 use Rattle.il_spec.specs.declared.tree.Body.{Body}
 use Rattle.il_spec.specs.declared.tree.Unit.{Unit as ProgramUnit}
-use Rattle.il_spec.specs.Grammar.{Front, SpellsInstruction}
+use Rattle.il_spec.specs.declared.tree.Config.{Config}
+use Rattle.il_spec.specs.declared.fault.Refusal.{Refusal}
+use Rattle.il_spec.specs.declared.fault.Refusal.TheVariants as refusal
+use Rattle.il_spec.specs.Grammar.{Front, AfterLines, SpellsInstruction, SpellsConfig}
 use Rattle.il_grammar_laws.specs.Alike.{IsEndOf}
 use Rattle.il_grammar_laws.specs.GoesOn.{IsCut}
 use Rattle.il_read.specs.declared.stop.SyntaxError.{SyntaxError}
 use Rattle.il_read.specs.declared.stop.SyntaxError.TheVariants.{Unexpected, TooDeep, TooMany}
 use Rattle.il_read.specs.declared.stop.Stop.{Stop}
-use Rattle.il_read.specs.Reads.{IsFault, fault_at}
+use Rattle.il_read.specs.Reads.{IsFault, fault_at, number_of}
+use Rattle.il_parse.specs.Refused.{IsPlaceAt}
 use Rattle.il_parse.specs.Among.{StandsAmong}
 use Rattle.il_parse.specs.GoesOn.{SpellsFrom}
 
@@ -67,3 +71,11 @@ LeavesWith body P text ts e = LeavesLate (λ vs x. IsLate vs (body x).steps) P t
 -- The 65th of these units, if there is one, stands among these tokens, and so does the 4097th instruction of each.
 abbrev pub AreLateUnits : List Token → List ProgramUnit → Type 0
 AreLateUnits vs us = ((u : ProgramUnit) → slice_get us 64 ≡ Some u → StandsAmong vs u.place) × All (λ (u : ProgramUnit). IsLate vs u.body.steps) us
+
+-- Before a token with which no text goes on nothing is too many: in each text that has the tokens before the first of `at`, and then others, the 65th
+-- unit and the 4097th instruction of a unit stand among these others. So where something is too many, 12 is told, whatever stands behind it.
+abbrev pub NoneTooMany : List ℕ → List Token → Refusal → Type 0
+NoneTooMany text tokens (refusal.Fault number place) =
+    (error : SyntaxError) × (at : List Token) × (number ≡ number_of error) × IsEndOf at tokens × IsPlaceAt text place at
+    × WhereUnexpected error ((other : List ℕ) (others vs : List Token) → IsCut text other at tokens others vs → (c : Config) → AfterLines (SpellsConfig other c) others [] → AreLateUnits vs c.units)
+NoneTooMany text tokens refusal.Memory = ⊤
