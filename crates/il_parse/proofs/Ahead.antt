@@ -20,7 +20,7 @@ use Rattle.il_parse.specs.Ahead.{RefusesAhead, RefusesAheadBy}
 use Rattle.il_parse.specs.Bodies.{SpellsStepsBy, SpellsBodyBy}
 
 -- behind line ends an end is an end
-skip_end : (m ts : List Token) → IsEndOf m ts → IsEndOf (skip_line_ends m) (skip_line_ends ts)
+pub skip_end : (m ts : List Token) → IsEndOf m ts → IsEndOf (skip_line_ends m) (skip_line_ends ts)
 skip_end m [] e = subst (λ (x : List Token). IsEndOf (skip_line_ends x) []) (sym e) refl
 skip_end m (t ∷ ts) (inl e) = subst (λ (x : List Token). IsEndOf (skip_line_ends x) (skip_line_ends (t ∷ ts))) (sym e) (end_self (skip_line_ends (t ∷ ts)))
 skip_end m (t ∷ ts) (inr p) = go (is_line_end t.kind) (skip_end m ts p)

@@ -163,7 +163,7 @@ pub placed_first : {text : List ℕ} {ts : List Token} {e : Stop} (last : Keywor
 placed_first {ts = ts} last depth load full few bad = record { fault = λ is. (Unexpected, ts, bad is, placed_here last depth load full few, tt) }
 
 -- tokens that are cut behind the front begin with the same
-lead_cut : (text other : List ℕ) (at ts us vs : List Token) → IsCut text other at ts us vs → length at < length ts → lead_at other us ≡ lead_at text ts
+pub lead_cut : (text other : List ℕ) (at ts us vs : List Token) → IsCut text other at ts us vs → length at < length ts → lead_at other us ≡ lead_at text ts
 unfolding lead_at
 lead_cut text other at [] us vs c l = absurd (omega (arith, l))
 lead_cut text other at (t ∷ ts) us vs (inl c) l = let same = ap length c.0 in absurd (omega (arith, l, same))

@@ -16,15 +16,15 @@ use Rattle.il_parse.specs.Refused.{StandsAmong, IsLateSurplus}
 use Rattle.il_parse.specs.GoesOn.{AreBehind}
 
 -- what stands among the tokens of an end does among all
-among_end : (mid vs : List Token) (p : Place) → IsEndOf mid vs → StandsAmong mid p → StandsAmong vs p
+pub among_end : (mid vs : List Token) (p : Place) → IsEndOf mid vs → StandsAmong mid p → StandsAmong vs p
 among_end mid vs p e s = (s.0, s.1, end_of_end (s.0 ∷ s.1) mid vs e s.2, s.3)
 
-at_among : (F : Front) (p : Place) (ts r : List Token) → At p F ts r → StandsAmong ts p
+pub at_among : (F : Front) (p : Place) (ts r : List Token) → At p F ts r → StandsAmong ts p
 at_among F p [] r w = absurd w
 at_among F p (t ∷ ts) r w = (t, ts, end_self (t ∷ ts), (sym w.0, sym w.1))
 
 -- behind labels too
-labelled_among : (text : List ℕ) (F : Front) (p : Place) (ns : List Named) (ts r : List Token) → SpellsLabelled text ns (At p F) ts r → StandsAmong ts p
+pub labelled_among : (text : List ℕ) (F : Front) (p : Place) (ns : List Named) (ts r : List Token) → SpellsLabelled text ns (At p F) ts r → StandsAmong ts p
 labelled_among text F p [] ts r w = at_among F p ts r w
 labelled_among text F p (n ∷ []) ts r w =
     among_end (skip_line_ends w.0) ts p (end_of_end (skip_line_ends w.0) w.0 ts ((label_fills n).opens.ends text ts w.0 w.1) (loose_gap.ends w.0)) (at_among F p (skip_line_ends w.0) r w.2)
@@ -47,7 +47,7 @@ all_behind full vs [] h = tt
 all_behind full vs (s ∷ steps) h = (λ f. All-head (λ (s : Step). StandsAmong vs s.place) s steps h, All-tail (λ (s : Step). StandsAmong vs s.place) s steps h)
 
 -- one that stands at some number
-all_at : (P : Step → Type 0) (steps : List Step) (n : ℕ) (s : Step) → All P steps → slice_get steps n ≡ Some s → P s
+pub all_at : (P : Step → Type 0) (steps : List Step) (n : ℕ) (s : Step) → All P steps → slice_get steps n ≡ Some s → P s
 all_at P [] zero s h e = absurd cc
 all_at P [] (suc n) s h e = absurd cc
 all_at P (x ∷ steps) zero s h e = let same : x ≡ s = cc in subst P same (All-head P x steps h)

@@ -24,7 +24,7 @@ up_ahead_by P {text = text} {ts = ts} (Err y) same bad = subst (λ (z : Stop). R
 up_ahead_by P (Ok x) same bad = tt
 
 -- room is there for every instruction
-any_room : (i : Instruction) → HasRoom true i
+pub any_room : (i : Instruction) → HasRoom true i
 any_room (instruction.Defer op first) = refl
 any_room i = tt
 

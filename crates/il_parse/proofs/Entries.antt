@@ -68,10 +68,10 @@ last_ends word.EndProgram is = refl
 last_ends k is = absurd is
 
 -- a successor is not zero
-not_zero : (d : ℕ) → (suc d == 0) ≡ false
+pub not_zero : (d : ℕ) → (suc d == 0) ≡ false
 not_zero d = grind (arith, nat_tests)
 
-both_left : (a b : Bool) → (a && b) ≡ true → a ≡ true
+pub both_left : (a b : Bool) → (a && b) ≡ true → a ≡ true
 both_left true b e = refl
 both_left false b e = e
 

@@ -22,7 +22,11 @@ use Rattle.il_read.proofs.Instructions.{behind_one, next_gap}
 use Rattle.il_read.proofs.Leaves.{word_lead, sign_lead, sign_there, lead_alike}
 use Rattle.il_read.proofs.Settings.{label_lead, label_there}
 use Rattle.il_read.proofs.Chain.{regroup}
+use Rattle.il_grammar_laws.proofs.GoesOn.{whole_or, cut_here}
+use Rattle.il_parse.specs.Refused.{StandsAmong}
 use Rattle.il_parse.specs.Bodies.{HasLabels}
+use Rattle.il_parse.proofs.Behind.{among_end, at_among, labelled_among}
+use Rattle.il_parse.proofs.Cuts.{loose_past}
 
 -- one token fewer is left
 pub fewer : (P : Token → Type 0) (ts r : List Token) → One P ts r → length r < length ts
@@ -84,6 +88,8 @@ pub record Behind (text : List ℕ) (start : List Token) (ns : List Named) (ts :
   gone : (other : List ℕ) (at us vs : List Token) → IsEndOf at ts → IsCut text other at start us vs → ((length at < length ts) ⊎ (skip_line_ends vs ≡ vs))
       → (n : List Token) × IsCut text other at ts n vs
       × ((p : Place) (i : Instruction) (more : List Named) (r : List Token) → SpellsLabelled other more (ThePlaced other p i) n r → SpellsLabelled other (ns ++ more) (ThePlaced other p i) us r)
+  past : (other : List ℕ) (at us vs : List Token) → IsEndOf at ts → IsCut text other at start us vs → (p : Place) (i : Instruction) (ys : List Named) (r : List Token) → SpellsLabelled other ys (ThePlaced other p i) us r
+      → (n : List Token) × (more : List Named) × (IsCut text other at ts n vs ⊎ IsEndOf n vs) × SpellsLabelled other more (ThePlaced other p i) n r
 
 -- behind a gap of line ends
 gap_cut : (text other : List ℕ) (at m n vs : List Token) → IsCut text other at m n vs → IsEndOf at (skip_line_ends m) → ((length at < length (skip_line_ends m)) ⊎ (skip_line_ends vs ≡ vs))
@@ -100,6 +106,7 @@ module _ (text : List ℕ) where
     ends = λ k p more r w. w;
     left = λ other back us a l. (us, a, λ p i ys r w. (ys, refl, w), λ k p ys r w. (ys, refl, w));
     gone = λ other at us vs e c d. (us, c, λ p i more r w. w);
+    past = λ other at us vs e c p i ys r w. (us, ys, inl c, w);
   }
 
   -- one more, on its line
@@ -128,6 +135,11 @@ module _ (text : List ℕ) where
               λ place i more r w.
                   subst (λ (zs : List Named). SpellsLabelled other zs (ThePlaced other place i) us r) (regroup ns n more) (so.2 place i (n ∷ more) r (name_first other n so.0 p.0 q.0 p.1 q.1 place i more r w)),
             );
+        past = λ other at us vs e c p i ys r w.
+            let at_l = end_of_end at (skip_line_ends l) l e3 e in
+            let at_m = end_of_end at l m e2 at_l in
+            let so = so_far.past other at us vs (end_of_end at m ts e1 at_m) c p i ys r w in
+            go other at vs e at_l at_m p i r so.0 so.1 so.3 so.2;
         left = λ other back us a z.
             let l1 = end_length (skip_line_ends l) l e3 in
             let l2 = end_length l m e2 in
@@ -147,6 +159,20 @@ module _ (text : List ℕ) where
                   (b.0, x.1 ∙ ap (λ zs. ns ++ zs) b.1 ∙ regroup ns n b.0, b.2),
             );
       }
+
+    where
+      go : (other : List ℕ) (at vs : List Token) → IsEndOf at (skip_line_ends l) → IsEndOf at l → IsEndOf at m → (p : Place) (i : Instruction) (r k : List Token) (ys : List Named) → SpellsLabelled other ys (ThePlaced other p i) k r
+          → IsCut text other at ts k vs ⊎ IsEndOf k vs → (n : List Token) × (more : List Named) × (IsCut text other at (skip_line_ends l) n vs ⊎ IsEndOf n vs) × SpellsLabelled other more (ThePlaced other p i) n r
+      go other at vs e at_l at_m p i r k ys w (inr end) = (k, ys, inr end, w)
+      go other at vs e at_l at_m p i r k ys w (inl c) =
+          let d = (label_fills n).opens.keeps text other at ts k vs m label at_m c (inr tt) in
+          let f = line_end_fills.opens.keeps text other at m d.0 vs l line at_l d.2 (inr tt) in
+          let b = first_of other n k d.0 f.0 d.1 f.1 p i ys r w in
+          (skip_line_ends f.0, b.0, behind_lines other at f.0 vs f.2 (whole_or at (skip_line_ends l) e), b.2)
+        where
+          behind_lines : (other : List ℕ) (at q vs : List Token) → IsCut text other at l q vs → ((at ≡ skip_line_ends l) ⊎ (length at < length (skip_line_ends l))) → IsCut text other at (skip_line_ends l) (skip_line_ends q) vs ⊎ IsEndOf (skip_line_ends q) vs
+          behind_lines other at q vs c (inl edge) = inr (loose_past.past text other at l q vs c edge)
+          behind_lines other at q vs c (inr less) = inl (loose_open.cut text other at l q vs c less)
 
   -- where no label stands, none stands in alike tokens, as the token behind a name tells
   label_still : (other : List ℕ) (back ts vs : List Token) → AreAlike text other back ts vs → (lead_at text ts ≡ lead.Name → length back ≤ length (drop 1 ts))
@@ -177,6 +203,9 @@ module _ (text : List ℕ) where
     gone = λ other at us vs e c d.
         let so = so_far.gone other at us vs e c d in
         (so.0, so.1, λ p i r w. subst (λ (zs : List Named). SpellsLabelled other zs (ThePlaced other p i) us r) (append-nil ns) (so.2 p i [] r w));
+    past = λ other us vs c p i ys r w.
+        let so = so_far.past other ts us vs (end_self ts) c p i ys r w in
+        among other vs p i r so.0 so.1 so.3 so.2;
     left = λ other back us a z named.
         let so = so_far.left other back us a z in
         let none = label_still other back ts so.0 so.1 named out in (
@@ -187,6 +216,10 @@ module _ (text : List ℕ) where
         );
   }
     where
+      among : (other : List ℕ) (vs : List Token) (p : Place) (i : Instruction) (r k : List Token) (ys : List Named) → SpellsLabelled other ys (ThePlaced other p i) k r → IsCut text other ts ts k vs ⊎ IsEndOf k vs → StandsAmong vs p
+      among other vs p i r k ys w (inl c) = subst (λ x. StandsAmong x p) (cut_here text other ts ts k vs c refl) (labelled_among other (SpellsInstruction other i) p ys k r w)
+      among other vs p i r k ys w (inr end) = among_end k vs p end (labelled_among other (SpellsInstruction other i) p ys k r w)
+
       placed : (other : List ℕ) (vs : List Token) → ((n : Named) (r : List Token) → SpellsLabel other n vs r → ⊥) → (p : Place) (i : Instruction) (more : List Named) (r : List Token)
           → SpellsLabelled other more (ThePlaced other p i) vs r → (more ≡ []) × ThePlaced other p i vs r
       placed other vs none p i [] r w = (refl, w)
@@ -216,6 +249,9 @@ module _ (text : List ℕ) where
             let so = so_far.gone other at us vs (end_of_end at m ts e1 at_m) c (inl (omega (arith, l0, l1, l3))) in
             let p = (label_fills n).opens.keeps text other at ts so.0 vs m label at_m so.1 (inr tt) in
             (skip_line_ends p.0, gap_cut text other at m p.0 vs p.2 e d, λ place i r w. so.2 place i (n ∷ []) r (p.0, p.1, w));
+        past = λ other us vs c p i ys r w.
+            let so = so_far.past other (skip_line_ends m) us vs (end_of_end (skip_line_ends m) m ts e1 e2) c p i ys r w in
+            among other vs p i r so.0 so.1 so.3 so.2;
         left = λ other back us a z named.
             let l1 = end_length (skip_line_ends m) m e2 in
             let l2 = end_length m ts e1 in
@@ -229,6 +265,23 @@ module _ (text : List ℕ) where
             );
       }
     where
+      -- behind the label, on its line or on others
+      behind_label : (other : List ℕ) (k d : List Token) → SpellsLabel other n k d → (p : Place) (i : Instruction) (ys : List Named) (r : List Token) → SpellsLabelled other ys (ThePlaced other p i) k r → StandsAmong (skip_line_ends d) p
+      behind_label other k d here p i [] r w = absurd (no_placed other n p i k r d here w)
+      behind_label other k d here p i (y ∷ []) r w =
+          let same = (label_one other).only y n k w.0 d w.1 here in
+          at_among (SpellsInstruction other i) p (skip_line_ends d) r (subst (λ (j : List Token). ThePlaced other p i (skip_line_ends j) r) same.1 w.2)
+      behind_label other k d here p i (y ∷ z ∷ zs) r w =
+          let same = (label_one other).only y n k w.0 d w.1 here in
+          subst (λ (j : List Token). StandsAmong (skip_line_ends j) p) same.1
+          (subst (λ (j : List Token). StandsAmong j p) (sym (skip_one w.0 w.2.0 w.2.1)) (labelled_among other (SpellsInstruction other i) p (z ∷ zs) (skip_line_ends w.2.0) r w.2.2))
+
+      among : (other : List ℕ) (vs : List Token) (p : Place) (i : Instruction) (r k : List Token) (ys : List Named) → SpellsLabelled other ys (ThePlaced other p i) k r → IsCut text other (skip_line_ends m) ts k vs ⊎ IsEndOf k vs → StandsAmong vs p
+      among other vs p i r k ys w (inr end) = among_end k vs p end (labelled_among other (SpellsInstruction other i) p ys k r w)
+      among other vs p i r k ys w (inl c) =
+          let d = (label_fills n).opens.keeps text other (skip_line_ends m) ts k vs m label (loose_gap.ends m) c (inr tt) in
+          among_end (skip_line_ends d.0) vs p (loose_past.past text other (skip_line_ends m) m d.0 vs d.2 refl) (behind_label other k d.0 d.1 p i ys r w)
+
       placed : (other : List ℕ) (vs k : List Token) → SpellsLabel other n vs k → ((l : List Token) → TheLineEnd k l → ⊥) → (p : Place) (i : Instruction) (more : List Named) (r : List Token)
           → SpellsLabelled other more (ThePlaced other p i) vs r → (more ≡ n ∷ []) × ThePlaced other p i (skip_line_ends k) r
       placed other vs k here none p i [] r w = absurd (no_placed other n p i vs r k here w)

@@ -58,7 +58,7 @@ module _ (text : List ℕ) where
   more_than_none (d ∷ ds) h = omega arith
 
   -- a program is its parts
-  program_parts : (error : SyntaxError) (k : UnitKind) (p : Place) (n : Named) (ins outs vs es : List Declaration) (b : Body) (ts r : List Token)
+  pub program_parts : (error : SyntaxError) (k : UnitKind) (p : Place) (n : Named) (ins outs vs es : List Declaration) (b : Body) (ts r : List Token)
       → SpellsUnitOfBy word.Program error text (record { place = p; kind = k; name = n; inputs = ins; outputs = outs; variables = vs; externals = es; body = b }) ts r → SpellsProgramBy error text (p, n, (vs, es, b)) ts r
   program_parts error unit.Program p n ins outs vs es b ts r w =
       let u = w.1.0 in
@@ -103,7 +103,7 @@ module _ (text : List ℕ) where
       }
 
   -- a function block is its parts
-  block_parts : (error : SyntaxError) (k : UnitKind) (p : Place) (n : Named) (ins outs vs es : List Declaration) (b : Body) (ts r : List Token)
+  pub block_parts : (error : SyntaxError) (k : UnitKind) (p : Place) (n : Named) (ins outs vs es : List Declaration) (b : Body) (ts r : List Token)
       → SpellsUnitOfBy word.FunctionBlock error text (record { place = p; kind = k; name = n; inputs = ins; outputs = outs; variables = vs; externals = es; body = b }) ts r → SpellsBlockBy error text (p, n, (ins, outs, vs, b)) ts r
   block_parts error unit.FunctionBlock p n ins outs vs es b ts r w =
       let u = w.1.0 in
@@ -141,7 +141,7 @@ module _ (text : List ℕ) where
       }
 
   -- a function is its parts
-  function_parts : (error : SyntaxError) (k : UnitKind) (p : Place) (n : Named) (ins outs vs es : List Declaration) (b : Body) (ts r : List Token)
+  pub function_parts : (error : SyntaxError) (k : UnitKind) (p : Place) (n : Named) (ins outs vs es : List Declaration) (b : Body) (ts r : List Token)
       → SpellsUnitOfBy word.Function error text (record { place = p; kind = k; name = n; inputs = ins; outputs = outs; variables = vs; externals = es; body = b }) ts r
       → (x : Place × Scalar) × SpellsFunctionBy error text (p, n, x, (ins, vs, b)) ts r
   function_parts error (unit.Function s q) p n ins outs vs es b ts r w =
@@ -192,18 +192,18 @@ module _ (text : List ℕ) where
   unit_read k ts r u here = record { found = here.found.1 }
 
   -- behind the word of a kind stands a unit of this kind
-  same_word : (k : Keyword) (u : ProgramUnit) (ts m r : List Token) → TheWord text k ts m → SpellsUnit text u ts r → unit_word u.kind ≡ k
+  pub same_word : (k : Keyword) (u : ProgramUnit) (ts m r : List Token) → TheWord text k ts m → SpellsUnit text u ts r → unit_word u.kind ≡ k
   same_word k u ts m r word w =
       let a = word_lead text k ts m word in
       let b = unit_lead text u ts r w in
       cc
 
   -- a unit begins with a word that stands there
-  begins : (u : ProgramUnit) (ts r : List Token) → SpellsUnit text u ts r → (m : List Token) × TheWord text (unit_word u.kind) ts m
+  pub begins : (u : ProgramUnit) (ts r : List Token) → SpellsUnit text u ts r → (m : List Token) × TheWord text (unit_word u.kind) ts m
   begins u ts r w = (w.1.0, at_holds text (TheWord text (unit_word u.kind)) u.place ts w.1.0 w.1.1)
 
   -- neither a program nor a function block stands there, and no function
-  is_other : (k : UnitKind) (ts : List Token) → ((m : List Token) → TheWord text word.Program ts m → ⊥) → ((m : List Token) → TheWord text word.FunctionBlock ts m → ⊥)
+  pub is_other : (k : UnitKind) (ts : List Token) → ((m : List Token) → TheWord text word.Program ts m → ⊥) → ((m : List Token) → TheWord text word.FunctionBlock ts m → ⊥)
       → (m : List Token) → TheWord text (unit_word k) ts m → unit_word k ≡ word.Function
   is_other unit.Program ts p b m w = absurd (p m w)
   is_other unit.FunctionBlock ts p b m w = absurd (b m w)

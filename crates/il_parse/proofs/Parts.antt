@@ -58,7 +58,7 @@ config us g = record {
 }
 
 -- the parts of a configuration
-abbrev group : Config → Group
+abbrev pub group : Config → Group
 group c = ((c.cars, (c.floors, c.slots)), (c.globals_place, c.globals), (c.tasks, c.programs, c.end_resource))
 
 -- there is room for one more
@@ -218,7 +218,7 @@ module _ (text : List ℕ) where
   abbrev pub SpellsWholeBy : SyntaxError → List ProgramUnit × Group → Front
   SpellsWholeBy error x = SpellsFewUnitsBy error text x.0 ⋯ SpellsGroup text x.1
 
-  to_whole : (error : SyntaxError) (c : Config) (ts r : List Token) → SpellsConfig text c ts r → Keeps error c → SpellsWholeBy error (c.units, group c) ts r
+  pub to_whole : (error : SyntaxError) (c : Config) (ts r : List Token) → SpellsConfig text c ts r → Keeps error c → SpellsWholeBy error (c.units, group c) ts r
   to_whole error c ts r w keeps =
       let few = kept error c keeps in
       let split = end_apart (SpellsUnit text) (TheWord text word.Configuration) (Behind c) c.units ts r w in

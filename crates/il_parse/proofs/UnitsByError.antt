@@ -90,7 +90,7 @@ module _ (text : List ℕ) where
   kind_begins unit.FunctionBlock = refl
   kind_begins unit.Program = refl
 
-  begins_so : (error : SyntaxError) (u : ProgramUnit) (ts r : List Token) → SpellsUnitBy error text u ts r → unit_begins (lead_at text ts) ≡ true
+  pub begins_so : (error : SyntaxError) (u : ProgramUnit) (ts r : List Token) → SpellsUnitBy error text u ts r → unit_begins (lead_at text ts) ≡ true
   begins_so error u ts r w =
       let first = at_holds text (TheWord text (unit_word u.kind)) u.place ts w.0.1.0 w.0.1.1 in
       ap unit_begins (word_lead text (unit_word u.kind) ts w.0.1.0 first) ∙ kind_begins u.kind

@@ -19,6 +19,7 @@ use Rattle.il_read.specs.declared.stop.SyntaxError.TheVariants.{Unexpected, TooD
 use Rattle.il_read.specs.declared.stop.Stop.{Stop}
 use Rattle.il_read.specs.declared.lead.Lead.{Lead}
 use Rattle.il_read.specs.declared.lead.Lead.TheVariants as lead
+use Rattle.il_parse.specs.Refused.{StandsAmong}
 use Rattle.il_parse.specs.declared.bodies.Entry.{Entry}
 use Rattle.il_parse.specs.declared.bodies.Entry.TheVariants as entry
 
@@ -90,7 +91,7 @@ pub record RefusesPlaced (text : List ℕ) (depth : ℕ) (load full : Bool) (ts 
   pub fault : IsFault e → (error : SyntaxError) × (at : List Token) × (e ≡ fault_at error at) × IsEndOf at ts
       × (depth ≡ 0 → lead_at text ts ≡ lead.Name → IsEndOf (turn error text at) (drop 1 ts)) × GoesOnNoMore (SpellsPlacedBy depth load full (error_of e)) text ts (turn error text at)
 
--- What labels were read: they name what stands behind them, in alike tokens too. Only where the last stands alone on its line may
+-- What labels were read: they name what stands behind them, in alike tokens too, and in cut ones no instruction stands before their end. Only where the last stands alone on its line may
 -- the body end there. Whether a name behind them is a label more, the token behind the name tells.
 pub record HasLabels (text : List ℕ) (start : List Token) (ns : List Named) (alone : Bool) (ts : List Token) : Type 0 where
   pub inside : IsEndOf ts start
@@ -102,6 +103,8 @@ pub record HasLabels (text : List ℕ) (start : List Token) (ns : List Named) (a
       × ((k : Keyword) (p : Place) (ys : List Named) (r : List Token) → Repeats (SpellsLabelLine other) ys (At p (TheWord other k)) us r → (ys ≡ ns) × At p (TheWord other k) vs r × IsTrue alone)
   pub gone : (other : List ℕ) (at us vs : List Token) → IsEndOf at ts → IsCut text other at start us vs → ((length at < length ts) ⊎ (skip_line_ends vs ≡ vs))
       → (n : List Token) × IsCut text other at ts n vs × ((p : Place) (i : Instruction) (r : List Token) → At p (SpellsInstruction other i) n r → SpellsLabelled other ns (At p (SpellsInstruction other i)) us r)
+  pub past : (other : List ℕ) (us vs : List Token) → IsCut text other ts start us vs → (p : Place) (i : Instruction) (ys : List Named) (r : List Token) → SpellsLabelled other ys (At p (SpellsInstruction other i)) us r
+      → StandsAmong vs p
 
 -- the word that ends the body, which is taken where it may stand, or doesn't stand there
 abbrev pub TakesEnd : List ℕ → Keyword → Bool → List Token → Option Place → List Token → Type 0

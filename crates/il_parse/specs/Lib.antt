@@ -7,3 +7,4 @@ pub mod Insides
 pub mod Headings
 pub mod Units
 pub mod GoesOn
+pub mod Late

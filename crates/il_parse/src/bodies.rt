@@ -11,6 +11,7 @@ ghost use Rattle.il_parse.specs.Ahead.{RefusesAheadBy, RefusesAhead};
 ghost use Rattle.il_parse.specs.Bodies.{closes_lead, leaves_lead, ends_lead, loads_lead, begins_lead, may_begin, SpellsPlaced, RefusesPlaced, HasLabels, TakesEnd, SpellsNext, SpellsNextBy, Shortens, IsLast, SpellsSteps, SpellsStepsBy, SpellsSmallBody, SpellsBodyBy};
 ghost use Rattle.il_read.specs.declared.lead.Lead.TheVariants as begins;
 ghost use Rattle.il_parse.specs.GoesOn.{BreaksPlaced, BreaksFrom, BreaksSteps, BreaksWith};
+ghost use Rattle.il_parse.specs.Late.{EndsNone, LeavesRest, LeavesSteps, LeavesWith};
 
 use il_read::{Lead, Source, Stop, SyntaxError, Tokens};
 use il_spec::keyword::Keyword;
@@ -124,6 +125,7 @@ fn placed(
     ensures refused { IfErr result (λ e. RefusesPlaced source.now depth load full tokens.old e) }
     ensures begins { IfErr result (λ e. (last : Keyword) → BreaksPlaced last depth load full
         source.now tokens.old e) }
+    ensures late { IfErr result (λ e. EndsNone full source.now tokens.old e) }
     ensures shorter { IfOk result (λ _. length tokens.new < length tokens.old) }
 {
     let Some(place) = tokens.place() else {
@@ -211,6 +213,7 @@ fn outer(
     ensures refused { IfErr result (λ e. RefusesBy
         (SpellsNextBy last 0 load full) source.now tokens.old e) }
     ensures begins { IfErr result (λ e. BreaksFrom last 0 load full source.now tokens.old e) }
+    ensures late { IfErr result (λ e. LeavesRest last 0 load full source.now tokens.old e) }
     ensures shorter { IfOk result (λ x. Shortens tokens.old x tokens.new) }
 {
     let (labels, alone) = labels(source, tokens)?;
@@ -243,6 +246,7 @@ fn next_entry(
     ensures refused { IfErr result (λ e. RefusesBy
         (SpellsNextBy last depth load full) source.now tokens.old e) }
     ensures begins { IfErr result (λ e. BreaksFrom last depth load full source.now tokens.old e) }
+    ensures late { IfErr result (λ e. LeavesRest last depth load full source.now tokens.old e) }
     ensures shorter { IfOk result (λ x. Shortens tokens.old x tokens.new) }
 {
     if depth == 0 {
@@ -294,6 +298,7 @@ fn steps(source: &Source, tokens: &mut Tokens, last: Keyword) -> Result<Body, St
     ensures refused { IfErr result (λ e. RefusesBy
         (SpellsStepsBy last) source.now tokens.old e) }
     ensures begins { IfErr result (λ e. BreaksSteps last source.now tokens.old e) }
+    ensures late { IfErr result (λ e. LeavesSteps last source.now tokens.old e) }
 {
     let mut steps = Items::new(source.alloc());
     let mut depth = 0;
@@ -327,6 +332,8 @@ pub fn body(source: &Source, tokens: &mut Tokens, last: Keyword) -> Result<Body,
         (SpellsBodyBy last) source.now tokens.old e) }
     ensures begins { IfErr result (λ e. BreaksWith loose (λ b. b) (λ text. SpellsBody text last)
         source.now tokens.old e) }
+    ensures late { IfErr result (λ e. LeavesWith (λ b. b)
+        (SpellsBodyBy last Unexpected) source.now tokens.old e) }
 {
     source.line_end(tokens)?;
     tokens.skip_lines();

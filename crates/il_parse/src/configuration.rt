@@ -7,6 +7,8 @@ ghost use Rattle.il_parse.specs.Ahead.{RefusesAhead};
 ghost use Rattle.il_parse.specs.Parts.{SpellsGlobalList, SpellsSomeGlobals, SpellsTasks, SpellsPrograms, SpellsLines, SpellsResourceOf, SpellsEnding, SpellsGroup, SpellsSmallConfig, SpellsConfigBy};
 ghost use Rattle.il_spec.specs.declared.keyword.Keyword.TheVariants as word;
 ghost use Rattle.il_grammar_laws.specs.GoesOn.{always, ended};
+ghost use Rattle.il_read.specs.declared.stop.SyntaxError.TheVariants.{Unexpected};
+ghost use Rattle.il_parse.specs.Late.{LeavesLate, AreLateUnits};
 ghost use Rattle.il_parse.specs.GoesOn.{stopped, BreaksAll};
 
 use crate::units::units;
@@ -193,6 +195,8 @@ pub fn configuration(source: &Source, tokens: &mut Tokens) -> Result<Config, Sto
     ensures reads { IfOk result (λ c. Reads (SpellsSmallConfig source.now) tokens.old c []) }
     ensures refused { IfErr result (λ e. RefusesBy SpellsConfigBy source.now tokens.old e) }
     ensures begins { IfErr result (λ e. BreaksAll source.now tokens.old e) }
+    ensures late { IfErr result (λ e. LeavesLate (λ vs c. AreLateUnits vs c.units)
+        (SpellsConfigBy Unexpected) source.now tokens.old e) }
 {
     tokens.skip_lines();
     let units = units(source, tokens)?;

@@ -5,6 +5,8 @@ ghost use Rattle.il_read.specs.Reads.{Reads, Refuses, RefusesBy, BreaksOff};
 ghost use Rattle.il_parse.specs.Headings.{PlacedScalar, SpellsResultAt, SpellsProgram, SpellsBlock, SpellsFunction, SpellsProgramBy, SpellsBlockBy, SpellsFunctionBy};
 ghost use Rattle.il_grammar_laws.specs.GoesOn.{quiet};
 ghost use Rattle.il_spec.specs.Grammar.{tight};
+ghost use Rattle.il_read.specs.declared.stop.SyntaxError.TheVariants.{Unexpected};
+ghost use Rattle.il_parse.specs.Late.{LeavesWith};
 ghost use Rattle.il_parse.specs.GoesOn.{BreaksWith, SpellsWholeProgram, SpellsWholeBlock, SpellsWholeFunction};
 
 use crate::insides::{block_inside, function_inside, program_inside};
@@ -48,6 +50,8 @@ pub fn program(
     ensures refused { IfErr result (λ e. RefusesBy SpellsProgramBy source.now tokens.old e) }
     ensures begins { IfErr result (λ e. BreaksWith tight (λ x. x.2.2) SpellsWholeProgram source.now
         tokens.old e) }
+    ensures late { IfErr result (λ e. LeavesWith (λ x. x.2.2) (SpellsProgramBy Unexpected) source.now
+        tokens.old e) }
 {
     let place = source.placed_word(tokens, Keyword::Program)?;
     tokens.skip_lines();
@@ -77,6 +81,8 @@ pub fn block(
     ensures refused { IfErr result (λ e. RefusesBy SpellsBlockBy source.now tokens.old e) }
     ensures begins { IfErr result (λ e. BreaksWith tight (λ x. x.2.3) SpellsWholeBlock source.now
         tokens.old e) }
+    ensures late { IfErr result (λ e. LeavesWith (λ x. x.2.3) (SpellsBlockBy Unexpected) source.now
+        tokens.old e) }
 {
     let place = source.placed_word(tokens, Keyword::FunctionBlock)?;
     tokens.skip_lines();
@@ -101,6 +107,8 @@ pub fn function(
     ensures reads { IfOk result (λ x. Reads (SpellsFunction source.now) tokens.old x tokens.new) }
     ensures refused { IfErr result (λ e. RefusesBy SpellsFunctionBy source.now tokens.old e) }
     ensures begins { IfErr result (λ e. BreaksWith tight (λ x. x.3.2) SpellsWholeFunction source.now
+        tokens.old e) }
+    ensures late { IfErr result (λ e. LeavesWith (λ x. x.3.2) (SpellsFunctionBy Unexpected) source.now
         tokens.old e) }
 {
     let place = source.placed_word(tokens, Keyword::Function)?;

@@ -5,6 +5,8 @@ ghost use Rattle.il_read.specs.Reads.{Reads, Refuses};
 ghost use Rattle.il_parse.specs.Ahead.{RefusesAheadBy, RefusesAhead};
 ghost use Rattle.il_parse.specs.Insides.{SpellsProgramInside, SpellsBlockInside, SpellsFunctionInside, SpellsProgramInsideBy, SpellsBlockInsideBy, SpellsFunctionInsideBy};
 ghost use Rattle.il_spec.specs.Grammar.{loose};
+ghost use Rattle.il_read.specs.declared.stop.SyntaxError.TheVariants.{Unexpected};
+ghost use Rattle.il_parse.specs.Late.{LeavesWith};
 ghost use Rattle.il_parse.specs.GoesOn.{BreaksWith, SpellsProgramRest, SpellsBlockRest, SpellsFunctionRest};
 
 use crate::bodies::body;
@@ -25,6 +27,8 @@ pub fn program_inside(
         e) }
     ensures begins { IfErr result (λ e. BreaksWith loose (λ x. x.2) SpellsProgramRest source.now
         tokens.old e) }
+    ensures late { IfErr result (λ e. LeavesWith (λ x. x.2)
+        (SpellsProgramInsideBy Unexpected) source.now tokens.old e) }
 {
     no_list(source, tokens, Keyword::VarInput)?;
     no_list(source, tokens, Keyword::VarOutput)?;
@@ -52,6 +56,8 @@ pub fn block_inside(
     ensures refused { IfErr result (λ e. RefusesAheadBy SpellsBlockInsideBy source.now tokens.old e) }
     ensures begins { IfErr result (λ e. BreaksWith loose (λ x. x.3) SpellsBlockRest source.now
         tokens.old e) }
+    ensures late { IfErr result (λ e. LeavesWith (λ x. x.3)
+        (SpellsBlockInsideBy Unexpected) source.now tokens.old e) }
 {
     let inputs = filled_list(source, tokens, Keyword::VarInput)?;
     let outputs = filled_list(source, tokens, Keyword::VarOutput)?;
@@ -72,6 +78,8 @@ pub fn function_inside(
         SpellsFunctionInsideBy source.now tokens.old e) }
     ensures begins { IfErr result (λ e. BreaksWith loose (λ x. x.2) SpellsFunctionRest source.now
         tokens.old e) }
+    ensures late { IfErr result (λ e. LeavesWith (λ x. x.2)
+        (SpellsFunctionInsideBy Unexpected) source.now tokens.old e) }
 {
     let inputs = full_list(source, tokens, Keyword::VarInput)?;
     no_list(source, tokens, Keyword::VarOutput)?;

@@ -8,7 +8,9 @@ ghost use Rattle.il_spec.specs.declared.tree.Config.{Config};
 ghost use Rattle.il_read.specs.Reads.{Reads, Refuses, RefusesBy};
 ghost use Rattle.il_parse.specs.Refused.{IsFault, IsOfParser, IsSmall, GoesOnNowhere, NoTextGoesOn, GoesOnBefore};
 ghost use Rattle.il_parse.specs.Parts.{SpellsSmallConfig, SpellsConfigBy};
+ghost use Rattle.il_read.specs.declared.stop.SyntaxError.TheVariants.{Unexpected};
 ghost use Rattle.il_parse.specs.GoesOn.{BreaksAll};
+ghost use Rattle.il_parse.specs.Late.{LeavesLate, AreLateUnits, NoneTooMany};
 
 mod bodies;
 mod configuration;
@@ -61,6 +63,9 @@ pub fn parse(alloc: Global, text: &[u8], tokens: &[Token]) -> Result<Written, Re
     // only a limit forbids it, and for 12 the first unit or instruction too many stands at it.
     ensures before { IfErr result (λ e. GoesOnBefore text.now tokens.now e) }
 
+    // Before a token with which no text goes on nothing is too many.
+    ensures none { IfErr result (λ e. NoneTooMany text.now tokens.now e) }
+
     // What is refused is 10, what no text goes on with, 11, too many open parentheses, or 12, too many units or instructions.
     ensures number { IfErr result (λ e. IsOfParser e) }
 
@@ -84,6 +89,8 @@ fn read(alloc: Global, text: &[u8], tokens: &[Token]) -> Result<Config, Stop>
     ensures reads { IfOk result (λ c. Reads (SpellsSmallConfig text.now) tokens.now c []) }
     ensures refused { IfErr result (λ e. RefusesBy SpellsConfigBy text.now tokens.now e) }
     ensures begins { IfErr result (λ e. BreaksAll text.now tokens.now e) }
+    ensures late { IfErr result (λ e. LeavesLate (λ vs c. AreLateUnits vs c.units)
+        (SpellsConfigBy Unexpected) text.now tokens.now e) }
 {
     let upper = in_upper_case(alloc, text)?;
     let source = Source::new(alloc, text, &upper);

@@ -5,6 +5,8 @@ ghost use Rattle.il_spec.specs.declared.keyword.Keyword.TheVariants as word;
 ghost use Rattle.il_read.specs.Reads.{Reads, RefusesBy, Refuses};
 ghost use Rattle.il_parse.specs.Units.{SpellsSmallUnit, SpellsUnitOf, SpellsUnitBy, SpellsUnitOfBy};
 ghost use Rattle.il_spec.specs.Grammar.{tight, SpellsUnit};
+ghost use Rattle.il_read.specs.declared.stop.SyntaxError.TheVariants.{Unexpected};
+ghost use Rattle.il_parse.specs.Late.{LeavesWith};
 ghost use Rattle.il_parse.specs.GoesOn.{BreaksWith};
 
 use crate::headings::{block, function, program};
@@ -21,6 +23,8 @@ fn program_unit(source: &Source, tokens: &mut Tokens) -> Result<Unit, Stop>
         (SpellsUnitOfBy word.Program) source.now tokens.old e) }
     ensures begins { IfErr result (λ e. BreaksWith tight (λ u. u.body) SpellsUnit source.now
         tokens.old e) }
+    ensures late { IfErr result (λ e. LeavesWith (λ u. u.body)
+        (SpellsUnitOfBy word.Program Unexpected) source.now tokens.old e) }
 {
     let (place, name, (variables, externals, body)) = program(source, tokens)?;
     Ok(Unit {
@@ -43,6 +47,8 @@ fn block_unit(source: &Source, tokens: &mut Tokens) -> Result<Unit, Stop>
         (SpellsUnitOfBy word.FunctionBlock) source.now tokens.old e) }
     ensures begins { IfErr result (λ e. BreaksWith tight (λ u. u.body) SpellsUnit source.now
         tokens.old e) }
+    ensures late { IfErr result (λ e. LeavesWith (λ u. u.body)
+        (SpellsUnitOfBy word.FunctionBlock Unexpected) source.now tokens.old e) }
 {
     let (place, name, (inputs, outputs, variables, body)) = block(source, tokens)?;
     Ok(Unit {
@@ -65,6 +71,8 @@ fn function_unit(source: &Source, tokens: &mut Tokens) -> Result<Unit, Stop>
         (SpellsUnitOfBy word.Function) source.now tokens.old e) }
     ensures begins { IfErr result (λ e. BreaksWith tight (λ u. u.body) SpellsUnit source.now
         tokens.old e) }
+    ensures late { IfErr result (λ e. LeavesWith (λ u. u.body)
+        (SpellsUnitOfBy word.Function Unexpected) source.now tokens.old e) }
 {
     let (place, name, (result_place, scalar), (inputs, variables, body)) = function(
         source, tokens,
@@ -87,6 +95,8 @@ pub fn unit(source: &Source, tokens: &mut Tokens) -> Result<Unit, Stop>
     ensures refused { IfErr result (λ e. RefusesBy SpellsUnitBy source.now tokens.old e) }
     ensures begins { IfErr result (λ e. BreaksWith tight (λ u. u.body) SpellsUnit source.now
         tokens.old e) }
+    ensures late { IfErr result (λ e. LeavesWith (λ u. u.body)
+        (SpellsUnitBy Unexpected) source.now tokens.old e) }
 {
     if source.word_stands(tokens, Keyword::Program) {
         return program_unit(source, tokens);

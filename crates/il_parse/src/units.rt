@@ -1,6 +1,7 @@
 // The units of a text.
 
 ghost use Rattle.il_read.specs.Reads.{Reads, Refuses, fault_at, turn, RefusesBy};
+ghost use Rattle.il_parse.specs.Late.{LeavesLate, AreLateUnits};
 ghost use Rattle.il_parse.specs.GoesOn.{BreaksUnits};
 ghost use Rattle.std.specs.Prelude.{◌≡◌, length, IsTrue, IsFalse, IfOk, IfErr, ◌⊎◌};
 ghost use Rattle.il_read.specs.declared.stop.SyntaxError.{SyntaxError};
@@ -43,6 +44,8 @@ pub fn units(source: &Source, tokens: &mut Tokens) -> Result<Items<Unit>, Stop>
     ensures reads { IfOk result (λ us. Reads (SpellsFewUnits source.now) tokens.old us tokens.new) }
     ensures refused { IfErr result (λ e. RefusesBy SpellsFewUnitsBy source.now tokens.old e) }
     ensures begins { IfErr result (λ e. BreaksUnits source.now tokens.old e) }
+    ensures late { IfErr result (λ e. LeavesLate AreLateUnits
+        (SpellsFewUnitsBy Unexpected) source.now tokens.old e) }
 {
     let mut units = Items::new(source.alloc());
     'units: while !source.eat_word(tokens, Keyword::Configuration) {

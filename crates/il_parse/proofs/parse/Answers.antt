@@ -8,6 +8,9 @@ use Rattle.il_parse.specs.Refused.{IsPlaceAt, Keeps, KeepsBefore}
 use Rattle.il_parse.proofs.UnitsByError.{keeps_each}
 use Rattle.il_parse.proofs.Turn.{fault_parts}
 use Rattle.il_parse.proofs.Rests.{text_goes_on, text_goes_on_with}
+use Rattle.il_rules.specs.Written.{IsNested}
+use Rattle.il_parse.specs.Late.{WhereUnexpected}
+use Rattle.il_parse.proofs.Late.{then_so}
 use Rattle.il_parse.proofs.parse.Goals as goal
 
 pub returns-in-Ok-clause-found : goal.returns-in-Ok-clause-found
@@ -68,4 +71,16 @@ returns-in-Err-Fault-clause-before c =
       subst (λ x. IsPlaceAt c.args.text.now x bad.1) (sym c.unwrap_or.ensures) parts.1,
       text_goes_on KeepsBefore c.args.text.now c.args.tokens.now bad.1 c.requires bad.3,
       text_goes_on_with bad.0 c.args.text.now c.args.tokens.now bad.1 c.requires bad.4,
+    )
+
+pub returns-in-Err-Fault-clause-none : goal.returns-in-Err-Fault-clause-none
+returns-in-Err-Fault-clause-none c =
+    let bad = (rw c.in-Err-Fault.field-0-is at c.in-Err-Fault.ensures.late).fault tt in
+    let parts = fault_parts c.in-Err-Fault.error bad.0 c.in-Err-Fault.place bad.1 bad.2 c.args.text.now c.end_of.result c.end_of.ensures.offset c.end_of.ensures.line in (
+      bad.0,
+      bad.1,
+      c.number.ensures ∙ ap number_of parts.0,
+      bad.3,
+      subst (λ x. IsPlaceAt c.args.text.now x bad.1) (sym c.unwrap_or.ensures) parts.1,
+      then_so bad.0 (λ k leaves other others vs cut d w. leaves other others vs [] cut d (w, tt)) bad.4,
     )

@@ -14,3 +14,6 @@ returns-clause-refused c = rw (← c.new-source.ensures, ← c.new.ensures) c.co
 
 pub returns-clause-begins : goal.returns-clause-begins
 returns-clause-begins c = rw (← c.new-source.ensures, ← c.new.ensures) c.configuration.ensures.begins
+
+pub returns-clause-late : goal.returns-clause-late
+returns-clause-late c = rw (← c.new-source.ensures, ← c.new.ensures) c.configuration.ensures.late

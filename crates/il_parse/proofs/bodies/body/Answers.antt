@@ -3,6 +3,7 @@ use Rattle.il_parse.specs.Bodies.{SpellsBodyBy}
 use Rattle.il_parse.proofs.Ahead.{no_line_end, no_steps, up_so}
 use Rattle.il_parse.proofs.Begun.{body_breaks, body_within, plainly}
 use Rattle.il_parse.proofs.ByError.{up_ahead_by}
+use Rattle.il_parse.proofs.LateBodies.{body_none, body_late}
 use Rattle.il_parse.proofs.bodies.body.Goals as goal
 
 pub returns-in_err-line_end-clause-refused : goal.returns-in_err-line_end-clause-refused
@@ -17,3 +18,9 @@ returns-in_err-line_end-clause-begins c = up_so _ _ c.from_residual.ensures.1 (p
 
 pub returns-in_err-steps-clause-begins : goal.returns-in_err-steps-clause-begins
 returns-in_err-steps-clause-begins c = up_so _ _ c.from_residual-in_err-steps.ensures.1 (body_breaks c.args.last c.in_ok-line_end.ensures.reads (rw c.skip_lines.ensures.rest at c.in_err-steps.ensures.begins))
+
+pub returns-in_err-line_end-clause-late : goal.returns-in_err-line_end-clause-late
+returns-in_err-line_end-clause-late c = up_so _ _ c.from_residual.ensures.1 (body_none c.args.last c.in_err-line_end.ensures.refused)
+
+pub returns-in_err-steps-clause-late : goal.returns-in_err-steps-clause-late
+returns-in_err-steps-clause-late c = up_so _ _ c.from_residual-in_err-steps.ensures.1 (body_late c.args.last c.in_ok-line_end.ensures.reads (rw c.skip_lines.ensures.rest at c.in_err-steps.ensures.late))

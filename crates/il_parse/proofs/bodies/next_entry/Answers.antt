@@ -3,6 +3,7 @@ use Rattle.il_parse.specs.Bodies.{SpellsNextBy}
 use Rattle.il_parse.proofs.Entries.{inner_refused}
 use Rattle.il_parse.proofs.Begun.{inner_breaks}
 use Rattle.il_parse.proofs.Ahead.{up_so}
+use Rattle.il_parse.proofs.LateBodies.{inner_late}
 use Rattle.il_parse.proofs.bodies.next_entry.Goals as goal
 
 pub returns-in_err-place-clause-refused : goal.returns-in_err-place-clause-refused
@@ -10,3 +11,6 @@ returns-in_err-place-clause-refused c = up_by (SpellsNextBy c.args.last c.args.d
 
 pub returns-in_err-place-clause-begins : goal.returns-in_err-place-clause-begins
 returns-in_err-place-clause-begins c = up_so _ _ c.from_residual.ensures.1 (inner_breaks c.args.last c.args.depth c.args.load c.args.full (c.in_err-place.ensures.begins c.args.last))
+
+pub returns-in_err-place-clause-late : goal.returns-in_err-place-clause-late
+returns-in_err-place-clause-late c = up_so _ _ c.from_residual.ensures.1 (inner_late c.args.last c.args.depth c.args.load c.args.full c.if-depth-eq0.false c.in_err-place.ensures.late)

@@ -6,6 +6,8 @@ use Rattle.il_parse.specs.Bodies.{SpellsNextBy}
 use Rattle.il_parse.proofs.Entries.{outer_refused}
 use Rattle.il_parse.proofs.Ahead.{up_so}
 use Rattle.il_parse.proofs.Begun.{outer_breaks, plainly}
+use Rattle.il_parse.proofs.Late.{late_memory}
+use Rattle.il_parse.proofs.LateBodies.{outer_late}
 use Rattle.il_parse.proofs.bodies.outer.Goals as goal
 
 pub returns-in-Some-clause-reads : goal.returns-in-Some-clause-reads
@@ -37,3 +39,11 @@ pub returns-in_err-place-clause-begins : goal.returns-in_err-place-clause-begins
 returns-in_err-place-clause-begins c =
     let none = rw c.in_default.is at c.eat_end.ensures.takes in
     up_so _ _ c.from_residual-in_err-place.ensures.1 (outer_breaks c.args.last c.args.load c.args.full c.in_ok-labels.ensures.labels (rw none.0 at (c.in_err-place.ensures.begins c.args.last)))
+
+pub returns-in_err-labels-clause-late : goal.returns-in_err-labels-clause-late
+returns-in_err-labels-clause-late c = up_so _ _ c.from_residual.ensures.1 (late_memory c.in_err-labels.ensures.memory)
+
+pub returns-in_err-place-clause-late : goal.returns-in_err-place-clause-late
+returns-in_err-place-clause-late c =
+    let none = rw c.in_default.is at c.eat_end.ensures.takes in
+    up_so _ _ c.from_residual-in_err-place.ensures.1 (outer_late c.args.last c.args.load c.args.full c.in_ok-labels.ensures.labels (rw none.0 at c.in_err-place.ensures.late))

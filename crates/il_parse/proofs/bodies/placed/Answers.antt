@@ -6,6 +6,8 @@ use Rattle.il_parse.proofs.Ahead.{up_so}
 use Rattle.il_parse.proofs.Entries.{stands_not, full_refused, placed_refused, placed_read}
 use Rattle.il_parse.proofs.Begun.{instruction_breaks, placed_first}
 use Rattle.il_parse.proofs.Surplus.{surplus_breaks}
+use Rattle.il_parse.specs.Late.{EndsNone}
+use Rattle.il_parse.proofs.Late.{own_edge, own_full, own_inside}
 use Rattle.il_parse.proofs.bodies.placed.Goals as goal
 
 pub returns-then-not-may_begin-clause-refused : goal.returns-then-not-may_begin-clause-refused
@@ -38,3 +40,16 @@ pub returns-in_err-instruction-clause-begins : goal.returns-in_err-instruction-c
 returns-in_err-instruction-clause-begins c =
     up_so (λ e. (last : Keyword) → BreaksPlaced last c.args.depth c.args.load c.args.full c.args.source.now c.args.tokens.now e) _ c.from_residual.ensures.1
     (λ last. instruction_breaks c.args.depth c.args.load c.args.full last c.requires.depth c.if-full.false c.has_room.ensures.yes (ap (λ l. may_begin c.args.depth c.args.load l) (sym c.requires.lead) ∙ sym c.may_begin.ensures ∙ c.if-not-may_begin.false) c.in_err-instruction.ensures.begins)
+
+pub returns-in_default-clause-late : goal.returns-in_default-clause-late
+returns-in_default-clause-late c = own_edge c.outside.ensures
+
+pub returns-then-not-may_begin-clause-late : goal.returns-then-not-may_begin-clause-late
+returns-then-not-may_begin-clause-late c = own_edge c.outside-then-not-may_begin.ensures
+
+pub returns-then-full-clause-late : goal.returns-then-full-clause-late
+returns-then-full-clause-late c = own_full c.surplus.ensures
+
+pub returns-in_err-instruction-clause-late : goal.returns-in_err-instruction-clause-late
+returns-in_err-instruction-clause-late c =
+    up_so (λ e. EndsNone c.args.full c.args.source.now c.args.tokens.now e) _ c.from_residual.ensures.1 (own_inside c.has_room.result c.if-full.false c.in_err-instruction.ensures.refused)

@@ -7,6 +7,7 @@ use Rattle.il_parse.specs.Bodies.{SpellsStepsBy}
 use Rattle.il_parse.proofs.Entries.{steps_refused, steps_read, step_on, open_on, few_on}
 use Rattle.il_parse.proofs.Begun.{steps_breaks}
 use Rattle.il_parse.proofs.Ahead.{up_so}
+use Rattle.il_parse.proofs.LateBodies.{cut_starts, step_cut, steps_late}
 use Rattle.il_parse.proofs.bodies.steps.Goals as goal
 
 pub returns-in_err-labels-clause-refused : goal.returns-in_err-labels-clause-refused
@@ -27,10 +28,15 @@ steps-preserved c =
       omega (arith, size, few),
       (max c.steps.invariant.2.0 c.steps.depth, omega (arith, c.steps.invariant.0, c.steps.invariant.2.1), rw (c.in_ok-push-in-Step.ensures.ok, c.depth_after-depth.ensures, c.needs_load-load.ensures) opens),
       rw (c.in_ok-push-in-Step.ensures.ok, c.skip_lines.ensures.rest) (step_on c.args.source.now c.args.last c.requires _ _ _ _ _ _ _ _ c.steps.invariant.3 next),
+      rw (c.in_ok-push-in-Step.ensures.ok, c.skip_lines.ensures.rest) (step_cut _ _ c.args.last c.requires c.steps.invariant.4 next.found.0),
     )
 
 pub steps-init : goal.steps-init
-steps-init c = rw c.new-steps.ensures (omega arith, omega arith, (0, omega arith, none_open), λ b. starts _ _ _ _)
+steps-init c = rw c.new-steps.ensures (omega arith, omega arith, (0, omega arith, none_open), (λ b. starts _ _ _ _), λ b. cut_starts _)
 
 pub returns-in_err-labels-clause-begins : goal.returns-in_err-labels-clause-begins
 returns-in_err-labels-clause-begins c = up_so _ _ c.from_residual.ensures.1 (steps_breaks c.args.last c.steps.depth c.steps.load c.is_full-full.result c.steps.invariant.0 c.steps.invariant.1 c.steps.invariant.2.1 c.is_full-full.ensures.yes c.is_full-full.ensures.no c.steps.invariant.2.2 c.steps.invariant.3 c.in_err-labels.ensures.begins)
+
+pub returns-in_err-labels-clause-late : goal.returns-in_err-labels-clause-late
+returns-in_err-labels-clause-late c =
+    up_so _ _ c.from_residual.ensures.1 (steps_late c.args.last c.steps.depth c.steps.load c.is_full-full.result c.steps.invariant.1 c.is_full-full.ensures.no c.steps.invariant.2.2 c.steps.invariant.4 c.in_err-labels.ensures.late)

@@ -5,12 +5,14 @@ use Rattle.il_spec.specs.Grammar.{SpellsStep}
 use Rattle.il_read.proofs.Chain.{HasRead}
 use Rattle.il_read.proofs.Nesting.{IsOpen}
 use Rattle.il_parse.proofs.Entries.{TheEnds}
+use Rattle.il_parse.proofs.LateBodies.{HasCut}
 use Rattle.il_parse.proofs.bodies.steps.Given as goal
 
 abbrev pub invariant-steps : goal.invariant-steps
 invariant-steps l =
     (l.depth ≤ 16) × (length l.steps ≤ 4096) × ((most : ℕ) × (most ≤ 16) × IsOpen l.steps l.depth l.load most)
     × ((b : List Named × Place) → HasRead SpellsStep (λ text. TheEnds text l.last b) l.source l.fn.tokens l.steps l.tokens)
+    × ((b : List Named × Place) → HasCut SpellsStep (λ text. TheEnds text l.last b) l.source l.fn.tokens l.steps l.tokens)
 
 abbrev pub decreases-steps : goal.decreases-steps
 decreases-steps l = length l.tokens

@@ -7,6 +7,7 @@ use Rattle.il_parse.proofs.Surplus.{text_units_break, text_group_break}
 use Rattle.il_parse.proofs.Ahead.{up_so}
 use Rattle.il_parse.proofs.Parts.{config_read, config_refused, few_units_local}
 use Rattle.il_parse.proofs.UnitsByError.{units_by_read}
+use Rattle.il_parse.proofs.LateUnits.{text_units_late, text_group_late}
 use Rattle.il_parse.proofs.configuration.configuration.Goals as goal
 
 pub returns-in_err-units-clause-refused : goal.returns-in_err-units-clause-refused
@@ -31,3 +32,10 @@ returns-in_err-units-clause-begins c = up_so _ _ c.from_residual.ensures.1 (text
 pub returns-in_err-sizes-clause-begins : goal.returns-in_err-sizes-clause-begins
 returns-in_err-sizes-clause-begins c =
     up_so _ _ c.from_residual-in_err-sizes.ensures.1 (text_group_break (rw c.skip_lines.ensures.rest at c.in_ok-units.ensures.reads) (rw c.skip_lines-2.ensures.rest at c.in_err-sizes.ensures.begins))
+
+pub returns-in_err-units-clause-late : goal.returns-in_err-units-clause-late
+returns-in_err-units-clause-late c = up_so _ _ c.from_residual.ensures.1 (text_units_late (rw c.skip_lines.ensures.rest at c.in_err-units.ensures.late))
+
+pub returns-in_err-sizes-clause-late : goal.returns-in_err-sizes-clause-late
+returns-in_err-sizes-clause-late c =
+    up_so _ _ c.from_residual-in_err-sizes.ensures.1 (text_group_late (rw c.skip_lines.ensures.rest at c.in_ok-units.ensures.reads) (rw c.skip_lines-2.ensures.rest at c.in_err-sizes.ensures.refused))

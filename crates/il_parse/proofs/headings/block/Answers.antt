@@ -13,6 +13,9 @@ use Rattle.il_parse.specs.Insides.{SpellsBlockInsideBy}
 use Rattle.il_parse.proofs.Begun.{plainly}
 use Rattle.il_parse.proofs.Shallow.{Headed, mapped, headed_sampled, headed_name, headed_on, block_within}
 use Rattle.il_parse.proofs.Ahead.{up_so, forget}
+use Rattle.il_read.specs.declared.stop.SyntaxError.TheVariants.{Unexpected}
+use Rattle.il_parse.proofs.Late.{leaves_as}
+use Rattle.il_parse.proofs.LateUnits.{late_place, late_name, late_inside, block_spreads}
 use Rattle.il_parse.proofs.headings.block.Goals as goal
 
 pub returns-in_err-place-clause-refused : goal.returns-in_err-place-clause-refused
@@ -46,3 +49,15 @@ returns-in_err-name-clause-begins c =
 pub returns-in_err-inside-clause-begins : goal.returns-in_err-inside-clause-begins
 returns-in_err-inside-clause-begins c =
     up_so _ _ c.from_residual-in_err-inside.ensures.1 (mapped (Headed word.FunctionBlock SpellsBlockRest) SpellsWholeBlock (λ x. x.1.1.3) (λ x. x.2.3) (λ x. (x.0, x.1.0, x.1.1)) (λ x. refl) (λ x other us r w. w) (headed_on word.FunctionBlock SpellsBlockRest (λ x. x.3) block_within c.in_ok-place.ensures.reads (rw c.skip_lines.ensures.rest at c.in_ok-name.ensures.reads) c.in_err-inside.ensures.begins))
+
+pub returns-in_err-place-clause-late : goal.returns-in_err-place-clause-late
+returns-in_err-place-clause-late c = up_so _ _ c.from_residual.ensures.1 (leaves_as {Q = SpellsBlockBy Unexpected} (λ x. (x.0, (x.1, x.2))) (λ x other us r w. w) (λ vs x h. h) (late_place word.FunctionBlock (SpellsBlockInsideBy Unexpected) (λ x. x.3) block_spreads c.in_err-place.ensures.refused))
+
+pub returns-in_err-name-clause-late : goal.returns-in_err-name-clause-late
+returns-in_err-name-clause-late c =
+    up_so _ _ c.from_residual-in_err-name.ensures.1 (leaves_as {Q = SpellsBlockBy Unexpected} (λ x. (x.0, (x.1, x.2))) (λ x other us r w. w) (λ vs x h. h) (late_name word.FunctionBlock (SpellsBlockInsideBy Unexpected) (λ x. x.3) block_spreads c.in_ok-place.ensures.reads (rw c.skip_lines.ensures.rest at c.in_err-name.ensures.refused)))
+
+pub returns-in_err-inside-clause-late : goal.returns-in_err-inside-clause-late
+returns-in_err-inside-clause-late c =
+    up_so _ _ c.from_residual-in_err-inside.ensures.1
+    (leaves_as {Q = SpellsBlockBy Unexpected} (λ x. (x.0, (x.1, x.2))) (λ x other us r w. w) (λ vs x h. h) (late_inside word.FunctionBlock (SpellsBlockInsideBy Unexpected) (λ x. x.3) block_spreads c.in_ok-place.ensures.reads (rw c.skip_lines.ensures.rest at c.in_ok-name.ensures.reads) c.in_err-inside.ensures.late))

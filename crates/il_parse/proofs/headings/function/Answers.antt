@@ -13,6 +13,9 @@ use Rattle.il_parse.specs.Headings.{SpellsFunctionBy, SpellsResultAt}
 use Rattle.il_parse.proofs.Begun.{plainly}
 use Rattle.il_parse.proofs.Shallow.{Headed, ResultRest, mapped, headed_sampled, headed_name, headed_on, result_within, result_first, result_on}
 use Rattle.il_parse.proofs.Ahead.{up_so, later_ahead, part_ahead, forget}
+use Rattle.il_read.specs.declared.stop.SyntaxError.TheVariants.{Unexpected}
+use Rattle.il_parse.proofs.Late.{leaves_as}
+use Rattle.il_parse.proofs.LateUnits.{late_place, late_name, late_inside, late_result, behind_result, result_spreads, ResultInside}
 use Rattle.il_parse.proofs.headings.function.Goals as goal
 
 pub returns-in_err-place-clause-refused : goal.returns-in_err-place-clause-refused
@@ -60,3 +63,20 @@ pub returns-in_err-inside-clause-begins : goal.returns-in_err-inside-clause-begi
 returns-in_err-inside-clause-begins c =
     up_so _ _ c.from_residual-in_err-inside.ensures.1 (mapped (Headed word.Function ResultRest) SpellsWholeFunction (λ x. x.1.1.1.2) (λ x. x.3.2) (λ x. (x.0, x.1.0, x.1.1.0, x.1.1.1)) (λ x. refl) (λ x other us r w. w) (headed_on word.Function ResultRest (λ x. x.1.2) result_within c.in_ok-place.ensures.reads (rw c.skip_lines.ensures.rest at c.in_ok-name.ensures.reads)
     (result_on c.in_ok-outcome.ensures.reads c.in_err-inside.ensures.begins)))
+
+pub returns-in_err-place-clause-late : goal.returns-in_err-place-clause-late
+returns-in_err-place-clause-late c = up_so _ _ c.from_residual.ensures.1 (leaves_as {Q = SpellsFunctionBy Unexpected} (λ x. (x.0, (x.1, (x.2, x.3)))) (λ x other us r w. w) (λ vs x h. h) (late_place word.Function ResultInside (λ y. y.1.2) result_spreads c.in_err-place.ensures.refused))
+
+pub returns-in_err-name-clause-late : goal.returns-in_err-name-clause-late
+returns-in_err-name-clause-late c =
+    up_so _ _ c.from_residual-in_err-name.ensures.1 (leaves_as {Q = SpellsFunctionBy Unexpected} (λ x. (x.0, (x.1, (x.2, x.3)))) (λ x other us r w. w) (λ vs x h. h) (late_name word.Function ResultInside (λ y. y.1.2) result_spreads c.in_ok-place.ensures.reads (rw c.skip_lines.ensures.rest at c.in_err-name.ensures.refused)))
+
+pub returns-in_err-outcome-clause-late : goal.returns-in_err-outcome-clause-late
+returns-in_err-outcome-clause-late c =
+    up_so _ _ c.from_residual-in_err-outcome.ensures.1
+    (leaves_as {Q = SpellsFunctionBy Unexpected} (λ x. (x.0, (x.1, (x.2, x.3)))) (λ x other us r w. w) (λ vs x h. h) (late_inside word.Function ResultInside (λ y. y.1.2) result_spreads c.in_ok-place.ensures.reads (rw c.skip_lines.ensures.rest at c.in_ok-name.ensures.reads) (late_result c.in_err-outcome.ensures.refused)))
+
+pub returns-in_err-inside-clause-late : goal.returns-in_err-inside-clause-late
+returns-in_err-inside-clause-late c =
+    up_so _ _ c.from_residual-in_err-inside.ensures.1
+    (leaves_as {Q = SpellsFunctionBy Unexpected} (λ x. (x.0, (x.1, (x.2, x.3)))) (λ x other us r w. w) (λ vs x h. h) (late_inside word.Function ResultInside (λ y. y.1.2) result_spreads c.in_ok-place.ensures.reads (rw c.skip_lines.ensures.rest at c.in_ok-name.ensures.reads) (behind_result c.in_ok-outcome.ensures.reads c.in_err-inside.ensures.late)))

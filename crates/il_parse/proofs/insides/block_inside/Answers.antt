@@ -13,6 +13,7 @@ use Rattle.il_parse.proofs.Begun.{plainly, KeepsAnyhow, body_within}
 use Rattle.il_parse.proofs.Shallow.{block_on, block_parts, lax_within}
 use Rattle.il_parse.proofs.Rests.{ahead_first, filled_opening, later_lax, lax_filled, lax_no, lax_optional, passes_lacks, s_lacks, variables_opening}
 use Rattle.il_parse.proofs.ByError.{up_ahead_by}
+use Rattle.il_parse.proofs.LateUnits.{block_first, block_second, block_third, block_fourth, block_body, block_inputs, block_outputs, block_variables, block_externals}
 use Rattle.il_parse.proofs.insides.block_inside.Goals as goal
 
 pub returns-in_err-inputs-clause-refused : goal.returns-in_err-inputs-clause-refused
@@ -72,3 +73,24 @@ returns-in_err-no_list-clause-begins c =
 pub returns-in_err-body-clause-begins : goal.returns-in_err-body-clause-begins
 returns-in_err-body-clause-begins c =
     up_so _ _ c.from_residual-in_err-body.ensures.1 (block_on c.in_ok-inputs.ensures.reads c.in_ok-outputs.ensures.reads c.in_ok-variables.ensures.reads (as_read c.in_ok-no_list.ensures.reads) c.in_err-body.ensures.begins)
+
+pub returns-in_err-inputs-clause-late : goal.returns-in_err-inputs-clause-late
+returns-in_err-inputs-clause-late c = up_so _ _ c.from_residual.ensures.1 (block_first c.in_err-inputs.ensures.refused)
+
+pub returns-in_err-outputs-clause-late : goal.returns-in_err-outputs-clause-late
+returns-in_err-outputs-clause-late c = up_so _ _ c.from_residual-in_err-outputs.ensures.1 (block_inputs c.in_ok-inputs.ensures.reads (block_second c.in_err-outputs.ensures.refused))
+
+pub returns-in_err-variables-clause-late : goal.returns-in_err-variables-clause-late
+returns-in_err-variables-clause-late c =
+    up_so _ _ c.from_residual-in_err-variables.ensures.1 (block_inputs c.in_ok-inputs.ensures.reads (block_outputs c.in_ok-outputs.ensures.reads (block_third c.in_err-variables.ensures.refused)))
+
+pub returns-in_err-no_list-clause-late : goal.returns-in_err-no_list-clause-late
+returns-in_err-no_list-clause-late c =
+    up_so _ _ c.from_residual-in_err-no_list.ensures.1
+    (block_inputs c.in_ok-inputs.ensures.reads (block_outputs c.in_ok-outputs.ensures.reads (block_variables c.in_ok-variables.ensures.reads (block_fourth c.in_err-no_list.ensures.refused))))
+
+pub returns-in_err-body-clause-late : goal.returns-in_err-body-clause-late
+returns-in_err-body-clause-late c =
+    up_so _ _ c.from_residual-in_err-body.ensures.1
+    (block_inputs c.in_ok-inputs.ensures.reads (block_outputs c.in_ok-outputs.ensures.reads
+    (block_variables c.in_ok-variables.ensures.reads (block_externals (as_read c.in_ok-no_list.ensures.reads) (block_body c.in_err-body.ensures.late)))))

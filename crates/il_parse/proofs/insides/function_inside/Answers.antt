@@ -13,6 +13,7 @@ use Rattle.il_parse.proofs.Begun.{plainly, KeepsAnyhow, body_within}
 use Rattle.il_parse.proofs.Shallow.{function_on, function_parts, lax_within}
 use Rattle.il_parse.proofs.Rests.{ahead_first, full_opening, later_lax, lax_no, lax_optional, no_list_opening, passes_lacks, s_lacks, variables_opening}
 use Rattle.il_parse.proofs.ByError.{up_ahead_by}
+use Rattle.il_parse.proofs.LateUnits.{function_first, function_second, function_third, function_fourth, function_body, function_inputs, function_outputs, function_variables, function_externals}
 use Rattle.il_parse.proofs.insides.function_inside.Goals as goal
 
 pub returns-in_err-inputs-clause-refused : goal.returns-in_err-inputs-clause-refused
@@ -72,3 +73,24 @@ returns-in_err-no_list-2-clause-begins c =
 pub returns-in_err-body-clause-begins : goal.returns-in_err-body-clause-begins
 returns-in_err-body-clause-begins c =
     up_so _ _ c.from_residual-in_err-body.ensures.1 (function_on c.in_ok-inputs.ensures.reads (as_read c.in_ok-no_list.ensures.reads) c.in_ok-variables.ensures.reads (as_read c.in_ok-no_list-2.ensures.reads) c.in_err-body.ensures.begins)
+
+pub returns-in_err-inputs-clause-late : goal.returns-in_err-inputs-clause-late
+returns-in_err-inputs-clause-late c = up_so _ _ c.from_residual.ensures.1 (function_first c.in_err-inputs.ensures.refused)
+
+pub returns-in_err-no_list-clause-late : goal.returns-in_err-no_list-clause-late
+returns-in_err-no_list-clause-late c = up_so _ _ c.from_residual-in_err-no_list.ensures.1 (function_inputs c.in_ok-inputs.ensures.reads (function_second c.in_err-no_list.ensures.refused))
+
+pub returns-in_err-variables-clause-late : goal.returns-in_err-variables-clause-late
+returns-in_err-variables-clause-late c =
+    up_so _ _ c.from_residual-in_err-variables.ensures.1 (function_inputs c.in_ok-inputs.ensures.reads (function_outputs (as_read c.in_ok-no_list.ensures.reads) (function_third c.in_err-variables.ensures.refused)))
+
+pub returns-in_err-no_list-2-clause-late : goal.returns-in_err-no_list-2-clause-late
+returns-in_err-no_list-2-clause-late c =
+    up_so _ _ c.from_residual-in_err-no_list-2.ensures.1
+    (function_inputs c.in_ok-inputs.ensures.reads (function_outputs (as_read c.in_ok-no_list.ensures.reads) (function_variables c.in_ok-variables.ensures.reads (function_fourth c.in_err-no_list-2.ensures.refused))))
+
+pub returns-in_err-body-clause-late : goal.returns-in_err-body-clause-late
+returns-in_err-body-clause-late c =
+    up_so _ _ c.from_residual-in_err-body.ensures.1
+    (function_inputs c.in_ok-inputs.ensures.reads (function_outputs (as_read c.in_ok-no_list.ensures.reads)
+    (function_variables c.in_ok-variables.ensures.reads (function_externals (as_read c.in_ok-no_list-2.ensures.reads) (function_body c.in_err-body.ensures.late)))))

@@ -13,6 +13,7 @@ use Rattle.il_parse.proofs.Begun.{plainly, KeepsAnyhow, body_within}
 use Rattle.il_parse.proofs.Shallow.{program_on, program_parts, lax_within}
 use Rattle.il_parse.proofs.Rests.{ahead_first, later_lax, lax_no, lax_optional, no_list_opening, passes_lacks, s_lacks, variables_opening}
 use Rattle.il_parse.proofs.ByError.{up_ahead_by}
+use Rattle.il_parse.proofs.LateUnits.{program_first, program_second, program_third, program_fourth, program_body, past_inputs, past_outputs, past_variables, past_externals}
 use Rattle.il_parse.proofs.insides.program_inside.Goals as goal
 
 pub returns-in_err-no_list-clause-refused : goal.returns-in_err-no_list-clause-refused
@@ -72,3 +73,24 @@ returns-in_err-externals-clause-begins c =
 pub returns-in_err-body-clause-begins : goal.returns-in_err-body-clause-begins
 returns-in_err-body-clause-begins c =
     up_so _ _ c.from_residual-in_err-body.ensures.1 (program_on (as_read c.in_ok-no_list.ensures.reads) (as_read c.in_ok-no_list-2.ensures.reads) c.in_ok-variables.ensures.reads c.in_ok-externals.ensures.reads c.in_err-body.ensures.begins)
+
+pub returns-in_err-no_list-clause-late : goal.returns-in_err-no_list-clause-late
+returns-in_err-no_list-clause-late c = up_so _ _ c.from_residual.ensures.1 (program_first c.in_err-no_list.ensures.refused)
+
+pub returns-in_err-no_list-2-clause-late : goal.returns-in_err-no_list-2-clause-late
+returns-in_err-no_list-2-clause-late c = up_so _ _ c.from_residual-in_err-no_list-2.ensures.1 (past_inputs (as_read c.in_ok-no_list.ensures.reads) (program_second c.in_err-no_list-2.ensures.refused))
+
+pub returns-in_err-variables-clause-late : goal.returns-in_err-variables-clause-late
+returns-in_err-variables-clause-late c =
+    up_so _ _ c.from_residual-in_err-variables.ensures.1 (past_inputs (as_read c.in_ok-no_list.ensures.reads) (past_outputs (as_read c.in_ok-no_list-2.ensures.reads) (program_third c.in_err-variables.ensures.refused)))
+
+pub returns-in_err-externals-clause-late : goal.returns-in_err-externals-clause-late
+returns-in_err-externals-clause-late c =
+    up_so _ _ c.from_residual-in_err-externals.ensures.1
+    (past_inputs (as_read c.in_ok-no_list.ensures.reads) (past_outputs (as_read c.in_ok-no_list-2.ensures.reads) (past_variables c.in_ok-variables.ensures.reads (program_fourth c.in_err-externals.ensures.refused))))
+
+pub returns-in_err-body-clause-late : goal.returns-in_err-body-clause-late
+returns-in_err-body-clause-late c =
+    up_so _ _ c.from_residual-in_err-body.ensures.1
+    (past_inputs (as_read c.in_ok-no_list.ensures.reads) (past_outputs (as_read c.in_ok-no_list-2.ensures.reads)
+    (past_variables c.in_ok-variables.ensures.reads (past_externals c.in_ok-externals.ensures.reads (program_body c.in_err-body.ensures.late)))))

@@ -9,6 +9,7 @@ use Rattle.il_parse.proofs.Shallow.{mapped}
 use Rattle.il_parse.proofs.Ahead.{up_so}
 use Rattle.il_parse.proofs.OneUnit.{block_read, block_refused}
 use Rattle.il_parse.proofs.Rests.{block_is}
+use Rattle.il_parse.proofs.LateUnits.{block_late}
 use Rattle.il_parse.proofs.one_unit.block_unit.Goals as goal
 
 pub returns-in_err-place-clause-refused : goal.returns-in_err-place-clause-refused
@@ -19,3 +20,6 @@ returns-clause-reads c = rw c.new.ensures (block_read c.args.source.now _ _ _ _ 
 
 pub returns-in_err-place-clause-begins : goal.returns-in_err-place-clause-begins
 returns-in_err-place-clause-begins c = up_so _ _ c.from_residual.ensures.1 (mapped SpellsWholeBlock SpellsUnit (λ x. x.2.3) (λ u. u.body) (λ x. record { place = x.0; kind = unit.FunctionBlock; name = x.1; inputs = x.2.0; outputs = x.2.1; variables = x.2.2; externals = []; body = x.2.3 }) (λ x. refl) block_is c.in_err-place.ensures.begins)
+
+pub returns-in_err-place-clause-late : goal.returns-in_err-place-clause-late
+returns-in_err-place-clause-late c = up_so _ _ c.from_residual.ensures.1 (block_late c.in_err-place.ensures.late)

@@ -9,6 +9,7 @@ use Rattle.il_parse.proofs.Shallow.{mapped}
 use Rattle.il_parse.proofs.Ahead.{up_so}
 use Rattle.il_parse.proofs.OneUnit.{function_read, function_refused}
 use Rattle.il_parse.proofs.Rests.{function_is}
+use Rattle.il_parse.proofs.LateUnits.{function_late}
 use Rattle.il_parse.proofs.one_unit.function_unit.Goals as goal
 
 pub returns-in_err-place-clause-refused : goal.returns-in_err-place-clause-refused
@@ -19,3 +20,6 @@ returns-clause-reads c = rw (c.new.ensures, c.new-2.ensures) (function_read c.ar
 
 pub returns-in_err-place-clause-begins : goal.returns-in_err-place-clause-begins
 returns-in_err-place-clause-begins c = up_so _ _ c.from_residual.ensures.1 (mapped SpellsWholeFunction SpellsUnit (λ x. x.3.2) (λ u. u.body) (λ x. record { place = x.0; kind = unit.Function x.2.1 x.2.0; name = x.1; inputs = x.3.0; outputs = []; variables = x.3.1; externals = []; body = x.3.2 }) (λ x. refl) function_is c.in_err-place.ensures.begins)
+
+pub returns-in_err-place-clause-late : goal.returns-in_err-place-clause-late
+returns-in_err-place-clause-late c = up_so _ _ c.from_residual.ensures.1 (function_late c.in_err-place.ensures.late)

@@ -9,6 +9,7 @@ use Rattle.il_parse.proofs.Shallow.{mapped}
 use Rattle.il_parse.proofs.Ahead.{up_so}
 use Rattle.il_parse.proofs.OneUnit.{program_read, program_refused}
 use Rattle.il_parse.proofs.Rests.{program_is}
+use Rattle.il_parse.proofs.LateUnits.{program_late}
 use Rattle.il_parse.proofs.one_unit.program_unit.Goals as goal
 
 pub returns-in_err-place-clause-refused : goal.returns-in_err-place-clause-refused
@@ -19,3 +20,6 @@ returns-clause-reads c = rw (c.new.ensures, c.new-2.ensures) (program_read c.arg
 
 pub returns-in_err-place-clause-begins : goal.returns-in_err-place-clause-begins
 returns-in_err-place-clause-begins c = up_so _ _ c.from_residual.ensures.1 (mapped SpellsWholeProgram SpellsUnit (λ x. x.2.2) (λ u. u.body) (λ x. record { place = x.0; kind = unit.Program; name = x.1; inputs = []; outputs = []; variables = x.2.0; externals = x.2.1; body = x.2.2 }) (λ x. refl) program_is c.in_err-place.ensures.begins)
+
+pub returns-in_err-place-clause-late : goal.returns-in_err-place-clause-late
+returns-in_err-place-clause-late c = up_so _ _ c.from_residual.ensures.1 (program_late c.in_err-place.ensures.late)

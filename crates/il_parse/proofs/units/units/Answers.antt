@@ -15,6 +15,9 @@ use Rattle.il_parse.proofs.OneUnit.{small_unit_local}
 use Rattle.il_parse.proofs.Surplus.{few_with, units_break, units_full_break}
 use Rattle.il_parse.proofs.Rests.{small_unit_filling, unit_by_filling, unit_filling}
 use Rattle.il_parse.proofs.Ahead.{up_so}
+use Rattle.il_read.specs.declared.stop.SyntaxError.TheVariants.{Unexpected}
+use Rattle.il_parse.proofs.LateBodies.{cut_starts}
+use Rattle.il_parse.proofs.LateUnits.{unit_cut, units_late, units_full_late}
 use Rattle.il_parse.proofs.units.units.Goals as goal
 
 pub returns-then-is_full-clause-refused : goal.returns-then-is_full-clause-refused
@@ -38,6 +41,7 @@ units-preserved c =
           (goes_on _ _ _ (unit_by_filling error) (unit_by_local error) (word_told word.Configuration) _ _ _ _ _ none.1 (c.units.invariant.2 error) (unit_by_read c.args.source.now error _ _ _ (rw none.0 at c.in_ok-unit.ensures.reads))),
       rw (c.skip_lines.ensures.rest, c.in_ok-push.ensures.ok) (gone_on unit_filling c.units.invariant.3 (rw none.0 at c.in_ok-unit.ensures.reads).found.0),
       rw c.in_ok-push.ensures.ok (few_with _ _ c.units.invariant.4 c.in_ok-unit.ensures.reads.found.1.0),
+      rw (c.skip_lines.ensures.rest, c.in_ok-push.ensures.ok) (unit_cut c.units.invariant.5 (unit_by_read c.args.source.now Unexpected _ _ _ (rw none.0 at c.in_ok-unit.ensures.reads))),
     )
 
 pub returns-clause-reads : goal.returns-clause-reads
@@ -45,7 +49,7 @@ returns-clause-reads c =
     within_read SpellsUnits {text = c.args.source.now} 64 c.units.invariant.0 (ended _ _ _ _ _ _ _ c.units.invariant.1 (was_there (TheWord c.args.source.now word.Configuration) c.units.tokens _ c.eat_word.new.tokens c.eat_word.ensures.eaten c.units-test.false))
 
 pub units-init : goal.units-init
-units-init c = rw c.new-units.ensures (omega arith, starts _ _ _ _, (λ error. starts _ _ _ _), gone_starts _, All-nil (λ (u : ProgramUnit). length u.body.steps ≤ 4096))
+units-init c = rw c.new-units.ensures (omega arith, starts _ _ _ _, (λ error. starts _ _ _ _), gone_starts _, All-nil (λ (u : ProgramUnit). length u.body.steps ≤ 4096), cut_starts _)
 
 pub returns-then-is_full-clause-begins : goal.returns-then-is_full-clause-begins
 returns-then-is_full-clause-begins c =
@@ -57,3 +61,14 @@ pub returns-in_err-unit-clause-begins : goal.returns-in_err-unit-clause-begins
 returns-in_err-unit-clause-begins c =
     let none = was_missing (TheWord c.args.source.now word.Configuration) c.units.tokens _ c.eat_word.new.tokens c.eat_word.ensures.eaten c.units-test.true in
     up_so _ _ c.from_residual.ensures.1 (units_break _ c.if-is_full.false c.is_full.ensures.no c.units.invariant.0 c.units.invariant.4 (c.units.invariant.2 TooDeep).gone c.units.invariant.3 (rw none.0 at c.in_err-unit.ensures.begins))
+
+pub returns-then-is_full-clause-late : goal.returns-then-is_full-clause-late
+returns-then-is_full-clause-late c =
+    let none = was_missing (TheWord c.args.source.now word.Configuration) c.units.tokens _ c.eat_word.new.tokens c.eat_word.ensures.eaten c.units-test.true in
+    units_full_late (c.is_full.ensures.yes c.if-is_full.true) c.units.invariant.4 c.units.invariant.5 (rw none.0 at c.surplus.ensures)
+
+pub returns-in_err-unit-clause-late : goal.returns-in_err-unit-clause-late
+returns-in_err-unit-clause-late c =
+    let none = was_missing (TheWord c.args.source.now word.Configuration) c.units.tokens _ c.eat_word.new.tokens c.eat_word.ensures.eaten c.units-test.true in
+    up_so _ _ c.from_residual.ensures.1
+    (units_late _ c.if-is_full.false c.is_full.ensures.no c.units.invariant.0 c.units.invariant.4 c.units.invariant.5 (rw none.0 at c.in_err-unit.ensures.refused) (rw none.0 at c.in_err-unit.ensures.late))
