@@ -159,7 +159,6 @@ module _ (text : List ℕ) where
                   (b.0, x.1 ∙ ap (λ zs. ns ++ zs) b.1 ∙ regroup ns n b.0, b.2),
             );
       }
-
     where
       go : (other : List ℕ) (at vs : List Token) → IsEndOf at (skip_line_ends l) → IsEndOf at l → IsEndOf at m → (p : Place) (i : Instruction) (r k : List Token) (ys : List Named) → SpellsLabelled other ys (ThePlaced other p i) k r
           → IsCut text other at ts k vs ⊎ IsEndOf k vs → (n : List Token) × (more : List Named) × (IsCut text other at (skip_line_ends l) n vs ⊎ IsEndOf n vs) × SpellsLabelled other more (ThePlaced other p i) n r

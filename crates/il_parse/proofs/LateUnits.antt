@@ -398,10 +398,10 @@ module _ {text : List ℕ} {ts : List Token} {e : Stop} where
       → LeavesWith (λ u. u.body) (SpellsUnitBy Unexpected) text ts e
   other_late p b bad =
       of_kind word.Function (λ other at us vs c less u r w.
-          let first = begins other u us r w.0 in
-          let not_there : (k : Keyword) → ((m : List Token) → TheWord text k ts m → ⊥) → (m : List Token) → TheWord other k us m → ⊥ =
-          λ k out m v. out (drop 1 ts) (word_there text k ts (sym (lead_cut text other at ts us vs c less) ∙ word_begins other k us m v)) in
-          is_other other u.kind us (not_there word.Program p) (not_there word.FunctionBlock b) first.0 first.1) bad
+      let first = begins other u us r w.0 in
+      let not_there : (k : Keyword) → ((m : List Token) → TheWord text k ts m → ⊥) → (m : List Token) → TheWord other k us m → ⊥ =
+      λ k out m v. out (drop 1 ts) (word_there text k ts (sym (lead_cut text other at ts us vs c less) ∙ word_begins other k us m v)) in
+      is_other other u.kind us (not_there word.Program p) (not_there word.FunctionBlock b) first.0 first.1) bad
 
 -- MANY UNITS
 

@@ -63,8 +63,8 @@ pub fn parse(alloc: Global, text: &[u8], tokens: &[Token]) -> Result<Written, Re
     // only a limit forbids it, and for 12 the first unit or instruction too many stands at it.
     ensures before { IfErr result (λ e. GoesOnBefore text.now tokens.now e) }
 
-    // Before a token with which no text goes on nothing is too many.
-    ensures none { IfErr result (λ e. NoneTooMany text.now tokens.now e) }
+    // Before a token with which no text goes on nothing is too many, whatever stands behind.
+    ensures early { IfErr result (λ e. NoneTooMany text.now tokens.now e) }
 
     // What is refused is 10, what no text goes on with, 11, too many open parentheses, or 12, too many units or instructions.
     ensures number { IfErr result (λ e. IsOfParser e) }

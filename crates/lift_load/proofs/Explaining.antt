@@ -12,7 +12,8 @@ use Rattle.il_text.specs.Refused.{IsMemoryOrFaultOfBytes}
 use Rattle.il_text.specs.LexicalErrors.{IsFaultOfText, the_start}
 use Rattle.il_text.proofs.FirstError.{one_fault, no_first}
 use Rattle.il_parse.specs.Refused.{IsFault, IsOfParser, GoesOnNowhere, GoesOnBefore}
-use Rattle.lift_load.specs.Loading.{IsSpelled, IsRefusedFor, SpellsNone, HasTokens, IsNumberOfBytes, of_bytes, of_grammar, of_tree, IsExplained, ReportsFaultOfText, NamesTurn, IsNamedFirst}
+use Rattle.il_parse.specs.Late.{NoneTooMany}
+use Rattle.lift_load.specs.Loading.{IsSpelled, IsRefusedFor, SpellsNone, HasTokens, IsNumberOfBytes, of_bytes, of_grammar, of_tree, IsExplained, ReportsFaultOfText, NamesTurn, IsNamedFirst, NamesNoneEarly}
 use Rattle.lift_load.proofs.TreeNumbers.{late_fault}
 
 -- a refusal that is handed on is of the same kind
@@ -110,3 +111,15 @@ before_by_parser text e tokens only before = λ out short ts cut. subst (λ xs. 
 pub before_of_spelled : {X : Type 0} (text : List ℕ) (c : Config) → IsSpelled text c → (r : Result X Refusal) → IfErr r (IsNamedFirst text)
 before_of_spelled text c is (Ok x) = tt
 before_of_spelled text c is (Err e) = λ out short ts cut. absurd (out c is)
+
+-- and of what may be too many
+pub early_by_tokens : (text : List ℕ) (e : Refusal) → (IsFault {A = Config} (Err e) → length text ≤ 262144 → HasNoTokens text) → NamesNoneEarly text e
+early_by_tokens text Memory none = λ out short ts cut. tt
+early_by_tokens text (Fault number place) none = λ out short ts cut. absurd (none tt short ts cut)
+
+pub early_by_parser : (text : List ℕ) (e : Refusal) (tokens : List Token) → ((ts : List Token) → AreTokens text 0 ts → ts ≡ tokens) → NoneTooMany text tokens e → NamesNoneEarly text e
+early_by_parser text e tokens only early = λ out short ts cut. subst (λ xs. NoneTooMany text xs e) (sym (only ts cut)) early
+
+pub early_of_spelled : {X : Type 0} (text : List ℕ) (c : Config) → IsSpelled text c → (r : Result X Refusal) → IfErr r (NamesNoneEarly text)
+early_of_spelled text c is (Ok x) = tt
+early_of_spelled text c is (Err e) = λ out short ts cut. absurd (out c is)

@@ -9,6 +9,7 @@ use Rattle.il_spec.specs.Text.{AreTokens}
 use Rattle.il_spec.specs.Grammar.{Spells, IsWithinLimits}
 use Rattle.il_text.specs.LexicalErrors.{IsFaultOfText}
 use Rattle.il_parse.specs.Refused.{GoesOnNowhere, GoesOnBefore}
+use Rattle.il_parse.specs.Late.{NoneTooMany}
 use Rattle.il_rules.specs.Faults.{IsRefusedBy, BreaksDeclarations, Typing, Ordering, HasNoFault, Broken}
 use Rattle.il_run.specs.Annotation.{Annotated}
 use Rattle.il_ranges.specs.Lacking.{BreaksRanges}
@@ -93,3 +94,7 @@ NamesTurn text refusal = SpellsNone text → length text ≤ 262144 → (ts : Li
 -- before the fault is beyond a limit.
 abbrev pub IsNamedFirst : List ℕ → Refusal → Type 0
 IsNamedFirst text refusal = SpellsNone text → length text ≤ 262144 → (ts : List Token) → AreTokens text 0 ts → GoesOnBefore text ts refusal
+
+-- And before a token with which no text goes on nothing is too many, whatever text has the tokens before it.
+abbrev pub NamesNoneEarly : List ℕ → Refusal → Type 0
+NamesNoneEarly text refusal = SpellsNone text → length text ≤ 262144 → (ts : List Token) → AreTokens text 0 ts → NoneTooMany text ts refusal

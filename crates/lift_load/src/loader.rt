@@ -15,7 +15,7 @@ ghost use Rattle.il_layout.specs.Whole.{unit_code};
 ghost use Rattle.il_exec.specs.Windows.{AreAllQuick};
 ghost use Rattle.il_machine.specs.Sharing.{ArePlans};
 ghost use Rattle.lift_run_laws.specs.Runs.{RunsWell};
-ghost use Rattle.lift_load.specs.Loading.{IsSpelled, SpellsOnly, SpellsNone, IsUnbroken, IsAccepted, IsRefusedFor, IsSpelledWith, IsExplained, ReportsFaultOfText, NamesTurn, IsNamedFirst};
+ghost use Rattle.lift_load.specs.Loading.{IsSpelled, SpellsOnly, SpellsNone, IsUnbroken, IsAccepted, IsRefusedFor, IsSpelledWith, IsExplained, ReportsFaultOfText, NamesTurn, IsNamedFirst, NamesNoneEarly};
 
 use il_code::{Code, code};
 use il_declare::declare;
@@ -52,6 +52,9 @@ pub fn load(alloc: Global, text: &[u8]) -> Result<Verified, Refusal>
     // With the tokens before it, some text does, in which nothing before it is beyond a limit.
     ensures before { IfErr result (IsNamedFirst text.now) }
 
+    // Where it is 10, in no such text is anything before it too many.
+    ensures early { IfErr result (NamesNoneEarly text.now) }
+
     // A text that spells a configuration has no other fault.
     ensures one { IsFault result → (n : ℕ) (p : Place) → IsSpelledWith text.now (Fault n p)
         → IsErrAnd result (λ e. e ≡ Fault n p) }
@@ -82,6 +85,7 @@ fn parsed(alloc: Global, text: &[u8]) -> Result<Written, Refusal>
     ensures bytes { ReportsFaultOfText text.now result }
     ensures nowhere { IfErr result (NamesTurn text.now) }
     ensures before { IfErr result (IsNamedFirst text.now) }
+    ensures early { IfErr result (NamesNoneEarly text.now) }
 {
     let tokens = tokens(alloc, text)?;
     let config = parse(alloc, text, &tokens)?;

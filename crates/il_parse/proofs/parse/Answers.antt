@@ -73,8 +73,8 @@ returns-in-Err-Fault-clause-before c =
       text_goes_on_with bad.0 c.args.text.now c.args.tokens.now bad.1 c.requires bad.4,
     )
 
-pub returns-in-Err-Fault-clause-none : goal.returns-in-Err-Fault-clause-none
-returns-in-Err-Fault-clause-none c =
+pub returns-in-Err-Fault-clause-early : goal.returns-in-Err-Fault-clause-early
+returns-in-Err-Fault-clause-early c =
     let bad = (rw c.in-Err-Fault.field-0-is at c.in-Err-Fault.ensures.late).fault tt in
     let parts = fault_parts c.in-Err-Fault.error bad.0 c.in-Err-Fault.place bad.1 bad.2 c.args.text.now c.end_of.result c.end_of.ensures.offset c.end_of.ensures.line in (
       bad.0,

@@ -1,6 +1,6 @@
 use Rattle.il_spec.specs.declared.tree.Config.{Config}
-use Rattle.lift_load.specs.Loading.{IsExplained, NamesTurn, IsNamedFirst}
-use Rattle.lift_load.proofs.Explaining.{handed_as, nowhere_of_spelled, before_of_spelled, handed_report, no_fault_of_spelled}
+use Rattle.lift_load.specs.Loading.{IsExplained, NamesTurn, IsNamedFirst, NamesNoneEarly}
+use Rattle.lift_load.proofs.Explaining.{handed_as, nowhere_of_spelled, before_of_spelled, early_of_spelled, handed_report, no_fault_of_spelled}
 use Rattle.lift_load.proofs.Accepting.{handed_on}
 use Rattle.lift_load.proofs.Phases.{found_by, runs_by, refused_by, named_by, explained_by}
 use Rattle.lift_load.proofs.OneFault.{one_by}
@@ -54,6 +54,12 @@ returns-clause-bytes c = λ n l fault. absurd (no_fault_of_spelled c.args.text.n
 
 pub returns-clause-nowhere : goal.returns-clause-nowhere
 returns-clause-nowhere c = nowhere_of_spelled c.args.text.now c.in_ok-config.config c.in_ok-config.ensures.only.spelled c.verified.result
+
+pub returns-in_err-config-clause-early : goal.returns-in_err-config-clause-early
+returns-in_err-config-clause-early c = handed_as (NamesNoneEarly c.args.text.now) _ _ c.from_residual.ensures.1 c.in_err-config.ensures.early
+
+pub returns-clause-early : goal.returns-clause-early
+returns-clause-early c = early_of_spelled c.args.text.now c.in_ok-config.config c.in_ok-config.ensures.only.spelled c.verified.result
 
 pub returns-clause-before : goal.returns-clause-before
 returns-clause-before c = before_of_spelled c.args.text.now c.in_ok-config.config c.in_ok-config.ensures.only.spelled c.verified.result

@@ -1,8 +1,8 @@
 use Rattle.std.proofs.Common.{sym, ◌∙◌}
 use Rattle.il_spec.specs.declared.tree.Config.{Config}
 use Rattle.il_grammar_laws.proofs.Spelled.{spelled_written}
-use Rattle.lift_load.specs.Loading.{IsExplained, NamesTurn, IsNamedFirst}
-use Rattle.lift_load.proofs.Explaining.{handed_as, nowhere_by_tokens, nowhere_by_parser, before_by_tokens, before_by_parser, explained_by_tokens, explained_by_parser, reported_by_tokens, no_fault_of_bytes}
+use Rattle.lift_load.specs.Loading.{IsExplained, NamesTurn, IsNamedFirst, NamesNoneEarly}
+use Rattle.lift_load.proofs.Explaining.{handed_as, nowhere_by_tokens, nowhere_by_parser, before_by_tokens, before_by_parser, early_by_tokens, early_by_parser, explained_by_tokens, explained_by_parser, reported_by_tokens, no_fault_of_bytes}
 use Rattle.lift_load.proofs.Accepting.{handed_on, none_spelled}
 use Rattle.lift_load.proofs.Phases.{spells_only}
 use Rattle.lift_load.proofs.loader.parsed.Goals as goal
@@ -20,6 +20,9 @@ returns-in_err-tokens-clause-bytes c = reported_by_tokens c.args.text.now _ _ c.
 
 pub returns-in_err-tokens-clause-nowhere : goal.returns-in_err-tokens-clause-nowhere
 returns-in_err-tokens-clause-nowhere c = handed_as (NamesTurn c.args.text.now) _ _ c.from_residual.ensures.1 (nowhere_by_tokens c.args.text.now _ c.in_err-tokens.ensures.refused)
+
+pub returns-in_err-tokens-clause-early : goal.returns-in_err-tokens-clause-early
+returns-in_err-tokens-clause-early c = handed_as (NamesNoneEarly c.args.text.now) _ _ c.from_residual.ensures.1 (early_by_tokens c.args.text.now _ c.in_err-tokens.ensures.refused)
 
 pub returns-in_err-tokens-clause-before : goal.returns-in_err-tokens-clause-before
 returns-in_err-tokens-clause-before c = handed_as (IsNamedFirst c.args.text.now) _ _ c.from_residual.ensures.1 (before_by_tokens c.args.text.now _ c.in_err-tokens.ensures.refused)
@@ -42,6 +45,11 @@ pub returns-in_err-config-clause-nowhere : goal.returns-in_err-config-clause-now
 returns-in_err-config-clause-nowhere c =
     handed_as (NamesTurn c.args.text.now) _ _ c.from_residual-in_err-config.ensures.1
     (nowhere_by_parser c.args.text.now _ c.deref.result.now (λ ts cut. c.in_ok-tokens.ensures.only ts cut ∙ sym c.deref.ensures.value) c.in_err-config.ensures.nowhere)
+
+pub returns-in_err-config-clause-early : goal.returns-in_err-config-clause-early
+returns-in_err-config-clause-early c =
+    handed_as (NamesNoneEarly c.args.text.now) _ _ c.from_residual-in_err-config.ensures.1
+    (early_by_parser c.args.text.now _ c.deref.result.now (λ ts cut. c.in_ok-tokens.ensures.only ts cut ∙ sym c.deref.ensures.value) c.in_err-config.ensures.early)
 
 pub returns-in_err-config-clause-before : goal.returns-in_err-config-clause-before
 returns-in_err-config-clause-before c =
