@@ -1,15 +1,12 @@
 -- Ends of tokens, and cuts.
-use Rattle.std.proofs.Common.{◌≡◌, ◌<◌, ◌≤◌, ◌+◌, ℕ, Bool, true, false, List, [], ◌∷◌, length, refl, sym, ◌∙◌, ap, subst, inl, inr, arith}
+use Rattle.std.proofs.Common.{◌≡◌, ◌≤◌, ℕ, Bool, true, false, List, [], ◌∷◌, length, refl, sym, ◌∙◌, ap, subst, inl, inr, arith}
 use Rattle.std.specs.Prelude.{◌⊎◌, if◌then◌else◌}
 use Rattle.il_spec.specs.declared.token.Token.{Token}
-use Rattle.il_spec.specs.declared.tree.Place.{Place}
-use Rattle.il_spec.specs.declared.tree.Named.{Named}
-use Rattle.il_spec.specs.declared.tree.Instruction.{Instruction}
-use Rattle.il_spec.specs.Grammar.{Front, Gap, tight, loose, is_line_end, skip_line_ends, At, SpellsInstruction, SpellsLabelled}
+use Rattle.il_spec.specs.Grammar.{Gap, tight, loose, is_line_end, skip_line_ends}
 use Rattle.il_grammar_laws.specs.Alike.{IsEndOf, AreAlike}
 use Rattle.il_grammar_laws.specs.GoesOn.{IsCut}
-use Rattle.il_grammar_laws.proofs.Alike.{end_self, end_length, end_of_end, end_same, loose_gap}
-use Rattle.il_grammar_laws.proofs.Open.{cut_end, label_fills, line_end_fills}
+use Rattle.il_grammar_laws.proofs.Alike.{end_self, end_length, end_same, loose_gap}
+use Rattle.il_grammar_laws.proofs.Open.{cut_end}
 use Rattle.il_grammar_laws.proofs.GoesOn.{cut_here}
 
 -- ENDS
@@ -28,12 +25,6 @@ cut_back text other at [] (u ∷ us) vs c = inl (sym c.1, sym c.0)
 cut_back text other at (t ∷ ts) [] vs (inl c) = (sym c.1, sym c.0)
 cut_back text other at (t ∷ ts) (u ∷ us) vs (inl c) = inl (sym c.1, sym c.0)
 cut_back text other at (t ∷ ts) us vs (inr c) = subst (λ x. IsCut other text vs x (t ∷ ts) at) (sym c.1) (inr (ts, refl, sym c.2, cut_back text other at ts c.0 vs c.3))
-
--- as many tokens stand before the cut
-pub cut_lengths : (text other : List ℕ) (at ts us vs : List Token) → IsCut text other at ts us vs → length ts + length vs ≡ length us + length at
-cut_lengths text other at [] us vs c = let a = ap length c.0 in let b = ap length c.1 in omega (arith, a, b)
-cut_lengths text other at (t ∷ ts) us vs (inl c) = let a = ap length c.0 in let b = ap length c.1 in omega (arith, a, b)
-cut_lengths text other at (t ∷ ts) us vs (inr c) = let so = cut_lengths text other at ts c.0 vs c.3 in let b = ap length c.1 in omega (arith, so, b)
 
 -- where only line ends stand before the cut, what stands behind line ends stands behind it
 pub past_cut : (text other : List ℕ) (at ts us vs : List Token) → IsCut text other at ts us vs → length (skip_line_ends ts) ≤ length at → IsEndOf (skip_line_ends us) vs

@@ -1,20 +1,15 @@
 -- What is too many stands behind the tokens before a fault, in every text that has these.
-use Rattle.std.proofs.Common.{◌≡◌, ◌<◌, ◌≤◌, ◌+◌, ℕ, zero, suc, Bool, true, false, List, [], ◌∷◌, ◌++◌, length, refl, sym, ◌∙◌, ap, subst, inl, inr, arith, Some, None}
-use Rattle.std.specs.Prelude.{◌⊎◌, ⊤, IsTrue, IsFalse, Option, if◌then◌else◌}
-use Rattle.std.specs.List.{slice_get}
+use Rattle.std.proofs.Common.{◌≡◌, ◌<◌, ℕ, Bool, true, false, List, length, refl, sym, ◌∙◌, subst, inl, inr, arith}
+use Rattle.std.specs.Prelude.{◌⊎◌, IsTrue}
 use Rattle.il_spec.specs.declared.token.Token.{Token}
-use Rattle.il_spec.specs.declared.keyword.Keyword.{Keyword}
-use Rattle.il_spec.specs.declared.tree.Place.{Place}
-use Rattle.il_spec.specs.declared.tree.Named.{Named}
 use Rattle.il_spec.specs.declared.tree.Instruction.{Instruction}
-use Rattle.il_spec.specs.declared.tree.Step.{Step}
-use Rattle.il_spec.specs.Grammar.{Front, Gap, tight, loose, is_line_end, skip_line_ends, ◌⟨◌⟩◌, ◌⨾◌, ◌⋯◌, At, Repeats, TheWord, SpellsInstruction, SpellsLabel, SpellsLabelled, SpellsStep, SpellsLabelLine}
+use Rattle.il_spec.specs.Grammar.{Front, Gap, loose, skip_line_ends, ◌⟨◌⟩◌, ◌⨾◌, SpellsInstruction}
 use Rattle.il_grammar_laws.specs.One.{IsDeterministic}
 use Rattle.il_grammar_laws.specs.Alike.{IsEndOf, IsGap}
-use Rattle.il_grammar_laws.specs.GoesOn.{IsCut, Test, always}
-use Rattle.il_grammar_laws.proofs.Alike.{end_self, end_length, end_of_end, end_same, alike_self, loose_gap, gap_length}
-use Rattle.il_grammar_laws.proofs.Open.{Opens, IsOpenGap, tight_open, loose_open, cut_end, label_fills, line_end_fills, instruction_fills, step_fills}
-use Rattle.il_grammar_laws.proofs.GoesOn.{whole_or, cut_here, IsOpening, IsFilling}
+use Rattle.il_grammar_laws.specs.GoesOn.{IsCut, Test}
+use Rattle.il_grammar_laws.proofs.Alike.{end_self, end_length, end_of_end, alike_self}
+use Rattle.il_grammar_laws.proofs.Open.{IsOpenGap, cut_end, instruction_fills}
+use Rattle.il_grammar_laws.proofs.GoesOn.{whole_or, IsOpening}
 use Rattle.il_read.specs.declared.stop.SyntaxError.{SyntaxError}
 use Rattle.il_read.specs.declared.stop.SyntaxError.TheVariants.{Unexpected, TooDeep, TooMany}
 use Rattle.il_read.specs.declared.stop.Stop.{Stop}

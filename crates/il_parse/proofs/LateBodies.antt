@@ -1,6 +1,6 @@
 -- Bodies: what is too many stands behind the tokens before a fault.
-use Rattle.std.proofs.Common.{◌≡◌, ◌<◌, ◌≤◌, ℕ, zero, suc, Bool, true, false, ◌&&◌, List, [], ◌∷◌, ◌++◌, length, refl, sym, ◌∙◌, ap, subst, inl, inr, arith}
-use Rattle.std.specs.Prelude.{◌⊎◌, IsTrue, IsFalse, Some}
+use Rattle.std.proofs.Common.{◌≡◌, ◌<◌, ◌≤◌, ℕ, zero, suc, Bool, true, false, List, [], ◌∷◌, ◌++◌, length, refl, sym, ◌∙◌, ap, subst, inl, inr, arith}
+use Rattle.std.specs.Prelude.{◌⊎◌, IsTrue, IsFalse}
 use Rattle.std.specs.List.{All}
 use Rattle.il_spec.specs.declared.token.Token.{Token}
 use Rattle.il_spec.specs.declared.keyword.Keyword.{Keyword}
@@ -9,7 +9,7 @@ use Rattle.il_spec.specs.declared.tree.Named.{Named}
 use Rattle.il_spec.specs.declared.tree.Instruction.{Instruction}
 use Rattle.il_spec.specs.declared.tree.Step.{Step}
 use Rattle.il_spec.specs.declared.tree.Body.{Body}
-use Rattle.il_spec.specs.Grammar.{Front, tight, loose, skip_line_ends, ◌⋯◌, At, Repeats, TheLineEnd, SpellsInstruction, SpellsLabelled, SpellsStep, is_nested, may_stand, depth_after, needs_load}
+use Rattle.il_spec.specs.Grammar.{Front, tight, loose, skip_line_ends, ◌⋯◌, At, Repeats, TheLineEnd, SpellsInstruction, SpellsLabelled, SpellsStep, is_nested, may_stand}
 use Rattle.il_grammar_laws.specs.Alike.{IsEndOf, IsLocal}
 use Rattle.il_grammar_laws.specs.GoesOn.{IsCut, always}
 use Rattle.il_grammar_laws.proofs.Alike.{end_self, end_length, end_of_end, alike_self, loose_gap, tight_gap, gap_length}
@@ -22,7 +22,7 @@ use Rattle.il_grammar_laws.proofs.GoesOn.{whole_or, cut_here, IsFilling, IsOpeni
 use Rattle.il_read.specs.declared.stop.SyntaxError.{SyntaxError}
 use Rattle.il_read.specs.declared.stop.SyntaxError.TheVariants.{Unexpected}
 use Rattle.il_read.specs.declared.stop.Stop.{Stop}
-use Rattle.il_read.specs.Reads.{Refuses, Stands, Misses}
+use Rattle.il_read.specs.Reads.{Stands, Misses}
 use Rattle.il_read.proofs.Chain.{as_value, regroup}
 use Rattle.il_read.proofs.Nesting.{IsOpen}
 use Rattle.il_parse.specs.Refused.{StandsAmong, IsLateSurplus}

@@ -10,24 +10,20 @@ use Rattle.il_spec.specs.declared.tree.Place.{Place}
 use Rattle.il_spec.specs.declared.tree.Named.{Named}
 use Rattle.il_spec.specs.declared.tree.Scalar.{Scalar}
 use Rattle.il_spec.specs.declared.tree.Declaration.{Declaration}
-use Rattle.il_spec.specs.declared.tree.Step.{Step}
 use Rattle.il_spec.specs.declared.tree.Body.{Body}
 use Rattle.il_spec.specs.declared.tree.UnitKind.{UnitKind}
 use Rattle.il_spec.specs.declared.tree.UnitKind.TheVariants as unit
 use Rattle.il_spec.specs.declared.tree.Unit.{Unit as ProgramUnit}
 use Rattle.il_spec.specs.declared.tree.Config.{Config}
-use Rattle.il_spec.specs.Grammar.{Front, tight, loose, skip_line_ends, ◌⨾◌, ◌⋯◌, AfterLines, Repeats, TheWord, TheName, SpellsFilledList, unit_word}
-use Rattle.il_grammar_laws.specs.One.{IsDeterministic}
+use Rattle.il_spec.specs.Grammar.{Front, tight, loose, skip_line_ends, ◌⨾◌, ◌⋯◌, Repeats, TheWord, TheName, SpellsFilledList, unit_word}
 use Rattle.il_grammar_laws.specs.Alike.{IsEndOf, IsLocal}
 use Rattle.il_grammar_laws.specs.GoesOn.{IsCut, Test, always}
-use Rattle.il_grammar_laws.proofs.Alike.{end_self, end_length, end_of_end, alike_self, loose_gap, tight_gap, gap_length}
-use Rattle.il_grammar_laws.proofs.Leads.{at_holds}
+use Rattle.il_grammar_laws.proofs.Alike.{end_self, end_of_end, alike_self, loose_gap}
 use Rattle.il_grammar_laws.proofs.Local.{the_name_local, placed_word_local, result_local, filled_list_local, optional_list_local}
 use Rattle.il_grammar_laws.proofs.Open.{Opens, tight_open, loose_open, cut_end, fill_any, repeated, word_fills, unit_fills}
 use Rattle.il_grammar_laws.proofs.GoesOn.{whole_or, cut_here, IsFilling, IsOpening}
-use Rattle.il_read.specs.Lead.{lead_at}
 use Rattle.il_read.specs.declared.stop.SyntaxError.{SyntaxError}
-use Rattle.il_read.specs.declared.stop.SyntaxError.TheVariants.{Unexpected, TooDeep, TooMany}
+use Rattle.il_read.specs.declared.stop.SyntaxError.TheVariants.{Unexpected, TooMany}
 use Rattle.il_read.specs.declared.stop.Stop.{Stop}
 use Rattle.il_read.specs.Reads.{Reads, Refuses, RefusesBy, GoesOnNoMore, turn, error_of, fault_at}
 use Rattle.il_read.specs.Settings.{PlacedWord}
@@ -36,7 +32,7 @@ use Rattle.il_read.proofs.ByError.{error_is}
 use Rattle.il_read.proofs.Completions.{the_name_filling, placed_word_filling}
 use Rattle.il_parse.specs.Ahead.{RefusesAhead}
 use Rattle.il_parse.specs.Refused.{StandsAmong, IsLateSurplus}
-use Rattle.il_parse.specs.Late.{WhereUnexpected, Leaves, LeavesLate, LeavesWith, AreLateUnits}
+use Rattle.il_parse.specs.Late.{Leaves, LeavesLate, LeavesWith, AreLateUnits}
 use Rattle.il_parse.specs.Bodies.{SpellsBodyBy}
 use Rattle.il_parse.specs.Lists.{SpellsFull}
 use Rattle.il_parse.specs.Insides.{LacksList, SpellsVariables, SpellsSomeExternals, SpellsProgramInsideBy, SpellsBlockInsideBy, SpellsFunctionInsideBy}
@@ -317,12 +313,6 @@ module _ {text : List ℕ} {ts : List Token} {e : Stop} where
       ahead_later (λ y. y.0) (λ text y. SpellsFunctionInsideBy Unexpected text y.1) result_opening result_local (spreads_part (λ y. y.1) function_spreads) here (leaves_part (λ y. y.1) bad)
 
 -- UNITS
-
--- The result that a kind has; only a function has one.
-abbrev result_of : UnitKind → Place × Scalar → Place × Scalar
-result_of (unit.Function s q) x = (q, s)
-result_of unit.FunctionBlock x = x
-result_of unit.Program x = x
 
 module _ {text : List ℕ} {ts : List Token} {e : Stop} where
   pub program_late : LeavesWith (λ x. x.2.2) (SpellsProgramBy Unexpected) text ts e → LeavesWith (λ u. u.body) (SpellsUnitOfBy word.Program Unexpected) text ts e

@@ -1,12 +1,10 @@
 -- What a reader promises of all texts that have the tokens before a fault, where its token is one with which no text goes on: what is too many stands behind
 -- these tokens.
-use Rattle.std.specs.Prelude.{◌≡◌, Bool, false, IsTrue, ℕ, List, [], ◌∷◌, Some, ⊤}
+use Rattle.std.specs.Prelude.{◌≡◌, Bool, false, IsTrue, ℕ, List, [], Some, ⊤}
 use Rattle.std.specs.List.{All, slice_get}
 use Rattle.il_spec.specs.declared.token.Token.{Token}
 use Rattle.il_spec.specs.declared.keyword.Keyword.{Keyword}
-use Rattle.il_spec.specs.declared.tree.Place.{Place}
 use Rattle.il_spec.specs.declared.tree.Instruction.{Instruction}
-use Rattle.il_spec.specs.declared.tree.Step.{Step}
 use Rattle.il_spec.specs.declared.tree.Body.{Body}
 use Rattle.il_spec.specs.declared.tree.Unit.{Unit as ProgramUnit}
 use Rattle.il_spec.specs.declared.tree.Config.{Config}
