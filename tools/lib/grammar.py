@@ -191,14 +191,14 @@ class Network:
         return behind
 
     def with_nothing(self, places):
-        """These places, and those that are reached over nothing."""
+        """These places and those that are reached over nothing; of them those that are an end, or from which something else leads on."""
         reached, left = set(places), list(places)
         while left:
             for place in self.over_nothing[left.pop()]:
                 if place not in reached:
                     reached.add(place)
                     left.append(place)
-        return frozenset(reached)
+        return frozenset(place for place in reached if place in self.over_token or place in self.over_call or place in self.ends.values())
 
 
 NETWORK = Network()
@@ -287,6 +287,10 @@ class Reading:
     def can_stand(self, kind):
         """Whether some text goes on with a token of this kind, at the place of a 10."""
         return (SETS.steps[self.state].get(kind) or SETS.step(self.state, kind))[0] is not None
+
+    def line_end_is_blank(self):
+        """Whether a line end changes nothing at the place of a 10."""
+        return (SETS.steps[self.state].get("NL") or SETS.step(self.state, "NL"))[0] == self.state
 
 
 def first_fault(text):
