@@ -247,15 +247,15 @@ SETS = Sets()
 
 
 class Reading:
-    """The fault of a text whose tokens have none: its number and its place, or None. Of a 10 also the set of places at which it stands, and the stack."""
+    """The fault of a text whose tokens have none: its number and its place, or None; and of a 10 the set of places in the rules at which it stands."""
 
     def __init__(self, tokens, length):
-        self.state, self.stack = SETS.start, []
+        self.state = SETS.start
         self.fault = self.first_fault(kinds_of(tokens, length))
 
     def first_fault(self, kinds):
-        steps, stack, state = SETS.steps, self.stack, self.state
-        units, instructions, unsure = 0, 0, None
+        steps, state, stack = SETS.steps, self.state, []
+        units, instructions, unsure = 0, 0, None  # unsure: the place of a name that may begin an instruction
         for kind, place in kinds:
             behind, begins, goes_on, ends_call = steps[state].get(kind) or SETS.step(state, kind)
             if unsure is not None:
