@@ -106,7 +106,7 @@ fn ends_unit(text: &[u8], token: &Token) -> bool {
     }
 }
 
-// Where the unit of a place begins: behind the last word of the one before it.
+// Where the unit of a place begins: behind the last word of the one before it. A body may have such a word as the name of a component.
 fn unit_start(text: &[u8], tokens: &[Token], offset: usize) -> usize {
     let mut start = 0;
     for token in tokens {
@@ -129,6 +129,15 @@ fn is_one_group(group: Group, other: Group) -> bool {
     }
 }
 
+// Whether whole units stand before so many bytes: with a configuration behind them they are a text.
+fn are_units(alloc: Global, text: &[u8], start: usize) -> Result<bool, AllocError> {
+    let mut whole = Vec::new(alloc);
+    whole.extend_from_slice(text.get(..start).unwrap_or(b""))?;
+    whole.extend_from_slice(b" ")?;
+    whole.extend_from_slice(CONFIGURATION.as_bytes())?;
+    Ok(matches!(reach_in(alloc, &whole)?, Reach::Whole))
+}
+
 // Where the text that a search reads begins: at the unit of a place, if the place is refused there too.
 fn search_start(
     alloc: Global,
@@ -140,7 +149,13 @@ fn search_start(
     let unit = text.get(start..).unwrap_or(b"");
     match spelled(alloc, unit) {
         Err(Refusal::Fault { number: 10, place })
-            if place.offset as usize == offset.saturating_sub(start) => { Ok(start) }
+            if place.offset as usize == offset.saturating_sub(start) => {
+            if are_units(alloc, text, start)? {
+                Ok(start)
+            } else {
+                Ok(0)
+            }
+        }
         Err(Refusal::Memory) => Err(AllocError),
         _ => Ok(0),
     }
