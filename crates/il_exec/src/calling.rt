@@ -11,7 +11,7 @@ ghost use Rattle.il_exec.specs.Current.{left_of};
 use crate::blocks::call_block;
 use crate::current::Current;
 use crate::quick::{Quick, Wide};
-use crate::rows::{boolean_of, element, flag, number, number_of, put_flag, put_number};
+use crate::rows::{boolean_of, element, flag, number, number_of, put_flag, put_number, write};
 use il_layout::flat::{Assignment, Copied, Flat, Operand, Slot};
 use il_spec::tree::Condition;
 
@@ -83,9 +83,9 @@ fn number_given(numbers: &[i64], flags: &[bool], base: usize, from: &Operand) ->
     }
 }
 
-// One input, from the frame at a base to that at another.
+// An input that is given what another slot or element has, from the frame at a base to that at another.
 #[inline(always)]
-fn give(numbers: &mut [i64], flags: &mut [bool], base: usize, to: usize, input: &Assignment)
+fn give_read(numbers: &mut [i64], flags: &mut [bool], base: usize, to: usize, input: &Assignment)
     requires { IsSome (with_some (operand (rows numbers.old flags.old) base Int input.now.from)
         (λ c. write (rows numbers.old flags.old) to input.now.to c)) }
     ensures { with_some (operand (rows numbers.old flags.old) base Int input.now.from)
@@ -101,6 +101,21 @@ fn give(numbers: &mut [i64], flags: &mut [bool], base: usize, to: usize, input: 
             let given = number_given(numbers, flags, base, &input.from);
             put_number(numbers, to, slot, given);
         }
+    }
+}
+
+// One input, from the frame at a base to that at another.
+#[inline(always)]
+fn give(numbers: &mut [i64], flags: &mut [bool], base: usize, to: usize, input: &Assignment)
+    requires { IsSome (with_some (operand (rows numbers.old flags.old) base Int input.now.from)
+        (λ c. write (rows numbers.old flags.old) to input.now.to c)) }
+    ensures { with_some (operand (rows numbers.old flags.old) base Int input.now.from)
+        (λ c. write (rows numbers.old flags.old) to input.now.to c)
+        ≡ Some (rows numbers.new flags.new) }
+{
+    match input.from {
+        Operand::Constant(constant) => write(numbers, flags, to, input.to, constant),
+        _ => give_read(numbers, flags, base, to, input),
     }
 }
 
