@@ -114,9 +114,8 @@ impl Plant {
         ensures safe { (sizes : Sizes) → IsPlantOf sizes self.old → 1 ≤ sizes.floors
             → ObeysWithOwnFields self.old outputs.now → StaysSafe sizes self.old self.new }
     {
-        let cars = moved_cars(self.floors, self.cars.as_slice(), outputs.as_slice());
+        move_cars(self.floors, &mut self.cars, outputs.as_slice());
         let time = u32::min(LAST_TIME, self.time + 100);
-        self.cars = cars;
         self.time = time;
         Fields {
             time,
@@ -134,21 +133,20 @@ impl Plant {
     }
 }
 
-// The cars after one step, each under its outputs.
-fn moved_cars(floors: u8, cars: &[Car], outputs: &[CarOutputs]) -> Bounded<Car, CAR_PLACES>
+// Each car goes one step under its outputs, in its place.
+#[inline(always)]
+fn move_cars(floors: u8, cars: &mut Bounded<Car, CAR_PLACES>, outputs: &[CarOutputs])
     requires floors { floors ≤ 16 }
-    requires cars { All (IsPlaced floors) cars.now }
-    requires room { length cars.now ≤ CAR_PLACES }
-    requires outputs { length outputs.now ≡ length cars.now }
-    ensures value { map placed result ≡ moved_all floors (map placed cars.now) outputs.now }
-    ensures stays { All (IsPlaced floors) result }
-    ensures length { length result ≡ length cars.now }
+    requires cars { All (IsPlaced floors) cars.old }
+    requires outputs { length outputs.now ≡ length cars.old }
+    ensures value { map placed cars.new ≡ moved_all floors (map placed cars.old) outputs.now }
+    ensures stays { All (IsPlaced floors) cars.new }
+    ensures length { length cars.new ≡ length cars.old }
 {
-    let mut moved = Bounded::new();
     for i in 0..cars.len() {
-        moved.push(moved_car(floors, cars[i], outputs[i]));
+        let moved = moved_car(floors, cars.as_slice()[i], outputs[i]);
+        cars.set(i, moved);
     }
-    moved
 }
 
 // What the plant reports of its cars.

@@ -55,6 +55,7 @@ impl Waiting {
     }
 
     /// Adds a byte.
+    #[inline(always)]
     pub fn push(&mut self, byte: u8)
         requires { length self.old < 4096 }
         ensures { self.new ≡ self.old ++ byte ∷ [] }
@@ -64,6 +65,7 @@ impl Waiting {
     }
 
     /// Adds bytes.
+    #[inline(always)]
     pub fn put(&mut self, bytes: &[u8])
         requires { length self.old + length bytes.now ≤ 4096 }
         ensures { self.new ≡ self.old ++ bytes.now }
@@ -74,6 +76,7 @@ impl Waiting {
     }
 
     /// Adds the first so many bytes of a block of 16. It copies the whole block, which takes one step of the machine.
+    #[inline(always)]
     pub fn put_front(&mut self, block: &[u8], count: usize)
         requires room { length self.old + 16 ≤ 4096 }
         requires block { length block.now ≡ 16 }

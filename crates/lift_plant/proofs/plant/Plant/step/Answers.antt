@@ -12,7 +12,7 @@ unfolding plant_after
 step_is floors time run_limit t fire cars made outputs e f = cc
 
 pub returns-clause-plant : goal.returns-clause-plant
-returns-clause-plant c = rw (← c.self.view_is) (step_is _ _ _ _ _ _ _ _ c.min-time.ensures (rw (← c.as_slice.ensures, ← c.as_slice-2.ensures) c.moved_cars-cars.ensures.value))
+returns-clause-plant c = rw (← c.self.view_is) (step_is _ _ _ _ _ _ _ _ c.min-time.ensures (rw (← c.as_slice.ensures) c.move_cars.ensures.value))
 
 pub returns-clause-sized : goal.returns-clause-sized
 returns-clause-sized c = λ sizes of_group. subst (IsPlantOf sizes) (sym (returns-clause-plant c)) (sized_after sizes c.args.self.now c.args.outputs.now of_group c.requires)
