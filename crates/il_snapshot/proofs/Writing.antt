@@ -1,6 +1,6 @@
 -- Rows into which values are written.
-use Rattle.std.proofs.Common.{◌≡◌, ℕ, zero, suc, ◌+◌, ◌-◌, ◌*◌, ◌<◌, List, [], ◌∷◌, ◌++◌, map, length, drop, get_or, refl, sym, ap, ap₂, ◌∙◌, arith, append_assoc}
-use Rattle.std.specs.Prelude.{replicate, codes}
+use Rattle.std.proofs.Common.{◌≡◌, ℕ, zero, suc, ◌+◌, ◌*◌, ◌<◌, List, [], ◌∷◌, ◌++◌, map, length, drop, get_or, refl, sym, ap, ap₂, ◌∙◌, arith, append_assoc}
+use Rattle.std.specs.Prelude.{replicate, codes, pos, false}
 use Rattle.std.proofs.lemmas.List.{length-append, length-set, length-map, length-replicate, map-append, drop_more}
 use Rattle.il_run.specs.declared.value.Value.{Value}
 use Rattle.il_run.specs.declared.value.Value.TheVariants.{Boolean}
@@ -141,10 +141,11 @@ cars_written r r1 r2 r3 at image slots e1 e2 e3 =
     ∙ sym (filled_append (filled r at (map position_value image.fields.cars)) (at + length (map position_value image.fields.cars)) (map motor_value image.outputs) (replicate slots (number 0)))
     ∙ sym (filled_append r at (map position_value image.fields.cars) (map motor_value image.outputs ++ replicate slots (number 0)))
 
--- one zero more
-pub next_zero : (r s initial : Rows) (at slot count : ℕ) → slot < count → s ≡ with_slot r (at + slot) (number 0) → filled r (at + slot) (replicate (count - slot) (number 0)) ≡ filled initial at (replicate count (number 0))
-    → filled s (at + (slot + 1)) (replicate (count - (slot + 1)) (number 0)) ≡ filled initial at (replicate count (number 0))
-next_zero r s initial at slot count low is rest =
-    let more : count - slot ≡ suc (count - (slot + 1)) = omega (arith, low) in
-    let behind : at + (slot + 1) ≡ at + slot + 1 = omega arith in
-    ap₂ (λ x n. filled x n (replicate (count - (slot + 1)) (number 0))) is behind ∙ sym (ap (λ n. filled r (at + slot) (replicate n (number 0))) more) ∙ rest
+-- what the rows keep of zeros
+pub zero_numbers : (count : ℕ) → map number_part (replicate count (number 0)) ≡ replicate count (pos 0)
+zero_numbers zero = refl
+zero_numbers (suc count) = ap (λ l. pos 0 ∷ l) (zero_numbers count)
+
+pub zero_flags : (count : ℕ) → map flag_part (replicate count (number 0)) ≡ replicate count false
+zero_flags zero = refl
+zero_flags (suc count) = ap (λ l. false ∷ l) (zero_flags count)

@@ -9,7 +9,7 @@ use crate::rows::{put, put_parts};
 use il_exec::rows::Rows;
 use il_run::value::Value;
 use lift_calls::book::CallBook;
-use lift_spec::image::{CarFields, CarOutputs, Fields, Image, Motor, Sizes};
+use lift_spec::image::{CarFields, CarOutputs, Fields, Image, Motor, SLOT_PLACES, Sizes};
 
 // The number of a motor.
 fn motor_number(motor: Motor) -> i64
@@ -134,20 +134,21 @@ fn write_motors(rows: &mut Rows, at: usize, cars: &[CarOutputs])
     }
 }
 
-// Writes so many zeros from a slot on.
+// Writes so many zeros from a slot on, at most one for each call slot.
 fn write_zeros(rows: &mut Rows, at: usize, count: usize)
+    requires few { count ≤ SLOT_PLACES }
     requires numbers { at + count ≤ length rows.old.numbers }
     requires flags { at + count ≤ length rows.old.flags }
     ensures { rows.new ≡ filled rows.old at (replicate count (number 0)) }
 {
-    let _room = rows.numbers.len();
-    'slots: for slot in 0..count {
-        put(rows, at + slot, Value::Integer(0));
-    }
+    let numbers = [0; SLOT_PLACES];
+    let flags = [false; SLOT_PLACES];
+    put_parts(rows, at, &numbers[..count], &flags[..count]);
 }
 
 // Writes what the group's program sees of the cars from a slot on, and ASSIGN.
 fn write_cars(rows: &mut Rows, at: usize, image: &Image, slots: usize)
+    requires few { slots ≤ SLOT_PLACES }
     requires numbers { at + length (cars_values image.now slots) ≤ length rows.old.numbers }
     requires flags { at + length (cars_values image.now slots) ≤ length rows.old.flags }
     ensures { rows.new ≡ filled rows.old at (cars_values image.now slots) }
@@ -162,6 +163,7 @@ fn write_cars(rows: &mut Rows, at: usize, image: &Image, slots: usize)
 
 // Writes what programs of the task's role see from a slot on.
 fn write_role(rows: &mut Rows, at: usize, task: u8, image: &Image, slots: usize)
+    requires few { slots ≤ SLOT_PLACES }
     requires fields { task ≤ length image.now.fields.cars }
     requires outputs { task ≤ length image.now.outputs }
     requires numbers { at + length (role_values task image.now slots) ≤ length rows.old.numbers }

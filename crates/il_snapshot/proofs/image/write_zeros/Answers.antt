@@ -1,14 +1,12 @@
-use Rattle.std.proofs.Common.{◌∙◌, ◌+◌, [], ◌∷◌, arith}
+use Rattle.std.proofs.Common.{rules}
+use Rattle.std.specs.Prelude.{replicate, pos, false}
+use Rattle.std.proofs.lemmas.List.{take-replicate}
 use Rattle.lift_spec.specs.Snapshot.{number}
-use Rattle.il_snapshot.proofs.Writing.{same_numbers, same_flags, next_zero}
+use Rattle.il_snapshot.proofs.Writing.{zero_numbers, zero_flags}
 use Rattle.il_snapshot.proofs.image.write_zeros.Goals as goal
 
-pub slots-preserved : goal.slots-preserved
-slots-preserved c =
-    let low = c.slots-test.true in
-    record {
-      low = omega (arith, low);
-      numbers = same_numbers c.slots.rows c.put.new.all (c.args.at + c.slots.slot) (number 0 ∷ []) c.put.ensures ∙ c.slots.invariant.numbers;
-      flags = same_flags c.slots.rows c.put.new.all (c.args.at + c.slots.slot) (number 0 ∷ []) c.put.ensures ∙ c.slots.invariant.flags;
-      rest = next_zero c.slots.rows c.put.new.all c.args.rows.now c.args.at c.slots.slot c.args.count low c.put.ensures c.slots.invariant.rest;
-    }
+pub returns : goal.returns
+returns c =
+    let numbers = take-replicate c.args.count 64 (pos 0) c.requires.few in
+    let flags = take-replicate c.args.count 64 false c.requires.few in
+    c.put_parts.ensures (replicate c.args.count (number 0)) (search (rules, zero_numbers c.args.count, numbers)) (search (rules, zero_flags c.args.count, flags))
