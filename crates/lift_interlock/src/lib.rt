@@ -14,4 +14,4 @@ mod settled;
 pub use commit::settle_car;
 pub use laws::{commit_keeps_obeying, refresh_gives_obeying};
 pub use refresh::{settle_all, settle_each};
-pub use settled::{AllSettled, Settled};
+pub use settled::{AllSettled, Settled, is_same, replace};

@@ -5,7 +5,7 @@ ghost use Rattle.lift_spec.specs.Settle.{denies_running, running_denial, denials
 ghost use Rattle.lift_interlock.specs.Beside.{first_cars, settled_beside};
 
 use crate::motor::{granted, is_at_end, is_fire_up};
-use crate::settled::{AllSettled, Settled, listed, open_denial};
+use crate::settled::{AllSettled, Settled, listed, open_denial, replace};
 use lift_spec::report::{DENIAL_PLACES, Denial, Rule};
 use lift_spec::{Bounded, CarFields, CarOutputs, Fields, Outputs};
 
@@ -101,7 +101,7 @@ pub fn settle_each(
         let car = index as u8 + 1;
         let settled = settle_running(fields, running, cars[index], outputs.as_slice()[index]);
         running += u8::from(settled.outputs.motor.runs());
-        outputs.set(index, settled.outputs);
+        replace(outputs, index, settled.outputs);
         add_denials(denials, car, settled.denials.as_slice());
     }
 }

@@ -1,10 +1,10 @@
 // What settling gives.
 
-ghost use Rattle.std.specs.Prelude.{◌≡◌, ◌++◌};
+ghost use Rattle.std.specs.Prelude.{◌≡◌, ◌<◌, ◌++◌, ◌↔◌, IsTrue, length, slice_set};
 ghost use Rattle.lift_spec.specs.Settle.{listed, open_denial};
 
 use lift_spec::report::{DENIAL_PLACES, Denial, Rule};
-use lift_spec::{Bounded, CarOutputs, Outputs};
+use lift_spec::{Bounded, CarOutputs, Motor, Outputs};
 use std::marker::Model;
 
 /// The outputs of one car, and the rules that denied, 4 first.
@@ -66,4 +66,33 @@ pub fn listed(of_open: Option<Rule>, of_motor: Option<Rule>) -> Bounded<Rule, 2>
         rules.push(rule);
     }
     rules
+}
+
+// Whether two motors are the same.
+fn is_same_motor(one: Motor, other: Motor) -> bool
+    ensures { IsTrue result ↔ (one ≡ other) }
+{
+    match (one, other) {
+        (Motor::Up, Motor::Up) | (Motor::Down, Motor::Down) | (Motor::Still, Motor::Still) => true,
+        _ => false,
+    }
+}
+
+/// Whether the outputs of two cars are the same.
+#[inline(always)]
+pub fn is_same(one: CarOutputs, other: CarOutputs) -> bool
+    ensures { IsTrue result ↔ (one ≡ other) }
+{
+    is_same_motor(one.motor, other.motor) && one.opens == other.opens
+}
+
+/// Replaces the outputs of the car at an index, which counts from 0. Nothing is written where they are the same, as a car's mostly are.
+#[inline(always)]
+pub fn replace(outputs: &mut Outputs, index: usize, new: CarOutputs)
+    requires { index < length outputs.old }
+    ensures { outputs.new ≡ slice_set outputs.old index new }
+{
+    if !is_same(outputs.as_slice()[index], new) {
+        outputs.set(index, new);
+    }
 }

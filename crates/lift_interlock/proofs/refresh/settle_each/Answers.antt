@@ -71,14 +71,14 @@ loop-index-preserved c =
     let all : length cars ≡ length c.args.fields.now.cars = ap length c.as_slice-cars.ensures in
     let below_all : i < length cars = omega (arith, c.loop-index-test.true, c.len-count.ensures.count, all) in
     let within : i < length now = omega (arith, below_all, as_many, c.loop-index.invariant.long) in
-    let grown : take (i + 1) c.set.new.self ≡ take i now ++ c.settled.inside.outputs ∷ [] = ap (take (i + 1)) c.set.ensures ∙ take_more_set now i c.settled.inside.outputs within in
+    let grown : take (i + 1) c.replace.new.outputs ≡ take i now ++ c.settled.inside.outputs ∷ [] = ap (take (i + 1)) c.replace.ensures ∙ take_more_set now i c.settled.inside.outputs within in
     record {
-      outputs = outputs_more group able cars before i no_car no_outputs (take i now) (take (i + 1) c.set.new.self) _ c.settled.inside.outputs below_all as_many told grown c.loop-index.invariant.outputs;
+      outputs = outputs_more group able cars before i no_car no_outputs (take i now) (take (i + 1) c.replace.new.outputs) _ c.settled.inside.outputs below_all as_many told grown c.loop-index.invariant.outputs;
       denials = denials_more group able cars before i no_car no_outputs _ _ _ _ below_all as_many rules c.add_denials.ensures c.loop-index.invariant.denials;
-      rest = ap (drop (i + 1)) c.set.ensures ∙ drop-set-lt (i + 1) now i c.settled.inside.outputs (omega arith) ∙ next_rest now before i c.loop-index.invariant.rest;
-      long = ap length c.set.ensures ∙ length-set now i c.settled.inside.outputs ∙ c.loop-index.invariant.long;
-      ran = next_on group cars before (take i now) (take (i + 1) c.set.new.self) i no_car no_outputs c.settled.inside.outputs below_all as_many told grown c.loop-index.invariant.ran;
-      count = counted (take i now) (take (i + 1) c.set.new.self) c.settled.inside.outputs c.loop-index.running _ c.loop-index.invariant.count (c.from-running.ensures ∙ byte_flag _ ∙ ap flag c.runs.ensures) grown;
+      rest = ap (drop (i + 1)) c.replace.ensures ∙ drop-set-lt (i + 1) now i c.settled.inside.outputs (omega arith) ∙ next_rest now before i c.loop-index.invariant.rest;
+      long = ap length c.replace.ensures ∙ length-set now i c.settled.inside.outputs ∙ c.loop-index.invariant.long;
+      ran = next_on group cars before (take i now) (take (i + 1) c.replace.new.outputs) i no_car no_outputs c.settled.inside.outputs below_all as_many told grown c.loop-index.invariant.ran;
+      count = counted (take i now) (take (i + 1) c.replace.new.outputs) c.settled.inside.outputs c.loop-index.running _ c.loop-index.invariant.count (c.from-running.ensures ∙ byte_flag _ ∙ ap flag c.runs.ensures) grown;
       room = room_stays group able (i + 1) f o _ _ _ i rules c.add_denials.ensures c.loop-index.invariant.room;
     }
 
