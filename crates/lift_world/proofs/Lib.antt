@@ -13,3 +13,4 @@ pub mod Happening
 pub mod Alone
 pub mod Handing
 mod Standings
+pub mod Nobody

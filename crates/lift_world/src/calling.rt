@@ -1,6 +1,6 @@
 // What events do to the calls, and the rows of a report.
 
-ghost use Rattle.std.specs.Prelude.{◌≡◌, ℕ, List, Option, ◌≤◌, ◌<◌, ◌+◌, ◌-◌, ◌∷◌, [], length, slice_get};
+ghost use Rattle.std.specs.Prelude.{◌≡◌, ℕ, List, All, IsTrue, Option, ◌≤◌, ◌<◌, ◌+◌, ◌-◌, ◌∷◌, [], length, slice_get};
 ghost use Rattle.lift_spec.specs.Calls.{enter_all};
 ghost use Rattle.lift_spec.specs.Settle.{denials_of};
 ghost use Rattle.lift_spec.specs.World.{flat, serve_with, serve_wish, tell_with, tell_all};
@@ -111,6 +111,17 @@ fn tell(
     });
 }
 
+// Whether there is no car among these; 0 is none. All are looked at, and so the machine takes many in a step.
+fn are_none(cars: &[u8]) -> bool
+    ensures { IsTrue result → All (λ car. car ≡ 0) cars.now }
+{
+    let mut greatest = 0;
+    'cars: for car in cars {
+        greatest = u8::max(greatest, *car);
+    }
+    greatest == 0
+}
+
 /// Tells each call to the car that GROUP assigned to its slot, in the order of the slots, under the tickets that its scan saw.
 pub fn tell_all(
     calls: &mut CallBook,
@@ -123,6 +134,9 @@ pub fn tell_all(
     ensures { tell_all calls.old [] 1 tickets.now cars.now ≡ (calls.new, answers.new) }
 {
     clear(answers);
+    if are_none(cars) {
+        return;
+    }
     for slot in 0..tickets.len() {
         tell(calls, slot as u8 + 1, tickets[slot], cars[slot], answers);
     }

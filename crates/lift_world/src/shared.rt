@@ -22,7 +22,7 @@ use crate::taking::{take_fields, take_outputs};
 use crate::tickets::Tickets;
 use il_machine::{Begin, FirstRows, Rows, Store, Value, Verified, opening_image, variable};
 use lift_calls::book::CallBook;
-use lift_interlock::{settle_car, settle_each};
+use lift_interlock::{replace, settle_car, settle_each};
 use lift_spec::calls::Slot;
 use lift_spec::hand::Hand;
 use lift_spec::report::Report;
@@ -205,7 +205,7 @@ fn settle(image: &mut Image, car: u8, motor: Motor, opens: bool, report: &mut Re
 {
     let _room = image.outputs.len();
     let settled = settle_car(image, car, motor, opens);
-    image.outputs.set(usize::from(car - 1), settled.outputs);
+    replace(&mut image.outputs, usize::from(car - 1), settled.outputs);
     take_outputs(&mut report.outputs, &image.outputs);
     report_denials(&mut report.denials, car, settled.denials.as_slice());
     clear(&mut report.entered);

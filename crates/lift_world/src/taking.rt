@@ -2,24 +2,8 @@
 
 ghost use Rattle.std.specs.Prelude.{◌≡◌, true};
 
-use lift_spec::{Bounded, CAR_PLACES, CarFields, CarOutputs, Fields, Motor, Outputs};
-
-// Whether two motors are the same.
-fn is_same_motor(one: Motor, other: Motor) -> bool
-    ensures { result ≡ true → one ≡ other }
-{
-    match (one, other) {
-        (Motor::Up, Motor::Up) | (Motor::Down, Motor::Down) | (Motor::Still, Motor::Still) => true,
-        _ => false,
-    }
-}
-
-// Whether the outputs of two cars are the same.
-fn is_same(one: CarOutputs, other: CarOutputs) -> bool
-    ensures { result ≡ true → one ≡ other }
-{
-    is_same_motor(one.motor, other.motor) && one.opens == other.opens
-}
+use lift_interlock::is_same;
+use lift_spec::{Bounded, CAR_PLACES, CarFields, CarOutputs, Fields, Outputs};
 
 // Whether the outputs of all cars are the same.
 fn are_same(outputs: &[CarOutputs], others: &[CarOutputs]) -> bool
