@@ -12,4 +12,5 @@ pub mod Replying
 pub mod Happening
 pub mod Alone
 pub mod Handing
+pub mod Whole
 mod Standings
