@@ -1,10 +1,10 @@
 -- What the world's calls say of the events that they hand in.
-use Rattle.std.proofs.Common.{◌≡◌, ℕ, zero, suc, ◌≤◌, ◌+◌, List, [], ◌∷◌, ◌++◌, replicate, take, drop, length, Result, Ok, Err, IfOk, IfErr, OnOk, refl, sym, ap, ◌∙◌, subst, arith, Some, None}
-use Rattle.std.specs.Prelude.{slice_get}
+use Rattle.std.proofs.Common.{◌≡◌, ℕ, zero, suc, ◌≤◌, ◌+◌, List, [], ◌∷◌, ◌++◌, replicate, take, drop, length, Result, Ok, Err, IfOk, refl, sym, ap, ◌∙◌, subst, arith, Option, Some, None, true, false}
+use Rattle.std.specs.Prelude.{slice_get, is_some}
 use Rattle.il_spec.specs.declared.tree.Config.{Config}
-use Rattle.il_machine.specs.Scanning.{Program, IsRunnable, HasTask}
+use Rattle.il_machine.specs.Scanning.{Program, IsRunnable}
 use Rattle.il_machine.proofs.Scans.{sound_of}
-use Rattle.lift_spec.specs.declared.event.Event.TheVariants.{Start, Instruction, Commit, Refresh}
+use Rattle.lift_spec.specs.declared.event.Event.TheVariants.{Instruction, Commit, Refresh}
 use Rattle.lift_spec.specs.declared.image.Fields.{Fields}
 use Rattle.lift_spec.specs.Hands.{IsInOrder}
 use Rattle.lift_spec.specs.Image.{sizes_of, FieldsInRange}
@@ -13,17 +13,18 @@ use Rattle.lift_spec.specs.declared.event.Reply.{Reply as Answer}
 use Rattle.lift_spec.specs.declared.event.Reply.TheVariants as answer
 use Rattle.lift_spec.specs.declared.report.Report.{Report}
 use Rattle.lift_spec.specs.declared.trace.TraceEvent.{TraceEvent}
-use Rattle.lift_spec.specs.Replies.{Reply, More, Committed, Refreshed, Refused, reply_with}
-use Rattle.lift_spec.specs.World.{World, happens, run}
+use Rattle.lift_spec.specs.Replies.{More, Committed, Refreshed, reply_with}
+use Rattle.lift_spec.specs.World.{World, happens, run, scan_at}
 use Rattle.lift_run_laws.specs.Runs.{IsReached}
 use Rattle.lift_journal.specs.Journal.{IsAccepted}
 use Rattle.lift_journal.specs.Entered.{AllHaveWords}
-use Rattle.lift_journal.specs.Rounds.{ending, entered_calls_of, Scans, Takes, TakesAll, Refuses, IsRefusedAt}
+use Rattle.lift_journal.specs.Rounds.{ending, entered_calls_of, Takes, TakesAll, Refuses, IsRefusedAt}
 use Rattle.lift_journal.proofs.Journals.{Led}
-use Rattle.lift_journal.proofs.Taking.{IsClosed, IsBegun, start_begins, begun_taken, finished, scan_closes, refresh_taken, entered_are}
+use Rattle.lift_journal.proofs.Taking.{IsClosed, finished, scan_closes, refresh_taken, entered_are}
 use Rattle.lift_journal.proofs.Calls.{have_words}
 use Rattle.il_machine.proofs.Sizes.{sizes_fit}
 use Rattle.lift_world.specs.Running.{instructions, up_to_end}
+use Rattle.lift_world.specs.Worlds.{IsWholeScan}
 use Rattle.lift_runs.specs.Shown.{FinishesReporting, ScansReporting}
 use Rattle.lift_runs.proofs.Driving.{take_next}
 
@@ -72,20 +73,24 @@ commits p q same w u v t (Ok n) a report other steps commit =
     in
     (rest.0, committed_is a report rest.0.report rest.1)
 
-module _ (p : Program) (runs : IsRunnable p.config) (w v x : World) (t : ℕ) (task : HasTask p.config t) (closed : IsClosed w) (reached : IsReached p.config w) (r : Reply) (start : happens p.config w (Start t) ≡ Ok (v, r)) where
-  begun : IsBegun p.config t w v r
-  begun = start_begins p.config (sound_of p.config runs) w v t task.0 r reached task.1 (closed t) start
+none_of : {X : Type 0} (o : Option X) → is_some o ≡ false → o ≡ None
+none_of None e = refl
+none_of (Some x) e = let bad : true ≡ false = e in cc
 
-  -- a task's scan
-  pub scans : {A : Type 0} (q : Program) → q ≡ p → (result : Result A EventFault) (report : Report) → OnOk result (FinishesReporting q.config t v x report) → IfErr result (λ fault. (x ≡ v) × (happens q.config v (Instruction t) ≡ Ok (v, Refused fault)))
-      → ScansReporting p.config t w x report
-  scans q same (Ok done) report taken refused =
-      let rest = subst (λ (y : Program). FinishesReporting y.config t v x report) same taken in
-      (record { started = v; start = start ∙ ap (Led v) begun.started; rest = rest.0 }, rest.1)
-  scans q same (Err fault) report taken refused = absurd (begun_taken p.config w v t r fault begun (subst (λ (y : Program). happens y.config v (Instruction t) ≡ Ok (v, Refused fault)) same refused.1))
+-- where no scan is open, none is of a task
+pub none_open : (w : World) (t : ℕ) → IsClosed w → scan_at w t ≡ None
+none_open w t closed = none_of (scan_at w t) (closed t)
 
-  pub closes : Scans p.config t w x → IsClosed x
-  closes s = scan_closes p.config (sound_of p.config runs) t w x reached s closed
+-- a whole scan of a task
+module _ (p : Program) (w x : World) (t : ℕ) (report : Report) (whole : IsWholeScan p.config t w x report) where
+  pub scans : ScansReporting p.config t w x report
+  scans =
+      let steps = ap (run p.config whole.begun []) (sym (instructions_are t whole.count)) ∙ whole.steps ∙ ap (λ rs. Ok (whole.ended, rs)) (replies_are whole.count) in
+      (record { started = whole.begun; start = whole.start; rest = record { at_end = whole.ended; finish = record { instructions = whole.count; steps = steps }; report = report; commit = whole.commit } }, refl)
+
+  -- behind it no scan is open, if none was
+  pub closes : IsRunnable p.config → IsReached p.config w → IsClosed w → IsClosed x
+  closes runs reached closed = scan_closes p.config (sound_of p.config runs) t w x reached scans.0 closed
 
 -- REFRESHES
 

@@ -56,6 +56,5 @@ pub fn scan(world: &mut World, task: u8, report: &mut Report)
     ensures same { world.new.program ≡ world.old.program }
 {
     let _config = world.verified().config();
-    world.apply(&Event::Start(task), report);
-    let _done = finish_and_commit(world, task, report);
+    world.scan_whole(task, report);
 }

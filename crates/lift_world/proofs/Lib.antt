@@ -12,5 +12,6 @@ pub mod Replying
 pub mod Happening
 pub mod Alone
 pub mod Handing
+pub mod Whole
 mod Standings
 pub mod Nobody

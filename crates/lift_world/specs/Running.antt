@@ -1,5 +1,5 @@
 -- What the tasks share, as rows and as the group of the definitions, and replies (own rules).
-use Rattle.std.specs.Prelude.{◌≡◌, ℕ, zero, suc, ◌+◌, Bool, false, List, [], ◌∷◌, length, slice_get, slice_set, Option, Some, None, is_some}
+use Rattle.std.specs.Prelude.{◌≡◌, ℕ, zero, suc, ◌+◌, Bool, false, List, [], ◌∷◌, ◌++◌, length, slice_get, slice_set, Option, Some, None, is_some}
 use Rattle.il_spec.specs.declared.tree.Config.{Config}
 use Rattle.il_run.specs.State.{Values}
 use Rattle.il_machine.specs.Scanning.{IsRunnable, OwnsDeclared, FitsOwn, variables_in}
@@ -16,7 +16,7 @@ use Rattle.lift_spec.specs.declared.report.Report.{Report}
 use Rattle.lift_spec.specs.declared.event.Reply.{Reply as Answer}
 use Rattle.lift_spec.specs.declared.event.Reply.TheVariants as answer
 use Rattle.lift_spec.specs.declared.event.Event.{Event}
-use Rattle.lift_spec.specs.declared.event.Event.TheVariants.{Instruction, Commit, Refresh}
+use Rattle.lift_spec.specs.declared.event.Event.TheVariants.{Start, Instruction, Commit, Refresh}
 use Rattle.lift_run_laws.specs.Holding.{TicketsHold}
 use Rattle.lift_world.specs.declared.shared.Shared.{Shared}
 use Rattle.lift_world.specs.declared.shared.TaskMemory.{TaskMemory}
@@ -187,3 +187,7 @@ abbrev pub up_to_end : ℕ → List Reply
 up_to_end zero = []
 up_to_end (suc zero) = End ∷ []
 up_to_end (suc (suc n)) = More ∷ up_to_end (suc n)
+
+-- the events of a whole scan of a task, with so many instructions
+abbrev pub scan_events : ℕ → ℕ → List Event
+scan_events t n = Start t ∷ (instructions t n ++ Commit t ∷ [])

@@ -9,9 +9,11 @@ use Rattle.il_run.specs.Step.{step, Next}
 use Rattle.il_machine.specs.Listing.{TaskLine, task_line}
 use Rattle.il_machine.specs.Scanning.{Program, verified_code, IsRunnable}
 use Rattle.il_machine.specs.Standing.{Standing, IsOf}
-use Rattle.lift_spec.specs.Replies.{Reply}
-use Rattle.lift_spec.specs.World.{World, happens}
+use Rattle.lift_spec.specs.Replies.{Reply, Started, Committed}
+use Rattle.lift_spec.specs.World.{World, happens, run}
 use Rattle.lift_spec.specs.declared.event.Event.{Event}
+use Rattle.lift_spec.specs.declared.event.Event.TheVariants.{Start, Commit}
+use Rattle.lift_spec.specs.declared.report.Report.{Report}
 use Rattle.lift_spec.specs.WorldCodes.{world_code}
 use Rattle.lift_spec.specs.declared.event.Reply.{Reply as Answer}
 use Rattle.lift_spec.specs.declared.event.Reply.TheVariants as answer
@@ -19,6 +21,7 @@ use Rattle.lift_run_laws.specs.Tasks.{IsTaskOf, budget_of}
 use Rattle.lift_run_laws.specs.Runs.{IsReached}
 use Rattle.lift_world.specs.declared.controller.Controller.{Controller}
 use Rattle.lift_world.specs.Groups.{world_by, StoresFit}
+use Rattle.lift_world.specs.Running.{instructions, up_to_end}
 
 -- a verified configuration, and its world
 pub record WorldOf : Type 0 where
@@ -68,3 +71,15 @@ pub record RunsOut (c : Config) (t : ℕ) (before : Standing) (after : Option St
   pub some : 1 ≤ n
   pub steps : Reaches c n before.state store.state
   pub ended : store.state.frames ≡ []
+
+-- WHOLE SCANS
+
+-- a whole scan of a task: its start, its instructions to the end, and its commit, which reports this
+pub record IsWholeScan (c : Config) (t : ℕ) (w v : World) (report : Report) : Type 0 where
+  pub begun : World
+  pub start : happens c w (Start t) ≡ Ok (begun, Started)
+  pub count : ℕ
+  pub some : 1 ≤ count
+  pub ended : World
+  pub steps : run c begun [] (instructions t count) ≡ Ok (ended, up_to_end count)
+  pub commit : happens c ended (Commit t) ≡ Ok (v, Committed report)

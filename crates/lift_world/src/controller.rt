@@ -1,6 +1,7 @@
 // A lift group: what the tasks share, where their scans stand, and its calls.
 
-ghost use Rattle.std.specs.Prelude.{◌≡◌, ◌≢◌, ℕ, suc, ◌+◌, ◌≤◌, [], length, slice_get, is_some, option_and_then, option_map, Some, Ok, IfOk, IfErr, IfSome, IsSome};
+ghost use Rattle.std.specs.Prelude.{◌≡◌, ◌≢◌, ℕ, suc, ◌+◌, ◌≤◌, [], length, slice_get, is_some, option_and_then, option_map, Some, None, Ok, IfOk, IfErr, IfSome, IsSome};
+ghost use Rattle.il_machine.specs.Scanning.{HasTask};
 ghost use Rattle.il_machine.specs.Standing.{Standing, IsOf};
 ghost use Rattle.il_table.specs.NameMap as values;
 ghost use Rattle.lift_spec.specs.Image.{sizes_of, FieldsInRange, Obeys};
@@ -14,7 +15,7 @@ ghost use Rattle.lift_spec.specs.World.{TaskState, task_at};
 ghost use Rattle.lift_spec.specs.World as model;
 ghost use Rattle.lift_world.specs.Running.{reports_by, may_report, reporting, instructions, up_to_end};
 ghost use Rattle.lift_world.specs.Groups.{StoresFit};
-ghost use Rattle.lift_world.specs.Worlds.{world_in, IsController, Happens, Steps, RunsOut};
+ghost use Rattle.lift_world.specs.Worlds.{world_in, IsController, Happens, Steps, RunsOut, IsWholeScan};
 
 use crate::group::Core;
 use crate::held::{Held, refresh};
@@ -429,5 +430,24 @@ impl Controller {
             return Err(EventFault::NoOpenScan);
         }
         run_out(&self.verified, task, &mut self.stores[usize::from(task)])
+    }
+
+    /// A whole scan of a task that has none open: its start, its instructions to the end, and its commit, which writes the report.
+    #[inline(always)]
+    pub fn scan_whole(&mut self, task: u8, report: &mut Report)
+        requires world { IsController self.old }
+        requires there { HasTask self.old.verified.config task }
+        requires closed { model.scan_at (world_in self.old) task ≡ None }
+        ensures scan { IsWholeScan self.old.verified.config task (world_in self.old)
+            (world_in self.new) report.new }
+        ensures same { self.new.verified ≡ self.old.verified }
+        ensures world { IsController self.new }
+    {
+        let Some(scan) = &mut self.stores[usize::from(task)] else {
+            unreachable!()
+        };
+        self.core.start(&self.verified, task, scan);
+        finish(&self.verified, task, scan);
+        self.core.commit(&self.verified, task, scan, report);
     }
 }

@@ -1,10 +1,11 @@
 // The world.
 
 ghost use Rattle.il_spec.specs.declared.fault.Refusal.TheVariants.{Memory};
-ghost use Rattle.std.specs.Prelude.{◌≡◌, ℕ, ◌+◌, ◌≤◌, [], ◌∷◌, length, option_and_then, option_map, IfOk, IfErr, IfSome, Ok, Some};
+ghost use Rattle.std.specs.Prelude.{◌≡◌, ℕ, ◌+◌, ◌≤◌, [], ◌∷◌, length, option_and_then, option_map, IfOk, IfErr, IfSome, Ok, Some, None};
 ghost use Rattle.il_spec.specs.declared.tree.Unit.{Unit as Organized};
 ghost use Rattle.il_table.specs.NameMap as values;
 ghost use Rattle.il_machine.specs.Listing.{TaskLine, task_line};
+ghost use Rattle.il_machine.specs.Scanning.{HasTask};
 ghost use Rattle.il_machine.specs.Standing.{IsOf};
 ghost use Rattle.lift_spec.specs.Calls.{slot_at};
 ghost use Rattle.lift_spec.specs.Image.{sizes_of, FieldsInRange, Obeys};
@@ -15,8 +16,8 @@ ghost use Rattle.lift_spec.specs.World as model;
 ghost use Rattle.lift_run_laws.specs.Tasks.{budget_of};
 ghost use Rattle.lift_run_laws.specs.Runs.{IsReached};
 ghost use Rattle.lift_run_laws.specs.Histories.{CallGoesWell};
-ghost use Rattle.lift_world.specs.Running.{reports_by, reporting, instructions, up_to_end};
-ghost use Rattle.lift_world.specs.Worlds.{PrintsEachBudget};
+ghost use Rattle.lift_world.specs.Running.{reports_by, reporting, instructions, up_to_end, scan_events};
+ghost use Rattle.lift_world.specs.Worlds.{PrintsEachBudget, IsWholeScan};
 
 use crate::controller::Controller;
 use crate::replies::Replies;
@@ -135,6 +136,22 @@ impl World {
         ensures printed { PrintsEachBudget self.old.program }
     {
         self.group.finish(task)
+    }
+
+    /// A whole scan of a task that has none open: its start, its instructions to the end, and its commit, which writes the report.
+    #[inline(always)]
+    pub fn scan_whole(&mut self, task: u8, report: &mut Report)
+        requires there { HasTask self.old.program.config task }
+        requires closed { model.scan_at self.old.world task ≡ None }
+        ensures scan { IsWholeScan self.old.program.config task self.old.world self.new.world
+            report.new }
+        ensures same { self.new.program ≡ self.old.program }
+        ensures well { (n : ℕ)
+            → CallGoesWell self.old.program.config self.old.world (scan_events task n) }
+        ensures reached { IsReached self.old.program.config self.old.world }
+        ensures printed { PrintsEachBudget self.old.program }
+    {
+        self.group.scan_whole(task, report);
     }
 
     /// The image. It lies in its ranges and obeys the interlock.
