@@ -1,4 +1,4 @@
-use Rattle.std.proofs.Common.{◌≡◌, All, length, subst, arith}
+use Rattle.std.proofs.Common.{◌≡◌, All, subst, arith}
 use Rattle.std.specs.Prelude.{nat_eq, slice_index_or}
 use Rattle.std.proofs.lemmas.List.{take_all}
 use Rattle.lift_world.proofs.Nobody.{none_more, both_true, zero_from}
