@@ -15,6 +15,7 @@ use lift_spec::report::Report;
 use lift_world::World;
 
 /// One event, unless it is refused.
+#[inline(always)]
 pub fn taken(world: &mut World, event: &Event, report: &mut Report) -> Result<(), EventFault>
     ensures taken { OnOk result (Happen world.old.program.config world.old.world (event.now ∷ [])
         world.new.world) }

@@ -1,10 +1,10 @@
 -- A run over the instructions that are left of a scan.
-use Rattle.std.proofs.Common.{◌≡◌, ℕ, zero, suc, ◌≤◌, true, false, List, [], ◌∷◌, ◌++◌, length, Option, Some, None, Ok, refl, sym, ap, ◌∙◌, arith, if◌then◌else◌}
+use Rattle.std.proofs.Common.{◌≡◌, ℕ, zero, suc, ◌≤◌, true, List, [], ◌∷◌, ◌++◌, length, Option, Some, None, Ok, sym, ap, ◌∙◌, arith, if◌then◌else◌}
 use Rattle.std.specs.Prelude.{slice_get, slice_set, is_some}
 use Rattle.std.proofs.lemmas.List.{append_assoc}
 use Rattle.il_spec.specs.declared.tree.Config.{Config}
-use Rattle.il_run.specs.State.{Frame, State}
-use Rattle.il_run.specs.Step.{Next, Stuck, step, step_of}
+use Rattle.il_run.specs.State.{State}
+use Rattle.il_run.specs.Step.{Next, step}
 use Rattle.il_run.specs.Scan.{Reaches, has_ended}
 use Rattle.il_machine.specs.Standing.{Standing}
 use Rattle.lift_run_laws.proofs.Unended.{unended}

@@ -1,5 +1,5 @@
 -- A whole scan of a task, from its start to its commit.
-use Rattle.std.proofs.Common.{◌≡◌, ◌≢◌, ℕ, ◌≤◌, ◌<◌, Bool, true, false, List, [], map, length, Option, Some, None, Ok, refl, sym, ap, ◌∙◌}
+use Rattle.std.proofs.Common.{◌≡◌, ◌≢◌, ℕ, ◌≤◌, Bool, true, false, List, [], map, Option, Some, None, Ok, refl, sym, ap, ◌∙◌}
 use Rattle.std.specs.Prelude.{slice_get, slice_set, is_some}
 use Rattle.il_spec.specs.declared.tree.Config.{Config}
 use Rattle.il_spec.specs.declared.tree.Unit.{Unit as Organized}
@@ -17,7 +17,7 @@ use Rattle.lift_run_laws.specs.Runs.{IsReached}
 use Rattle.lift_world.specs.declared.controller.Controller.{Controller}
 use Rattle.lift_world.specs.Running.{instructions, up_to_end}
 use Rattle.lift_world.specs.Groups.{world_by, StoresFit}
-use Rattle.lift_world.specs.Worlds.{world_in, IsController, RunsOut, IsWholeScan}
+use Rattle.lift_world.specs.Worlds.{world_in, IsController, IsWholeScan}
 use Rattle.lift_world.proofs.Views.{set_again, set_there, within}
 use Rattle.lift_world.proofs.Keeping.{stores_step, stores_task}
 use Rattle.lift_world.proofs.Sound.{reached_well, one_event, many_events}

@@ -115,11 +115,11 @@ fn tell(
 fn are_none(cars: &[u8]) -> bool
     ensures { IsTrue result → All (λ car. car ≡ 0) cars.now }
 {
-    let mut greatest = 0;
+    let mut none = true;
     'cars: for car in cars {
-        greatest = u8::max(greatest, *car);
+        none &= *car == 0;
     }
-    greatest == 0
+    none
 }
 
 /// Tells each call to the car that GROUP assigned to its slot, in the order of the slots, under the tickets that its scan saw.

@@ -1,4 +1,4 @@
-use Rattle.std.proofs.Common.{rules, sym, ap, ◌∙◌, true, false}
+use Rattle.std.proofs.Common.{rules, sym, ap, ◌∙◌}
 use Rattle.std.specs.Prelude.{option_map}
 use Rattle.il_machine.specs.Standing.{Standing}
 use Rattle.lift_world.proofs.Happening.{store_within, lent_is}

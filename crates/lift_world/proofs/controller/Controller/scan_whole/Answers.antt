@@ -1,4 +1,4 @@
-use Rattle.std.proofs.Common.{rules, ◌≡◌, ◌∙◌, sym, ap, refl, subst, true, false}
+use Rattle.std.proofs.Common.{rules, ◌≡◌, ◌∙◌, sym, ap, refl, true, false}
 use Rattle.std.specs.Prelude.{is_some}
 use Rattle.lift_world.proofs.Happening.{store_within, lent_is, lent_of}
 use Rattle.lift_world.proofs.Whole.{the_task, there_so, going, opened, scans, leaves}

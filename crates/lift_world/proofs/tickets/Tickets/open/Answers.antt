@@ -1,4 +1,4 @@
-use Rattle.std.proofs.Common.{◌≡◌, ◌∙◌, true, ap, map, length, drop, arith, ◌++◌, ℤ, Bool, Option, Some, ℕ, List}
+use Rattle.std.proofs.Common.{◌≡◌, ◌∙◌, true, ap, map, length, drop, arith, ℤ, Bool, Option, Some, ℕ, List}
 use Rattle.std.proofs.lemmas.List.{length-map, take_at}
 use Rattle.lift_spec.specs.Calls.{ticket_of}
 use Rattle.lift_world.specs.Seen.{seen_by}
