@@ -2,16 +2,18 @@
 use Rattle.std.proofs.Common.{◌≡◌, ◌≤◌, ℕ, take, length, refl, sym, ap, ap₂, ◌∙◌, Some, subst, arith, length-append}
 use Rattle.il_spec.specs.declared.tree.Config.{Config}
 use Rattle.il_spec.specs.declared.tree.Unit.{Unit as ProgramUnit}
-use Rattle.il_run.specs.Scan.{restricted}
+use Rattle.il_run.specs.Scan.{restricted, begins}
 use Rattle.il_run.specs.Ranges.{HoldsTask}
+use Rattle.il_table.specs.NameMap.{from_entries}
 use Rattle.il_table.specs.ByText.{HaveSameNames}
 use Rattle.il_scan_laws.specs.Agreement.{Holds}
 use Rattle.il_layout.specs.Layout.{Rows, rows, Fits}
 use Rattle.il_layout.specs.Program.{own_cells, seen_cells, program_cells}
 use Rattle.il_exec.specs.Going.{Stored}
-use Rattle.lift_spec.specs.Snapshot.{program_of}
+use Rattle.lift_spec.specs.Snapshot.{Beginning, program_of, given_entries, begins_by, scan_begins}
 use Rattle.lift_run_laws.specs.Tasks.{IsTaskOf}
 use Rattle.il_machine.specs.Scanning.{IsRunnable, front, own_view, own_count, kept_by, kept_of, state_of, variables_in, FitsOwn, IsScanOf, OwnsDeclared}
+use Rattle.il_machine.specs.Standing.{StillHas}
 use Rattle.il_machine.proofs.Over.{front_fits, restricted_is}
 use Rattle.il_machine.proofs.Owned.{own_names, own_held}
 use Rattle.il_machine.proofs.Scans.{accepted, state_is}
@@ -96,3 +98,14 @@ module _ (c : Config) (runs : IsRunnable c) (task : ℕ) (s : Stored) (scan : Is
   takes_own r after fits wrote =
       let here = fits_here r fits in
       subst (FitsOwn c task) (sym (wrote ∙ ap₂ (λ n m. rows (take n s.rows.numbers) (take m s.rows.flags)) here.numbers here.flags)) (part_own (length (own_cells c u)) refl)
+
+  -- variables that the scan still has stand at the front of its rows
+  pub still_there : (v : Rows) → FitsOwn c task v → StillHas (variables_in c task v) (state_of (kept_of c task s)) → variables_in c task (front (length v.numbers) s.rows) ≡ variables_in c task v
+  still_there v fits still = left_so v (front (length v.numbers) s.rows) fits (part_variables (length v.numbers) (fits_here v fits).numbers) ∙ still
+
+-- a scan's start has the variables with which it begins
+pub start_has : (c : Config) (task : ℕ) (u : ProgramUnit) → IsTaskOf c task u → (b : Beginning) → StillHas b.variables (scan_begins c task b)
+unfolding begins scan_begins
+start_has c task u is b =
+    ap (λ o. restricted b.variables (begins_by c task b o).values) is.program
+    ∙ restricted_is b.variables b.variables (from_entries (given_entries c task u b.snapshot)) (λ q. refl)

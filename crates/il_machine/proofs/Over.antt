@@ -78,7 +78,8 @@ view_parts (c ∷ cs) seen (z ∷ zs) (b ∷ bs) n f =
 pub parts_are : (own seen : List Cell) (r : Rows) → Fits (own ++ seen) r → over (view seen (behind (length own) r)) (view own (front (length own) r)) ≡ view (own ++ seen) r
 parts_are own seen r fits = view_parts own seen r.numbers r.flags fits.numbers fits.flags
 
-front_length : {A : Type 0} (n m : ℕ) (xs : List A) → n ≤ m → length xs ≡ m → length (take n xs) ≡ n
+-- so many are at the front
+pub front_length : {A : Type 0} (n m : ℕ) (xs : List A) → n ≤ m → length xs ≡ m → length (take n xs) ≡ n
 front_length n m xs h is = let l = length-take n xs in omega (arith, is, l, h)
 
 -- the first rows fit the first slots

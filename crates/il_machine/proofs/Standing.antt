@@ -39,6 +39,9 @@ module _ (k : Config) (n : ℕ) (old : Stored) (s : Standing) (view_is : standin
   task_is : n ≡ task
   task_is = ap (λ (x : Standing). x.task) view_is ∙ of.1
 
+  pub runs_here : IsRunnable k → IsRunnable c
+  runs_here = subst IsRunnable config_is
+
   -- by what is asked for
   pub now_is : standing c task old ≡ s
   now_is = ap₂ (λ a m. standing a m old) (sym config_is) (sym task_is) ∙ view_is

@@ -7,7 +7,7 @@ use Rattle.il_spec.specs.declared.tree.Unit.{Unit as ProgramUnit}
 use Rattle.il_table.specs.NameMap.{empty}
 use Rattle.il_run.specs.State.{Values, State}
 use Rattle.il_run.specs.Ranges.{HoldGlobals}
-use Rattle.il_run.specs.Scan.{Reaches, opening_variables}
+use Rattle.il_run.specs.Scan.{Reaches, opening_variables, restricted}
 use Rattle.il_layout.specs.Layout.{Rows}
 use Rattle.lift_spec.specs.declared.calls.Slot.{Slot}
 use Rattle.lift_spec.specs.declared.image.Image.{Image}
@@ -39,6 +39,10 @@ IsOf c task s = (s.config ≡ c) × (s.task ≡ task)
 pub record IsAtStart (s : Standing) : Type 0 where
   pub beginning : Beginning
   pub begins : s.state ≡ scan_begins s.config s.task beginning
+
+-- a state still has these values of a task's variables
+abbrev pub StillHas : Values → State → Type 0
+StillHas variables s = restricted variables s.values ≡ variables
 
 -- BEGINNINGS
 

@@ -15,7 +15,7 @@ ghost use Rattle.lift_spec.specs.Snapshot.{scan_begins, program_of, written_glob
 ghost use Rattle.il_snapshot.specs.Image.{image_values};
 ghost use Rattle.il_machine.specs.Standing.{IsBeginning, beginning_in, beginning_with, opening_beginning};
 ghost use Rattle.il_machine.specs.Starting.{joined, listed_values, FitsTask};
-ghost use Rattle.il_machine.specs.Scanning.{IsRunnable, kept_of, variables_in, HasTask, FitsOwn, IsScanOf, OwnsDeclared};
+ghost use Rattle.il_machine.specs.Scanning.{IsRunnable, kept_of, variables_in, front, HasTask, FitsOwn, IsScanOf, OwnsDeclared};
 ghost use Rattle.il_machine.specs.Sharing.{globals_in, FitsGlobals};
 ghost use Rattle.il_machine.specs.Ran.{stands};
 
@@ -70,35 +70,32 @@ pub fn finish(verified: &Verified, task: u8, scan: &mut ScanState) -> u32
     scan.run(verified.running(task), budget)
 }
 
-// Writes what a scan starts with: the task's variables, the globals that its program lists, and the image.
-fn write_start(
+// Writes what a scan starts with behind the task's variables: the globals that its program lists, and the image.
+fn write_seen(
     rows: &mut Rows,
+    own: usize,
     sizes: Sizes,
     task: u8,
-    variables: &Rows,
     listed: Listed<'_>,
     image: &Image,
     calls: &CallBook,
 )
     requires fields { task ≤ length image.now.fields.cars }
     requires outputs { task ≤ length image.now.outputs }
-    requires same { length variables.now.flags ≡ length variables.now.numbers }
     requires numbers { length rows.old.numbers
-        ≡ length variables.now.numbers
+        ≡ own
         + (length listed.slots.now
         + length (image_values sizes task image.now calls.now.slots)) }
     requires flags { length rows.old.flags
-        ≡ length variables.now.numbers
+        ≡ own
         + (length listed.slots.now
         + length (image_values sizes task image.now calls.now.slots)) }
     ensures { (given : List (Text × Written))
         → map (λ e. e.1) given
         ≡ listed_values listed.entry ++ image_values sizes task image.now calls.now.slots
-        → rows.new ≡ joined variables.now (first_rows given) }
+        → rows.new ≡ joined (front own rows.old) (first_rows given) }
 {
     let _room = rows.numbers.len();
-    let own = variables.len();
-    take_front(rows, variables);
     write_listed(rows, own, listed);
     write_image(rows, own + listed.slots.len(), sizes, task, image, calls);
 }
@@ -113,10 +110,13 @@ fn enter(scan: &mut ScanState, frame: Frame)
     scan.result = None;
 }
 
-// A scan's start with what is lent, in rows that are as long as the task's.
-pub fn start(verified: &Verified, task: u8, scan: &mut ScanState, begin: &Begin<'_>)
+// A scan's start with what is lent behind the task's variables, which the first rows hold.
+pub fn start_behind(verified: &Verified, task: u8, scan: &mut ScanState, begin: &Begin<'_>)
     requires rows { FitsTask verified.now.config task scan.old.rows }
     requires begin { IsBeginning verified.now.config task begin.now }
+    requires own { variables_in verified.now.config task
+        (front (length begin.now.variables.now.numbers) scan.old.rows)
+        ≡ variables_in verified.now.config task begin.now.variables.now }
     ensures begins { stands verified.now.config task scan.new
         ≡ scan_begins verified.now.config task (beginning_in verified.now.config task begin.now) }
     ensures scan { IsScanOf verified.now.config task scan.new }
@@ -125,16 +125,29 @@ pub fn start(verified: &Verified, task: u8, scan: &mut ScanState, begin: &Begin<
     let frame = verified.first_frame(task);
     let listed = verified.listed(task, begin.globals);
     let sizes = verified.sizes();
-    write_start(
+    let own = begin.variables.len();
+    write_seen(
         &mut scan.rows,
+        own,
         sizes,
         task,
-        begin.variables,
         listed,
         begin.image,
         begin.calls,
     );
     enter(scan, frame);
+}
+
+// A scan's start with what is lent, in rows that are as long as the task's.
+pub fn start(verified: &Verified, task: u8, scan: &mut ScanState, begin: &Begin<'_>)
+    requires rows { FitsTask verified.now.config task scan.old.rows }
+    requires begin { IsBeginning verified.now.config task begin.now }
+    ensures begins { stands verified.now.config task scan.new
+        ≡ scan_begins verified.now.config task (beginning_in verified.now.config task begin.now) }
+    ensures scan { IsScanOf verified.now.config task scan.new }
+{
+    take_front(&mut scan.rows, begin.variables);
+    start_behind(verified, task, scan, begin);
 }
 
 // Rows of so many slots.

@@ -1,66 +1,22 @@
-use Rattle.std.proofs.Common.{◌<◌, ◌^◌, [], None, ◌++◌, ◌∙◌, ap, ap₂, sym, subst, length, arith}
-use Rattle.std.proofs.lemmas.List.{length-map}
-use Rattle.il_exec.specs.Going.{Stored, going}
-use Rattle.lift_spec.specs.declared.image.Sizes.{Sizes}
-use Rattle.il_snapshot.specs.Image.{image_values}
-use Rattle.il_machine.specs.Sharing.{globals_in}
-use Rattle.il_machine.specs.Starting.{shared_value, listed_values}
-use Rattle.il_machine.proofs.Restarts.{room, given_values, starts_as, starts_scan}
+use Rattle.std.proofs.Common.{ap, length, arith}
+use Rattle.il_exec.specs.Going.{Stored}
+use Rattle.il_machine.proofs.Restarts.{own_room, taken_fits, taken_own}
 use Rattle.il_machine.proofs.scanning.start.Goals as goal
 
-pub listed-listed-requires-clause-there : goal.listed-listed-requires-clause-there
-listed-listed-requires-clause-there c = (c.requires.rows.0, c.requires.rows.1)
-
-pub write_start-requires-clause-numbers : goal.write_start-requires-clause-numbers
-write_start-requires-clause-numbers c =
-    let config = c.args.verified.now.config in
-    let b = c.args.begin.now in
-    let q = c.requires.begin in
-    let values = listed_values c.listed-listed.result in
-    let globals = globals_in config b.globals.now in
-    let short = subst (λ n. n < 2 ^ 63) (c.slot_count-count.ensures.count c.requires.rows.0 c.requires.rows.1.program) c.slot_count-count.ensures.few in
-    let first = (room config c.slot_count-count.ensures.runnable c.args.task c.args.scan.now.rows c.requires.rows short b.variables.now q.variables b.image.now b.calls.now.slots q.fields q.outputs q.slots q.each values globals c.listed-listed.ensures).0 in
-    let many = length-map c.listed-listed.result.slots.now (shared_value c.listed-listed.result.cells.now c.listed-listed.result.rows.now) in
-    let image = ap (λ (z : Sizes). length (image_values z c.args.task b.image.now b.calls.now.slots)) c.sizes-sizes.ensures in
+pub take_front-requires-clause-numbers : goal.take_front-requires-clause-numbers
+take_front-requires-clause-numbers c =
+    let room = (own_room c.args.verified.now.config c.args.task c.args.scan.now.rows c.requires.rows c.args.begin.now.variables.now c.requires.begin.variables).0 in
     let here = ap (λ (s : Stored). length s.rows.numbers) c.scan.view_is in
-    omega (arith, first, many, image, here)
+    omega (arith, room, here)
 
-pub write_start-requires-clause-flags : goal.write_start-requires-clause-flags
-write_start-requires-clause-flags c =
-    let config = c.args.verified.now.config in
-    let b = c.args.begin.now in
-    let q = c.requires.begin in
-    let values = listed_values c.listed-listed.result in
-    let globals = globals_in config b.globals.now in
-    let short = subst (λ n. n < 2 ^ 63) (c.slot_count-count.ensures.count c.requires.rows.0 c.requires.rows.1.program) c.slot_count-count.ensures.few in
-    let first = (room config c.slot_count-count.ensures.runnable c.args.task c.args.scan.now.rows c.requires.rows short b.variables.now q.variables b.image.now b.calls.now.slots q.fields q.outputs q.slots q.each values globals c.listed-listed.ensures).1 in
-    let many = length-map c.listed-listed.result.slots.now (shared_value c.listed-listed.result.cells.now c.listed-listed.result.rows.now) in
-    let image = ap (λ (z : Sizes). length (image_values z c.args.task b.image.now b.calls.now.slots)) c.sizes-sizes.ensures in
+pub take_front-requires-clause-flags : goal.take_front-requires-clause-flags
+take_front-requires-clause-flags c =
+    let room = (own_room c.args.verified.now.config c.args.task c.args.scan.now.rows c.requires.rows c.args.begin.now.variables.now c.requires.begin.variables).1 in
     let here = ap (λ (s : Stored). length s.rows.flags) c.scan.view_is in
-    omega (arith, first, many, image, here)
+    omega (arith, room, here)
 
-pub returns-clause-begins : goal.returns-clause-begins
-returns-clause-begins c =
-    let config = c.args.verified.now.config in
-    let b = c.args.begin.now in
-    let q = c.requires.begin in
-    let values = listed_values c.listed-listed.result in
-    let globals = globals_in config b.globals.now in
-    let short = subst (λ n. n < 2 ^ 63) (c.slot_count-count.ensures.count c.requires.rows.0 c.requires.rows.1.program) c.slot_count-count.ensures.few in
-    let given = given_values config c.slot_count-count.ensures.runnable c.args.task c.args.scan.now.rows c.requires.rows short b.variables.now q.variables b.image.now b.calls.now.slots q.fields q.outputs q.slots q.each values globals c.listed-listed.ensures in
-    let rows = c.write_start.ensures _ (given ∙ ap (λ (z : Sizes). values ++ image_values z c.args.task b.image.now b.calls.now.slots) (sym c.sizes-sizes.ensures)) in
-    starts_as config c.slot_count-count.ensures.runnable c.args.task c.args.scan.now.rows c.requires.rows short b.variables.now q.variables b.image.now b.calls.now.slots q.fields q.outputs q.slots q.each values globals c.listed-listed.ensures c.enter.new.scan
-    (c.enter.ensures ∙ ap₂ (λ r f. going r f [] [] None) rows (c.first_frame-frame.ensures c.requires.rows.0 c.requires.rows.1.program))
+pub start_behind-requires-clause-rows : goal.start_behind-requires-clause-rows
+start_behind-requires-clause-rows c = taken_fits c.args.verified.now.config c.args.task c.args.scan.now.rows c.requires.rows c.args.begin.now.variables.now c.requires.begin.variables c.scan.inside.rows c.take_front.new.all (ap (λ (s : Stored). s.rows) c.scan.view_is) c.take_front.ensures
 
-pub returns-clause-scan : goal.returns-clause-scan
-returns-clause-scan c =
-    let config = c.args.verified.now.config in
-    let b = c.args.begin.now in
-    let q = c.requires.begin in
-    let values = listed_values c.listed-listed.result in
-    let globals = globals_in config b.globals.now in
-    let short = subst (λ n. n < 2 ^ 63) (c.slot_count-count.ensures.count c.requires.rows.0 c.requires.rows.1.program) c.slot_count-count.ensures.few in
-    let given = given_values config c.slot_count-count.ensures.runnable c.args.task c.args.scan.now.rows c.requires.rows short b.variables.now q.variables b.image.now b.calls.now.slots q.fields q.outputs q.slots q.each values globals c.listed-listed.ensures in
-    let rows = c.write_start.ensures _ (given ∙ ap (λ (z : Sizes). values ++ image_values z c.args.task b.image.now b.calls.now.slots) (sym c.sizes-sizes.ensures)) in
-    starts_scan config c.slot_count-count.ensures.runnable c.args.task c.args.scan.now.rows c.requires.rows short b.variables.now q.variables b.image.now b.calls.now.slots q.fields q.outputs q.slots q.each values globals c.listed-listed.ensures c.enter.new.scan
-    (c.enter.ensures ∙ ap₂ (λ r f. going r f [] [] None) rows (c.first_frame-frame.ensures c.requires.rows.0 c.requires.rows.1.program)) q.own
+pub start_behind-requires-clause-own : goal.start_behind-requires-clause-own
+start_behind-requires-clause-own c = taken_own c.args.verified.now.config c.args.task c.args.scan.now.rows c.requires.rows c.args.begin.now.variables.now c.requires.begin.variables c.scan.inside.rows c.take_front.new.all (ap (λ (s : Stored). s.rows) c.scan.view_is) c.take_front.ensures

@@ -1,7 +1,20 @@
-use Rattle.std.proofs.Common.{◌≡◌, ◌∙◌, rules, sym, subst}
+use Rattle.std.proofs.Common.{◌≡◌, ◌∙◌, rules, sym, ap, subst}
+use Rattle.lift_spec.specs.Snapshot.{program_of, scan_begins}
 use Rattle.il_machine.specs.Scanning.{Program, IsRunnable, IsScanOf}
+use Rattle.il_machine.specs.Standing.{StillHas, opening_variables_by, opening_beginning}
 use Rattle.il_machine.specs.Starting.{FitsTask}
+use Rattle.il_machine.specs.Ran.{stands}
+use Rattle.il_machine.proofs.Keeping.{start_has}
 use Rattle.il_machine.proofs.store.Store.new.Goals as goal
+
+pub returns-clause-variables : goal.returns-clause-variables
+returns-clause-variables c =
+    let config = c.args.verified.now.config in
+    let task = c.args.task in
+    let boxed : c.in_ok-new.field-0.value ≡ c.in_ok-scan.scan = search rules in
+    let opens : stands config task c.in_ok-new.field-0.value ≡ scan_begins config task (opening_beginning config task) = ap (stands config task) boxed ∙ c.in_ok-scan.ensures.opens in
+    subst (λ (p : Program). StillHas (opening_variables_by config (program_of config task)) (stands p.config task c.in_ok-new.field-0.value)) (sym c.of.ensures)
+    (subst (StillHas (opening_variables_by config (program_of config task))) (sym opens) (start_has config task c.requires.there.0 c.requires.there.1 (opening_beginning config task)))
 
 pub invariant_of-result : goal.invariant_of-result
 invariant_of-result c =
