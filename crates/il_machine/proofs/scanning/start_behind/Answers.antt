@@ -50,9 +50,8 @@ returns-clause-begins c =
     let globals = globals_in config b.globals.now in
     let short = subst (λ n. n < 2 ^ 63) (c.slot_count-count.ensures.count c.requires.rows.0 c.requires.rows.1.program) c.slot_count-count.ensures.few in
     let given = given_values config c.slot_count-count.ensures.runnable c.args.task c.args.scan.now.rows c.requires.rows short b.variables.now q.variables b.image.now b.calls.now.slots q.fields q.outputs q.slots q.each values globals c.listed-listed.ensures in
-    let rows =
-        written_behind config c.slot_count-count.ensures.runnable c.args.task c.args.scan.now.rows c.requires.rows short b.variables.now q.variables b.image.now b.calls.now.slots q.fields q.outputs q.slots q.each values globals c.listed-listed.ensures c.len-own.result c.scan.inside.rows c.write_seen.new.rows c.len-own.ensures (ap (λ (s : Stored). s.rows) c.scan.view_is)
-        (c.write_seen.ensures _ (given ∙ ap (λ (z : Sizes). values ++ image_values z c.args.task b.image.now b.calls.now.slots) (sym c.sizes-sizes.ensures))) in
+    let rows = written_behind config c.slot_count-count.ensures.runnable c.args.task c.args.scan.now.rows c.requires.rows short b.variables.now q.variables b.image.now b.calls.now.slots q.fields q.outputs q.slots q.each values globals c.listed-listed.ensures c.len-own.result c.scan.inside.rows c.write_seen.new.rows c.len-own.ensures (ap (λ (s : Stored). s.rows) c.scan.view_is)
+    (c.write_seen.ensures _ (given ∙ ap (λ (z : Sizes). values ++ image_values z c.args.task b.image.now b.calls.now.slots) (sym c.sizes-sizes.ensures))) in
     starts_as config c.slot_count-count.ensures.runnable c.args.task c.args.scan.now.rows c.requires.rows short b.variables.now q.variables b.image.now b.calls.now.slots q.fields q.outputs q.slots q.each values globals c.listed-listed.ensures c.enter.new.scan
     (c.enter.ensures ∙ ap₂ (λ r f. going r f [] [] None) rows (c.first_frame-frame.ensures c.requires.rows.0 c.requires.rows.1.program)) c.requires.own
 
@@ -65,8 +64,7 @@ returns-clause-scan c =
     let globals = globals_in config b.globals.now in
     let short = subst (λ n. n < 2 ^ 63) (c.slot_count-count.ensures.count c.requires.rows.0 c.requires.rows.1.program) c.slot_count-count.ensures.few in
     let given = given_values config c.slot_count-count.ensures.runnable c.args.task c.args.scan.now.rows c.requires.rows short b.variables.now q.variables b.image.now b.calls.now.slots q.fields q.outputs q.slots q.each values globals c.listed-listed.ensures in
-    let rows =
-        written_behind config c.slot_count-count.ensures.runnable c.args.task c.args.scan.now.rows c.requires.rows short b.variables.now q.variables b.image.now b.calls.now.slots q.fields q.outputs q.slots q.each values globals c.listed-listed.ensures c.len-own.result c.scan.inside.rows c.write_seen.new.rows c.len-own.ensures (ap (λ (s : Stored). s.rows) c.scan.view_is)
-        (c.write_seen.ensures _ (given ∙ ap (λ (z : Sizes). values ++ image_values z c.args.task b.image.now b.calls.now.slots) (sym c.sizes-sizes.ensures))) in
+    let rows = written_behind config c.slot_count-count.ensures.runnable c.args.task c.args.scan.now.rows c.requires.rows short b.variables.now q.variables b.image.now b.calls.now.slots q.fields q.outputs q.slots q.each values globals c.listed-listed.ensures c.len-own.result c.scan.inside.rows c.write_seen.new.rows c.len-own.ensures (ap (λ (s : Stored). s.rows) c.scan.view_is)
+    (c.write_seen.ensures _ (given ∙ ap (λ (z : Sizes). values ++ image_values z c.args.task b.image.now b.calls.now.slots) (sym c.sizes-sizes.ensures))) in
     starts_scan config c.slot_count-count.ensures.runnable c.args.task c.args.scan.now.rows c.requires.rows short b.variables.now q.variables b.image.now b.calls.now.slots q.fields q.outputs q.slots q.each values globals c.listed-listed.ensures c.enter.new.scan
     (c.enter.ensures ∙ ap₂ (λ r f. going r f [] [] None) rows (c.first_frame-frame.ensures c.requires.rows.0 c.requires.rows.1.program)) c.requires.own q.own
