@@ -1,8 +1,9 @@
 -- What a scan's rows hold of its outputs.
-use Rattle.std.proofs.Common.{◌≡◌, ◌<◌, ◌≤◌, ℕ, zero, suc, ◌+◌, ◌-◌, List, [], ◌∷◌, ◌++◌, length, slice_get, get_or, false, refl, sym, ap, ap₂, ◌∙◌, Some, Option, subst, Contains, ℤ, pos, negsuc, ◌≤ℤ◌, nat_abs, codes, append-nil, append_assoc, arith}
+use Rattle.std.proofs.Common.{◌≡◌, ◌<◌, ◌≤◌, ℕ, zero, suc, ◌+◌, ◌-◌, List, [], ◌∷◌, ◌++◌, length, slice_get, get_or, Bool, true, false, ◌&&◌, refl, sym, ap, ap₂, ◌∙◌, Some, None, Option, subst, Contains, ℤ, pos, negsuc, ◌≤ℤ◌, nat_abs, codes, append-nil, append_assoc, arith, All, take, drop, get_or-take, get_or-drop}
 use Rattle.std.specs.Prelude.{option_and_then}
 use Rattle.std.proofs.lemmas.Int.{ints}
-use Rattle.std.proofs.lemmas.List.{length-append, map-append}
+use Rattle.std.proofs.lemmas.List.{length-append, length-take-le, length-drop, map-append, take_more}
+use Rattle.std.proofs.lemmas.List.Elements.{All-nil, All-cons, All-append}
 use Rattle.std.proofs.lemmas.Option.{slice_get-get_or}
 use Rattle.il_spec.specs.declared.tree.Config.{Config}
 use Rattle.il_spec.specs.declared.tree.Elementary.TheVariants.{Bool as BoolType}
@@ -60,10 +61,31 @@ number_here cells r j q s is in_numbers in_flags limited =
     ∙ ap (λ o. with_some o (λ b. Some (value_by (declared_limits q.scalar) (get_or r.numbers j (pos 0)) b))) (slice_get-get_or r.flags j false in_flags)
     ∙ ap (λ l. Some (value_by l (get_or r.numbers j (pos 0)) (get_or r.flags j false))) limited
 
+-- a slot of a Boolean keeps it in the row of Booleans
+flag_here :
+    (cells : List Cell) (r : Rows) (j : ℕ) (q : Cell) → slice_get cells j ≡ Some q → j < length r.numbers → j < length r.flags → declared_limits q.scalar ≡ None
+    → value_at cells r j ≡ Some (Boolean (get_or r.flags j false))
+flag_here cells r j q is in_numbers in_flags unlimited =
+    ap (λ o. with_some o (λ p. with_some (slice_get r.numbers j) (λ z. with_some (slice_get r.flags j) (λ b. Some (value_by (declared_limits p.scalar) z b))))) is
+    ∙ ap (λ o. with_some o (λ z. with_some (slice_get r.flags j) (λ b. Some (value_by (declared_limits q.scalar) z b)))) (slice_get-get_or r.numbers j (pos 0) in_numbers)
+    ∙ ap (λ o. with_some o (λ b. Some (value_by (declared_limits q.scalar) (get_or r.numbers j (pos 0)) b))) (slice_get-get_or r.flags j false in_flags)
+    ∙ ap (λ l. Some (value_by l (get_or r.numbers j (pos 0)) (get_or r.flags j false))) unlimited
+
 -- a value of a subrange from 0 on lies in it
 whole_in : (high most : ℤ) → pos 0 ≤ℤ high → high ≤ℤ most → (o : Option Value) (v : Value) → o ≡ Some v → IsOf (within (pos 0) high) v → (pos 0 ≤ℤ whole_of o) × (whole_of o ≤ℤ most)
 whole_in high most some low o (Boolean b) is lies = absurd lies
 whole_in high most some low o (Integer z) is lies = rw is (lies.0, (let a = lies.1 in omega (arith, ints, a, low)))
+
+-- ZEROS
+
+-- one more that is 0
+pub zeros_more : (numbers : List ℤ) (i : ℕ) → i < length numbers → All (λ z. z ≡ pos 0) (take i numbers) → get_or numbers i (pos 0) ≡ pos 0 → All (λ z. z ≡ pos 0) (take (i + 1) numbers)
+zeros_more numbers i low before zero = subst (All (λ z. z ≡ pos 0)) (sym (take_more numbers i (pos 0) low)) (All-append (λ z. z ≡ pos 0) (take i numbers) (get_or numbers i (pos 0) ∷ []) before (All-cons (λ z. z ≡ pos 0) (get_or numbers i (pos 0)) [] zero (All-nil (λ z. z ≡ pos 0))))
+
+-- both of two tests
+pub both_true : (a b : Bool) → (a && b) ≡ true → (a ≡ true) × (b ≡ true)
+both_true true b is = (refl, is)
+both_true false b is = let bad : false ≡ true = is in cc
 
 -- ELEMENTS
 
@@ -156,8 +178,12 @@ pub record StandLast (cells : List Cell) (r : Rows) (values : Values) : Type 0 w
   pub motor : value_at cells r (length cells - 3) ≡ get values (codes "MOTOR")
   pub opens : value_at cells r (length cells - 3 + 1) ≡ get values (codes "OPEN")
   pub serve : value_at cells r (length cells - 3 + 2) ≡ get values (codes "SERVE")
-  pub there : length cells - 3 + 2 < length r.numbers
-  pub number : value_at cells r (length cells - 3 + 2) ≡ Some (Integer (get_or r.numbers (length cells - 3 + 2) (pos 0)))
+  pub motor_there : length cells - 3 < length r.numbers
+  pub motor_number : value_at cells r (length cells - 3) ≡ Some (Integer (get_or r.numbers (length cells - 3) (pos 0)))
+  pub opens_there : length cells - 3 + 1 < length r.flags
+  pub opens_flag : value_at cells r (length cells - 3 + 1) ≡ Some (Boolean (get_or r.flags (length cells - 3 + 1) false))
+  pub serve_there : length cells - 3 + 2 < length r.numbers
+  pub serve_number : value_at cells r (length cells - 3 + 2) ≡ Some (Integer (get_or r.numbers (length cells - 3 + 2) (pos 0)))
 
 module _ (c : Config) (runs : IsRunnable c) (k : ℕ) (s : Stored) (scan : IsScanOf c (suc k) s) where
   abbrev driver : ProgramUnit
@@ -191,22 +217,40 @@ module _ (c : Config) (runs : IsRunnable c) (k : ℕ) (s : Stored) (scan : IsSca
   stand_last cells r cells_is rows_is =
       let long = ap length cells_is ∙ three_last in
       let fits : Fits (program_cells c driver) s.rows = scan.2.framed.fits in
-      let inside : length before + 2 < length s.rows.numbers = omega (arith, three_last, fits.numbers) in
+      let numbers : length before + 2 < length s.rows.numbers = omega (arith, three_last, fits.numbers) in
+      let flags : length before + 2 < length s.rows.flags = omega (arith, three_last, fits.flags) in
       let read : (j : ℕ) → value_at cells r (length before + j) ≡ value_at (program_cells c driver) s.rows (length before + j) = λ j. ap₂ (λ xs x. value_at xs x (length before + j)) cells_is rows_is in
+      let at : (j : ℕ) → slice_get (program_cells c driver) (length before + j) ≡ slice_get (cells_of (outputs c)) j = λ j. ap (λ xs. slice_get xs (length before + j)) outputs_end ∙ behind_first before (cells_of (outputs c)) j in
       let at0 : length cells - 3 ≡ length before + 0 = omega (arith, long) in
       let at1 : length cells - 3 + 1 ≡ length before + 1 = omega (arith, long) in
       let at2 : length cells - 3 + 2 ≡ length before + 2 = omega (arith, long) in
       record {
         room = omega (arith, long);
-        motor = ap (value_at cells r) at0 ∙ read 0 ∙ output_at 0 (cell (codes "MOTOR") (within (negsuc 0) (pos 1))) refl;
-        opens = ap (value_at cells r) at1 ∙ read 1 ∙ output_at 1 (cell (codes "OPEN") (plain BoolType)) refl;
-        serve = ap (value_at cells r) at2 ∙ read 2 ∙ output_at 2 (cell (codes "SERVE") (within (pos 0) c.slots.value)) refl;
-        there = omega (arith, at2, inside, ap (λ (x : Rows). length x.numbers) rows_is);
-        number = ap (value_at cells r) at2 ∙ read 2
-            ∙ number_here (program_cells c driver) s.rows (length before + 2) (cell (codes "SERVE") (within (pos 0) c.slots.value)) (record { lower = pos 0; upper = c.slots.value })
-            (ap (λ xs. slice_get xs (length before + 2)) outputs_end ∙ behind_first before (cells_of (outputs c)) 2) inside (omega (arith, three_last, fits.flags)) refl
+        motor = ap (value_at cells r) at0 ∙ read 0 ∙ output_at 0 motor refl;
+        opens = ap (value_at cells r) at1 ∙ read 1 ∙ output_at 1 opens refl;
+        serve = ap (value_at cells r) at2 ∙ read 2 ∙ output_at 2 serve refl;
+        motor_there = omega (arith, at0, numbers, ap (λ (x : Rows). length x.numbers) rows_is);
+        motor_number = ap (value_at cells r) at0 ∙ read 0
+            ∙ number_here (program_cells c driver) s.rows (length before + 0) motor (record { lower = negsuc 0; upper = pos 1 }) (at 0) (omega (arith, numbers)) (omega (arith, flags)) refl
+            ∙ sym (ap₂ (λ (x : Rows) i. Some (Integer (get_or x.numbers i (pos 0)))) rows_is at0);
+        opens_there = omega (arith, at1, flags, ap (λ (x : Rows). length x.flags) rows_is);
+        opens_flag = ap (value_at cells r) at1 ∙ read 1
+            ∙ flag_here (program_cells c driver) s.rows (length before + 1) opens (at 1) (omega (arith, numbers)) (omega (arith, flags)) refl
+            ∙ sym (ap₂ (λ (x : Rows) i. Some (Boolean (get_or x.flags i false))) rows_is at1);
+        serve_there = omega (arith, at2, numbers, ap (λ (x : Rows). length x.numbers) rows_is);
+        serve_number = ap (value_at cells r) at2 ∙ read 2
+            ∙ number_here (program_cells c driver) s.rows (length before + 2) serve (record { lower = pos 0; upper = c.slots.value }) (at 2) numbers flags refl
             ∙ sym (ap₂ (λ (x : Rows) i. Some (Integer (get_or x.numbers i (pos 0)))) rows_is at2);
       }
+    where
+      motor : Cell
+      motor = cell (codes "MOTOR") (within (negsuc 0) (pos 1))
+
+      opens : Cell
+      opens = cell (codes "OPEN") (plain BoolType)
+
+      serve : Cell
+      serve = cell (codes "SERVE") (within (pos 0) c.slots.value)
 
 pub car_stands : (c : Config) (runs : IsRunnable c) (car : ℕ) (s : Stored) → 1 ≤ car → (scan : IsScanOf c car s) → (cells : List Cell) (r : Rows) → cells ≡ program_cells c scan.0 → r ≡ s.rows → StandLast cells r (state_of (kept_of c car s)).values
 car_stands c runs zero s some scan cells r cells_is rows_is = absurd (omega (arith, some))
@@ -324,3 +368,30 @@ module _ (c : Config) (runs : IsRunnable c) (s : Stored) (scan : IsScanOf c 0 s)
     assign_all k low high cars all =
         let none : n - k ≡ 0 = omega (arith, low, high) in
         sym (append-nil cars) ∙ ap (λ (m : ℕ). cars ++ assigned_from m (k + 1) group_values) (sym none) ∙ all ∙ ap (λ (m : ℕ). assigned_from m 1 group_values) n_is
+
+    pub numbers_room : n ≤ length (drop (length cells - n) r.numbers)
+    numbers_room =
+        let fits : Fits (program_cells c program) s.rows = scan.2.framed.fits in
+        let e = ends_with in
+        let same = ap length cells_is in
+        let as_many : length r.numbers ≡ length s.rows.numbers = ap (λ (x : Rows). length x.numbers) rows_is in
+        let d = length-drop (length cells - n) r.numbers in
+        omega (arith, e, same, as_many, d, fits.numbers, n_is)
+
+    -- numbers of these slots that are all 0 are no cars
+    none_from : (m k : ℕ) → k + m ≡ n → All (λ z. z ≡ pos 0) (take n (drop (length cells - n) r.numbers)) → All (λ car. car ≡ 0) (assigned_from m (k + 1) group_values)
+    none_from zero k all zeros = All-nil (λ car. car ≡ 0)
+    none_from (suc m) k all zeros =
+        let low : k < n = omega (arith, all) in
+        let read = assign_read k low in
+        let room = numbers_room in
+        let inside : k < length (take n (drop (length cells - n) r.numbers)) = (let e = length-take-le n (drop (length cells - n) r.numbers) room in omega (arith, e, low)) in
+        let zero_here : get_or r.numbers (length cells - n + k) (pos 0) ≡ pos 0 =
+        sym (get_or-take n (drop (length cells - n) r.numbers) k (pos 0) low ∙ get_or-drop (length cells - n) r.numbers k (pos 0)) ∙ zeros k (pos 0) inside in
+        All-cons (λ car. car ≡ 0) _ (assigned_from m (k + 1 + 1) group_values)
+        (ap (λ o. nat_abs (whole_of o)) (sym (here_at k low) ∙ read.1) ∙ ap nat_abs zero_here)
+        (none_from m (k + 1) (omega (arith, all)) zeros)
+
+    pub none_assigned : All (λ z. z ≡ pos 0) (take n (drop (length cells - n) r.numbers)) → All (λ car. car ≡ 0) (assigned count group_values)
+    unfolding assigned
+    none_assigned zeros = subst (λ (m : ℕ). All (λ car. car ≡ 0) (assigned_from m 1 group_values)) n_is (none_from n 0 refl zeros)

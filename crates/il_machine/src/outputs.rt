@@ -1,41 +1,19 @@
 // What a scan leaves of its outputs: the wishes of a car, and the cars that the group assigns.
 
-ghost use Rattle.std.specs.Prelude.{◌≡◌, ◌<◌, ◌≤◌, ◌≤ℤ◌, pos, nat_abs, codes, length, get_or, Some};
-ghost use Rattle.il_run.specs.declared.value.Value.TheVariants.{Integer};
+ghost use Rattle.std.specs.Prelude.{◌≡◌, ◌<◌, ◌≤◌, ◌≤ℤ◌, pos, nat_abs, codes, length, get_or, Some, false, IsTrue, All};
+ghost use Rattle.il_run.specs.declared.value.Value.TheVariants.{Boolean, Integer};
 ghost use Rattle.il_table.specs.NameMap.{get};
 ghost use Rattle.lift_spec.specs.Image.{sizes_of};
 ghost use Rattle.lift_spec.specs.Snapshot.{whole_of, truth_of, motor_of, wishes_of, assigned};
 ghost use Rattle.il_machine.specs.Scanning.{value_at, IsScanOf};
 ghost use Rattle.il_machine.specs.Ran.{stands};
 
-use crate::rows::value;
 use crate::verified::Verified;
 use il_exec::ScanState;
 use il_exec::rows::Rows;
 use il_layout::flat::Cell;
-use il_run::value::Value;
 use lift_spec::image::{Motor, SLOT_PLACES, Wishes};
 use lists::Bounded;
-
-// A whole number; 0 for what is none.
-fn whole_of(value: Option<Value>) -> i64
-    ensures { result ≡ whole_of value }
-{
-    match value {
-        Some(Value::Integer(number)) => number,
-        _ => 0,
-    }
-}
-
-// A Boolean; FALSE for what is none.
-fn truth_of(value: Option<Value>) -> bool
-    ensures { result ≡ truth_of value }
-{
-    match value {
-        Some(Value::Boolean(truth)) => truth,
-        _ => false,
-    }
-}
 
 // The motor of a number.
 fn motor_of(number: i64) -> Motor
@@ -70,6 +48,17 @@ fn number_at(rows: &Rows, cells: &[Cell], slot: usize) -> i64
     rows.numbers[slot]
 }
 
+// The Boolean at a slot of these cells that keeps one.
+fn flag_at(rows: &Rows, cells: &[Cell], slot: usize) -> bool
+    requires there { slot < length rows.now.flags }
+    requires flag { value_at cells.now rows.now slot
+        ≡ Some (Boolean (get_or rows.now.flags slot false)) }
+    ensures { result ≡ truth_of (value_at cells.now rows.now slot) }
+{
+    let _cells = cells;
+    rows.flags[slot]
+}
+
 // The car or the call slot that a slot of rows names, 0 for none.
 fn named_at(rows: &Rows, cells: &[Cell], slot: usize) -> u8
     requires there { slot < length rows.now.numbers }
@@ -93,8 +82,8 @@ pub fn wishes(verified: &Verified, car: u8, scan: &ScanState) -> Wishes
     let rows = &scan.rows;
     let first = cells.len() - 3;
     Wishes {
-        motor: motor_of(whole_of(value(rows, cells, first))),
-        opens: truth_of(value(rows, cells, first + 1)),
+        motor: motor_of(number_at(rows, cells, first)),
+        opens: flag_at(rows, cells, first + 1),
         serve: named_at(rows, cells, first + 2),
     }
 }
@@ -115,4 +104,29 @@ pub fn assigned(verified: &Verified, scan: &ScanState) -> Bounded<u8, SLOT_PLACE
         cars.push(named_at(rows, cells, first + slot));
     }
     cars
+}
+
+// Whether all of these are 0. All are looked at, and so the machine takes many in a step.
+fn are_zeros(numbers: &[i64]) -> bool
+    ensures { IsTrue result → All (λ z. z ≡ pos 0) numbers.now }
+{
+    let mut zeros = true;
+    'numbers: for number in numbers {
+        zeros &= *number == 0;
+    }
+    zeros
+}
+
+// Whether GROUP's scan has left that no car is assigned to a call slot.
+pub fn assigns_none(verified: &Verified, scan: &ScanState) -> bool
+    requires scan { IsScanOf verified.now.config 0 scan.now }
+    ensures { IsTrue result
+        → All (λ car. car ≡ 0)
+        (assigned (sizes_of verified.now.config).slots
+        (stands verified.now.config 0 scan.now).values) }
+{
+    let count = verified.sizes().slots as usize;
+    let cells = verified.task_code(0).cells();
+    let (_, behind) = scan.rows.numbers.split_at(cells.len() - count);
+    are_zeros(&behind[..count])
 }
