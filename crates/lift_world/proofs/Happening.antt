@@ -5,7 +5,7 @@ use Rattle.std.proofs.lemmas.Bool.Decides.{nat_tests}
 use Rattle.il_spec.specs.declared.tree.Config.{Config}
 use Rattle.il_run.specs.State.{Frame}
 use Rattle.il_machine.specs.Scanning.{Program, IsRunnable}
-use Rattle.il_machine.specs.Standing.{Standing, IsOf}
+use Rattle.il_machine.specs.Standing.{Standing, IsOf, StillHas}
 use Rattle.lift_spec.specs.declared.image.Fields.{Fields}
 use Rattle.lift_spec.specs.declared.image.Sizes.{Sizes}
 use Rattle.lift_spec.specs.declared.calls.Call.{Call}
@@ -20,15 +20,15 @@ use Rattle.lift_spec.specs.Replies.{Reply, Started, More, End, Committed, Refres
 use Rattle.lift_spec.specs.Calls.{enter_all, IsCall}
 use Rattle.lift_spec.specs.Image.{sizes_of, is_floor, fields_in_range, FieldsInRange}
 use Rattle.lift_spec.specs.Snapshot.{scan_begins}
-use Rattle.lift_spec.specs.World.{Group, TaskState, flat, task_at, happens, run, reply_to, beginning_of, started_group, committed_group, refreshed_group}
+use Rattle.lift_spec.specs.World.{Group, TaskState, flat, task_at, happens, run, reply_to, beginning_of, started_group, committed_group, closed_tasks, refreshed_group}
 use Rattle.lift_spec.proofs.Laws.{fields_in_range_means}
 use Rattle.lift_run_laws.specs.Runs.{IsReached}
 use Rattle.lift_world.specs.declared.controller.Controller.{Controller}
 use Rattle.lift_world.specs.Running.{instructions, up_to_end}
-use Rattle.lift_world.specs.Groups.{holds_tickets, is_open_in, world_by, StoresFit}
+use Rattle.lift_world.specs.Groups.{holds_tickets, is_open_in, world_by, StoresFit, KeepVariables}
 use Rattle.lift_world.specs.Worlds.{world_in, IsController, Steps, RunsOut}
 use Rattle.lift_world.proofs.Views.{set_same, flat_some, some_of, within, here}
-use Rattle.lift_world.proofs.Keeping.{stores_step, stores_task}
+use Rattle.lift_world.proofs.Keeping.{stores_step, stores_task, variables_step, variables_begun, variables_left}
 use Rattle.il_machine.proofs.Sizes.{sizes_fit}
 use Rattle.lift_world.proofs.Sound.{reached_well, one_event, many_events}
 use Rattle.lift_world.proofs.Events.{start_nowhere, instruction_nowhere, commit_nowhere, start_open, instruction_idle, commit_idle, instruction_ended, commit_going, start_is, instruction_is, commit_is, refresh_is, commit_closes, refresh_keeps, ended_so, going_so}
@@ -110,6 +110,18 @@ module _ (w : Controller) (is : IsController w) (t : ℕ) where
     pub lent_of : (o : Option Standing) → o ≡ Some x.store → (s : Standing) → o ≡ Some s → IsOf c t s
     lent_of o e s f = let same : Some x.store ≡ Some s = sym e ∙ f in let is_s : x.store ≡ s = cc in subst (IsOf c t) is_s x.of
 
+    -- between scans its store has its variables
+    pub lent_variables : is_some x.task.tickets ≡ false → (o : Option Standing) → o ≡ Some x.store → (y : TaskState) (s : Standing) → task_at g t ≡ Some y → o ≡ Some s → StillHas y.variables s.state
+    lent_variables so o e y s there f = is.variables t y s there (x.kept ∙ sym e ∙ f) (ap tickets_of (sym there ∙ x.there) ∙ none_there x.task.tickets (is_some x.task.tickets) refl so)
+      where
+        tickets_of : Option TaskState → Option (List (Option ℕ))
+        tickets_of None = None
+        tickets_of (Some k) = k.tickets
+
+    -- while its scan is open it may have any store
+    pub open_variables : is_some x.task.tickets ≡ true → (after : Option Standing) (i : ℕ) → i ≡ t → KeepVariables g.tasks (slice_set w.stores.items i after)
+    open_variables so after i at = rw at (variables_step g.tasks w.stores.items t x.task after is.variables x.there so)
+
     pub start_again : is_some x.task.tickets ≡ true → happens c (world_in w) (Start t) ≡ Ok (world_in w, Refused AlreadyOpen)
     start_again open_so = start_open c g w.stores.items w.desk w.hand t x.task x.store is.stores.as_many x.there x.kept open_so
 
@@ -135,6 +147,9 @@ module _ (w : Controller) (is : IsController w) (t : ℕ) where
       pub started_stores : (store : Option Standing) (i : ℕ) → i ≡ t → store ≡ Some new → IsOf c t new → StoresFit c after.tasks (slice_set w.stores.items i store)
       started_stores store i at kept of =
           rw (at, kept) (stores_step c after.tasks w.stores.items t x.store new (stores_task c g.tasks after.tasks w.stores.items t x.task _ is.stores x.there (ap (λ (y : Group). y.tasks) group)) of x.kept)
+
+      pub started_variables : (store : Option Standing) (i : ℕ) → i ≡ t → KeepVariables after.tasks (slice_set w.stores.items i store)
+      started_variables store i at = rw at (variables_begun g.tasks after.tasks w.stores.items t x.task _ store is.variables x.there (ap (λ (y : Group). y.tasks) group) refl)
 
     -- INSTRUCTION
 
@@ -189,10 +204,14 @@ module _ (w : Controller) (is : IsController w) (t : ℕ) where
       committed over =
           commit_is c g w.stores.items w.desk w.hand t x.task x.store is.stores.as_many x.there x.kept tickets.0 after report tickets.1 (ended_so x.store.state over) (group x.task tickets.0 x.there tickets.1)
 
+      closed : after.tasks ≡ closed_tasks g t x.task x.store.state.values
+      closed = ap (λ (r : Group × Report). r.0.tasks) (sym (group x.task tickets.0 x.there tickets.1)) ∙ commit_closes c g t x.task tickets.0 x.store.state.values
+
       pub committed_stores : StoresFit c after.tasks w.stores.items
-      committed_stores =
-          stores_task c g.tasks after.tasks w.stores.items t x.task _ is.stores x.there
-          (ap (λ (r : Group × Report). r.0.tasks) (sym (group x.task tickets.0 x.there tickets.1)) ∙ commit_closes c g t x.task tickets.0 x.store.state.values)
+      committed_stores = stores_task c g.tasks after.tasks w.stores.items t x.task _ is.stores x.there closed
+
+      pub committed_variables : KeepVariables after.tasks w.stores.items
+      committed_variables = variables_left g.tasks after.tasks w.stores.items t x.task.variables x.store is.variables x.kept closed
 
     -- FINISH
 
@@ -231,11 +250,19 @@ module _ (w : Controller) (is : IsController w) (t : ℕ) where
           costs = rw verified is.costs;
           same = rw (verified, core) is.same;
           stores = rw (verified, core, put) (finished_stores after n i at out);
+          variables = rw (core, put) (open_variables so after i at);
           reached = rw (verified, core, desk, hand, put) (many_events c (world_in w) _ (instructions t n) [] (up_to_end n) is.reached (finished after n i at so out));
         }
     finish_world (Err e) before after v i at so lent steps ended verified core desk hand put =
         let same : slice_set w.stores.items i after ≡ w.stores.items = rw (at, ended.1, lent) (set_same w.stores.items t (Some x.store) (flat_some _ x.store x.kept)) in
-        record { runnable = rw verified is.runnable; costs = rw verified is.costs; same = rw (verified, core) is.same; stores = rw (verified, core, put, same) is.stores; reached = rw (verified, core, desk, hand, put, same) is.reached }
+        record {
+          runnable = rw verified is.runnable;
+          costs = rw verified is.costs;
+          same = rw (verified, core) is.same;
+          stores = rw (verified, core, put, same) is.stores;
+          variables = rw (core, put) (open_variables so after i at);
+          reached = rw (verified, core, desk, hand, put, same) is.reached;
+        }
 
 -- REFRESH
 
@@ -251,17 +278,24 @@ module _ (w : Controller) (is : IsController w) (fields : Fields) (inside : fiel
     pub refreshed_world : hand ≡ (enter_all w.core.group.calls [] w.hand).hand → happens w.verified.config (world_in w) (Refresh fields) ≡ Ok (world_by after w.stores.items w.desk hand, Refreshed report)
     refreshed_world left = refresh_is w.verified.config w.core.group w.stores.items w.desk w.hand fields after hand report inside group left
 
+    same_tasks : after.tasks ≡ w.core.group.tasks
+    same_tasks = ap (λ (r : Group × Report). r.0.tasks) (sym group) ∙ refresh_keeps w.core.group fields w.hand
+
     pub refreshed_stores : StoresFit w.verified.config after.tasks w.stores.items
-    refreshed_stores = subst (λ ts. StoresFit w.verified.config ts w.stores.items) (sym (ap (λ (r : Group × Report). r.0.tasks) (sym group) ∙ refresh_keeps w.core.group fields w.hand)) is.stores
+    refreshed_stores = subst (λ ts. StoresFit w.verified.config ts w.stores.items) (sym same_tasks) is.stores
+
+    pub refreshed_variables : KeepVariables after.tasks w.stores.items
+    refreshed_variables = subst (λ ts. KeepVariables ts w.stores.items) (sym same_tasks) is.variables
 
 -- WHAT AN EVENT LEAVES
 
-pub keeps_world : (w v : Controller) (e : Event) (reply : Reply) → IsController w → v.verified ≡ w.verified → v.core.config ≡ w.core.config → StoresFit w.verified.config v.core.group.tasks v.stores.items
+pub keeps_world : (w v : Controller) (e : Event) (reply : Reply) → IsController w → v.verified ≡ w.verified → v.core.config ≡ w.core.config → StoresFit w.verified.config v.core.group.tasks v.stores.items → KeepVariables v.core.group.tasks v.stores.items
     → happens w.verified.config (world_in w) e ≡ Ok (world_in v, reply) → IsController v
-keeps_world w v e reply is same core stores happened = record {
+keeps_world w v e reply is same core stores variables happened = record {
   runnable = rw same is.runnable;
   costs = rw same is.costs;
   same = core ∙ is.same ∙ ap (λ (p : Program). p.config) (sym same);
   stores = subst (λ (p : Program). StoresFit p.config v.core.group.tasks v.stores.items) (sym same) stores;
+  variables = variables;
   reached = subst (λ (p : Program). IsReached p.config (world_in v)) (sym same) (one_event w.verified.config (world_in w) (world_in v) e reply is.reached happened);
 }

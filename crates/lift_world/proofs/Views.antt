@@ -52,6 +52,19 @@ after_set (y ∷ ys) (suc k) (suc j) v x e =
       | inr found ↦ inr found
     ]
 
+-- or stood there before, at another place
+pub elsewhere : {X : Type 0} (xs : List (Option X)) (k j : ℕ) (v : Option X) (x : X) → flat (slice_get (slice_set xs k v) j) ≡ Some x → (j ≡ k) ⊎ (flat (slice_get xs j) ≡ Some x)
+elsewhere [] zero j v x e = inr e
+elsewhere [] (suc k) j v x e = inr e
+elsewhere (y ∷ ys) zero zero v x e = inl refl
+elsewhere (y ∷ ys) zero (suc j) v x e = inr e
+elsewhere (y ∷ ys) (suc k) zero v x e = inr e
+elsewhere (y ∷ ys) (suc k) (suc j) v x e =
+    elim (elsewhere ys k j v x e) [
+      | inl same ↦ inl (ap suc same)
+      | inr was ↦ inr was
+    ]
+
 pub there_set : {X : Type 0} (xs : List (Option X)) (k j : ℕ) (v x : X) → flat (slice_get xs k) ≡ Some x → is_some (flat (slice_get (slice_set xs k (Some v)) j)) ≡ is_some (flat (slice_get xs j))
 there_set [] zero j v x e = refl
 there_set [] (suc k) j v x e = refl

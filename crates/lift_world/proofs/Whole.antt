@@ -12,14 +12,14 @@ use Rattle.lift_spec.specs.declared.report.Report.{Report}
 use Rattle.lift_spec.specs.Calls.{ticket_of}
 use Rattle.lift_spec.specs.Replies.{Started, Committed}
 use Rattle.lift_spec.specs.Snapshot.{Beginning, program_of, begins_by, scan_begins}
-use Rattle.lift_spec.specs.World.{Group, TaskState, flat, task_at, scan_at, beginning_of, started_group, committed_group}
+use Rattle.lift_spec.specs.World.{Group, TaskState, flat, task_at, scan_at, beginning_of, started_group, committed_group, closed_tasks}
 use Rattle.lift_run_laws.specs.Runs.{IsReached}
 use Rattle.lift_world.specs.declared.controller.Controller.{Controller}
 use Rattle.lift_world.specs.Running.{instructions, up_to_end}
-use Rattle.lift_world.specs.Groups.{world_by, StoresFit}
+use Rattle.lift_world.specs.Groups.{world_by, StoresFit, KeepVariables}
 use Rattle.lift_world.specs.Worlds.{world_in, IsController, IsWholeScan}
 use Rattle.lift_world.proofs.Views.{set_again, set_there, within}
-use Rattle.lift_world.proofs.Keeping.{stores_step, stores_task}
+use Rattle.lift_world.proofs.Keeping.{stores_step, stores_task, variables_step, variables_begun, variables_left}
 use Rattle.lift_world.proofs.Sound.{reached_well, one_event, many_events}
 use Rattle.lift_world.proofs.Events.{open_scan, start_is, commit_is, commit_closes, ended_so}
 use Rattle.lift_world.proofs.Finishing.{finishes}
@@ -50,7 +50,7 @@ module _ (w : Controller) (is : IsController w) (t : ℕ) (has : HasTask w.verif
   x = the_task w is t has
 
   -- no scan of it is open
-  idle : is_some x.task.tickets ≡ false
+  pub idle : is_some x.task.tickets ≡ false
   idle = by (is_some x.task.tickets) refl
     where
       by : (b : Bool) → is_some x.task.tickets ≡ b → is_some x.task.tickets ≡ false
@@ -114,10 +114,17 @@ module _ (w : Controller) (is : IsController w) (t : ℕ) (has : HasTask w.verif
       fit_last : StoresFit c begun_group.tasks last_stores
       fit_last = stores_step c begun_group.tasks first_stores t s last fit_first of_last kept_first
 
+      closed_now : after.tasks ≡ closed_tasks begun_group t begun_task last.state.values
+      closed_now = ap (λ (r : Group × Report). r.0.tasks) (sym commits_to) ∙ commit_closes c begun_group t begun_task seen last.state.values
+
       fit_after : StoresFit c after.tasks last_stores
-      fit_after =
-          stores_task c begun_group.tasks after.tasks last_stores t begun_task _ fit_last there_now
-          (ap (λ (r : Group × Report). r.0.tasks) (sym commits_to) ∙ commit_closes c begun_group t begun_task seen last.state.values)
+      fit_after = stores_task c begun_group.tasks after.tasks last_stores t begun_task _ fit_last there_now closed_now
+
+      keep_last : KeepVariables begun_group.tasks last_stores
+      keep_last = variables_step begun_group.tasks first_stores t begun_task (Some last) (variables_begun g.tasks begun_group.tasks stores t x.task begun_task (Some s) is.variables x.there refl refl) there_now refl
+
+      keep_after : KeepVariables after.tasks last_stores
+      keep_after = variables_left begun_group.tasks after.tasks last_stores t begun_task.variables last keep_last kept_last closed_now
 
       -- the whole scan
       pub scans : IsWholeScan c t (world_in w) (world_by after (slice_set stores i (Some last)) w.desk w.hand) report
@@ -146,5 +153,6 @@ module _ (w : Controller) (is : IsController w) (t : ℕ) (has : HasTask w.verif
         costs = rw verified is.costs;
         same = config ∙ is.same ∙ ap (λ (p : Program). p.config) (sym verified);
         stores = rw (verified, group_now, put, put_once) fit_after;
+        variables = rw (group_now, put, put_once) keep_after;
         reached = rw (verified, group_now, desk, hand, put) reached_after;
       }

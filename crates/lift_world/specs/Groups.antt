@@ -4,7 +4,7 @@ use Rattle.std.specs.Coded.{Coded, code_by, coded×}
 use Rattle.il_spec.specs.declared.tree.Config.{Config}
 use Rattle.il_spec.specs.contracts.tree.Config as config
 use Rattle.il_run.specs.State.{State}
-use Rattle.il_machine.specs.Standing.{Standing, IsOf}
+use Rattle.il_machine.specs.Standing.{Standing, IsOf, StillHas}
 use Rattle.lift_spec.specs.World.{World, Group, TaskState, flat, task_at}
 use Rattle.lift_spec.specs.WorldCodes.{group_code}
 use Rattle.lift_spec.specs.declared.calls.Call.{Call}
@@ -50,3 +50,7 @@ pub record StoresFit (c : Config) (tasks : List (Option TaskState)) (stores : Li
   pub as_many : length stores ≡ length tasks
   pub there : (t : ℕ) → is_some (flat (slice_get stores t)) ≡ is_some (flat (slice_get tasks t))
   pub each : (t : ℕ) (s : Standing) → flat (slice_get stores t) ≡ Some s → IsOf c t s
+
+-- each task between scans has its variables still in its store, so that its next scan finds them there
+abbrev pub KeepVariables : List (Option TaskState) → List (Option Standing) → Type 0
+KeepVariables tasks stores = (t : ℕ) (x : TaskState) (s : Standing) → flat (slice_get tasks t) ≡ Some x → flat (slice_get stores t) ≡ Some s → x.tickets ≡ None → StillHas x.variables s.state

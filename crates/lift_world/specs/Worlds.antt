@@ -20,7 +20,7 @@ use Rattle.lift_spec.specs.declared.event.Reply.TheVariants as answer
 use Rattle.lift_run_laws.specs.Tasks.{IsTaskOf, budget_of}
 use Rattle.lift_run_laws.specs.Runs.{IsReached}
 use Rattle.lift_world.specs.declared.controller.Controller.{Controller}
-use Rattle.lift_world.specs.Groups.{world_by, StoresFit}
+use Rattle.lift_world.specs.Groups.{world_by, StoresFit, KeepVariables}
 use Rattle.lift_world.specs.Running.{instructions, up_to_end}
 
 -- a verified configuration, and its world
@@ -40,12 +40,13 @@ world_in w = world_by w.core.group w.stores.items w.desk w.hand
 abbrev pub Happens : Controller → Event → Controller → Reply → Type 0
 Happens before event after reply = happens before.verified.config (world_in before) event ≡ Ok (world_in after, reply)
 
--- what holds of every controller: there is a store for each task, and some history of events has led to its world from the opening
+-- what holds of every controller: there is a store for each task, which keeps the task's variables between scans, and some history of events has led to its world from the opening
 pub record IsController (w : Controller) : Type 0 where
   pub runnable : IsRunnable w.verified.config
   pub costs : w.verified.costs ≡ map (cost_of w.verified.config) w.verified.config.units
   pub same : w.core.config ≡ w.verified.config
   pub stores : StoresFit w.verified.config w.core.group.tasks w.stores.items
+  pub variables : KeepVariables w.core.group.tasks w.stores.items
   pub reached : IsReached w.verified.config (world_in w)
 
 -- each task of the group is printed, with the budget that no scan of it exceeds

@@ -2,7 +2,7 @@
 
 ghost use Rattle.std.specs.Prelude.{◌≡◌, ◌≢◌, ℕ, suc, ◌+◌, ◌≤◌, [], length, slice_get, is_some, option_and_then, option_map, Some, None, Ok, IfOk, IfErr, IfSome, IsSome};
 ghost use Rattle.il_machine.specs.Scanning.{HasTask};
-ghost use Rattle.il_machine.specs.Standing.{Standing, IsOf};
+ghost use Rattle.il_machine.specs.Standing.{Standing, IsOf, StillHas, opening_variables_by};
 ghost use Rattle.il_table.specs.NameMap as values;
 ghost use Rattle.lift_spec.specs.Image.{sizes_of, FieldsInRange, Obeys};
 ghost use Rattle.lift_spec.specs.declared.event.EventFault.TheVariants.{NoOpenScan};
@@ -14,7 +14,7 @@ ghost use Rattle.lift_spec.specs.Snapshot.{program_of, scan_begins};
 ghost use Rattle.lift_spec.specs.World.{TaskState, task_at};
 ghost use Rattle.lift_spec.specs.World as model;
 ghost use Rattle.lift_world.specs.Running.{reports_by, may_report, reporting, instructions, up_to_end};
-ghost use Rattle.lift_world.specs.Groups.{StoresFit};
+ghost use Rattle.lift_world.specs.Groups.{StoresFit, KeepVariables};
 ghost use Rattle.lift_world.specs.Worlds.{world_in, IsController, Happens, Steps, RunsOut, IsWholeScan};
 
 use crate::group::Core;
@@ -45,6 +45,9 @@ fn opening_store(alloc: Global, verified: &Verified, task: u8) -> Result<Option<
     requires { task ≤ (sizes_of verified.now.config).cars }
     ensures there { IfOk result (λ o. is_some o ≡ is_some (program_of verified.now.config task)) }
     ensures of { IfOk result (λ o. (s : Standing) → o ≡ Some s → IsOf verified.now.config task s) }
+    ensures variables { IfOk result (λ o. (s : Standing) → o ≡ Some s
+        → StillHas
+        (opening_variables_by verified.now.config (program_of verified.now.config task)) s.state) }
 {
     let _config = verified.config();
     if !verified.has_task(task) {
@@ -67,6 +70,10 @@ fn opening_stores(
         ≡ is_some (program_of verified.now.config t)) }
     ensures each { IfOk result (λ ss. (t : ℕ) (s : Standing)
         → model.flat (slice_get ss.items t) ≡ Some s → IsOf verified.now.config t s) }
+    ensures variables { IfOk result (λ ss. (t : ℕ) (s : Standing)
+        → model.flat (slice_get ss.items t) ≡ Some s
+        → StillHas
+        (opening_variables_by verified.now.config (program_of verified.now.config t)) s.state) }
 {
     let mut stores = Vec::new(alloc);
     for task in 0..cars + 1 {
@@ -75,12 +82,14 @@ fn opening_stores(
     Ok(stores)
 }
 
-// The task's scan begins.
+// The task's scan begins, in its store, which still has its variables.
 fn begin(core: &mut Core, verified: &Verified, task: u8, store: &mut Option<Store>)
     requires program { core.old.config ≡ verified.now.config }
     requires there { IsSome (task_at core.old.group task) }
     requires kept { IsSome store.old }
     requires of { (s : Standing) → store.old ≡ Some s → IsOf verified.now.config task s }
+    requires variables { (x : TaskState) (s : Standing) → task_at core.old.group task ≡ Some x
+        → store.old ≡ Some s → StillHas x.variables s.state }
     ensures config { core.new.config ≡ core.old.config }
     ensures group { (x : TaskState) → task_at core.old.group task ≡ Some x
         → core.new.group ≡ model.started_group core.old.group task x }
@@ -90,7 +99,7 @@ fn begin(core: &mut Core, verified: &Verified, task: u8, store: &mut Option<Stor
         ≡ scan_begins verified.now.config task (model.beginning_of core.old.group x)) }
 {
     if let Some(store) = store {
-        core.start(verified, task, store);
+        core.start_in_place(verified, task, store);
     }
 }
 
@@ -151,6 +160,7 @@ pub fn opening(alloc: Global, verified: &Verified) -> Result<Opened, AllocError>
     ensures group { IfOk result (λ o. o.core.group ≡ model.opening_group verified.now.config) }
     ensures stores { IfOk result
         (λ o. StoresFit verified.now.config o.core.group.tasks o.stores.items) }
+    ensures variables { IfOk result (λ o. KeepVariables o.core.group.tasks o.stores.items) }
 {
     let _config = verified.config();
     let core = Core::new(alloc, verified)?;
@@ -240,6 +250,7 @@ impl Controller {
         ensures core { self.new.core.config ≡ self.old.core.config }
         ensures stores { StoresFit self.old.verified.config self.new.core.group.tasks
             self.new.stores.items }
+        ensures variables { KeepVariables self.new.core.group.tasks self.new.stores.items }
     {
         if !self.core.has_task(task) {
             return Reply::Refused(EventFault::NoSuchActor);
@@ -266,6 +277,7 @@ impl Controller {
         ensures core { self.new.core.config ≡ self.old.core.config }
         ensures stores { StoresFit self.old.verified.config self.new.core.group.tasks
             self.new.stores.items }
+        ensures variables { KeepVariables self.new.core.group.tasks self.new.stores.items }
     {
         if !self.core.has_task(task) {
             return Reply::Refused(EventFault::NoSuchActor);
@@ -287,6 +299,7 @@ impl Controller {
         ensures core { self.new.core.config ≡ self.old.core.config }
         ensures stores { StoresFit self.old.verified.config self.new.core.group.tasks
             self.new.stores.items }
+        ensures variables { KeepVariables self.new.core.group.tasks self.new.stores.items }
     {
         if !self.core.has_task(task) {
             return Reply::Refused(EventFault::NoSuchActor);
@@ -315,6 +328,7 @@ impl Controller {
         ensures core { self.new.core.config ≡ self.old.core.config }
         ensures stores { StoresFit self.old.verified.config self.new.core.group.tasks
             self.new.stores.items }
+        ensures variables { KeepVariables self.new.core.group.tasks self.new.stores.items }
     {
         if !in_range(fields, self.verified.sizes()) {
             return Reply::Refused(EventFault::FieldOutOfRange);
@@ -333,6 +347,7 @@ impl Controller {
         ensures core { self.new.core.config ≡ self.old.core.config }
         ensures stores { StoresFit self.old.verified.config self.new.core.group.tasks
             self.new.stores.items }
+        ensures variables { KeepVariables self.new.core.group.tasks self.new.stores.items }
     {
         let sizes = self.verified.sizes();
         if !is_floor(call.from, sizes) || !is_floor(call.to, sizes) {
@@ -358,6 +373,7 @@ impl Controller {
         ensures core { self.new.core.config ≡ self.old.core.config }
         ensures stores { StoresFit self.old.verified.config self.new.core.group.tasks
             self.new.stores.items }
+        ensures variables { KeepVariables self.new.core.group.tasks self.new.stores.items }
     {
         if !is_floor(floor, self.verified.sizes()) {
             return Reply::Refused(EventFault::NoSuchActor);
@@ -446,7 +462,7 @@ impl Controller {
         let Some(scan) = &mut self.stores[usize::from(task)] else {
             unreachable!()
         };
-        self.core.start(&self.verified, task, scan);
+        self.core.start_in_place(&self.verified, task, scan);
         finish(&self.verified, task, scan);
         self.core.commit(&self.verified, task, scan, report);
     }

@@ -2,14 +2,14 @@
 
 ghost use Rattle.std.specs.Prelude.{◌≡◌, List, [], Option, ℕ, All, Some, None, IfOk, IsSome, is_some, option_and_then};
 ghost use Rattle.il_table.specs.NameMap as values;
-ghost use Rattle.il_machine.specs.Standing.{IsOf};
+ghost use Rattle.il_machine.specs.Standing.{IsOf, StillHas};
 ghost use Rattle.lift_spec.specs.Calls.{enter_all, IsCall};
 ghost use Rattle.lift_spec.specs.Image.{sizes_of, FieldsInRange, Obeys};
 ghost use Rattle.lift_spec.specs.Snapshot.{scan_begins};
 ghost use Rattle.lift_spec.specs.World.{TaskState, task_at, opening_group, beginning_of, started_group, committed_group, refreshed_group, InRanges};
 ghost use Rattle.lift_world.specs.Groups.{is_open_in};
 
-use crate::shared::Shared;
+use crate::shared::{Shared, Variables};
 use il_machine::{Store, Value, Verified};
 use lift_calls::book::CallBook;
 use lift_spec::calls::Slot;
@@ -139,7 +139,43 @@ impl Core {
             ≡ scan_begins verified.now.config task (beginning_of self.old.group x) }
         ensures of { IsOf verified.now.config task store.new }
     {
-        self.shared.start(verified, task, store);
+        self.start_with(verified, task, store, Variables::Copied);
+    }
+
+    /// The same in a store that still has the task's variables.
+    pub(crate) fn start_in_place(&mut self, verified: &Verified, task: u8, store: &mut Store)
+        requires program { self.old.config ≡ verified.now.config }
+        requires there { IsSome (task_at self.old.group task) }
+        requires of { IsOf verified.now.config task store.old }
+        requires kept { (x : TaskState) → task_at self.old.group task ≡ Some x
+            → StillHas x.variables store.old.state }
+        ensures config { self.new.config ≡ self.old.config }
+        ensures group { (x : TaskState) → task_at self.old.group task ≡ Some x
+            → self.new.group ≡ started_group self.old.group task x }
+        ensures begins { (x : TaskState) → task_at self.old.group task ≡ Some x
+            → store.new.state
+            ≡ scan_begins verified.now.config task (beginning_of self.old.group x) }
+        ensures of { IsOf verified.now.config task store.new }
+    {
+        self.start_with(verified, task, store, Variables::Stay);
+    }
+
+    // A task's scan begins, with the variables that its store still has, or with those that it takes.
+    fn start_with(&mut self, verified: &Verified, task: u8, store: &mut Store, variables: Variables)
+        requires program { self.old.config ≡ verified.now.config }
+        requires there { IsSome (task_at self.old.group task) }
+        requires of { IsOf verified.now.config task store.old }
+        requires kept { variables ≡ Variables.Stay → (x : TaskState)
+            → task_at self.old.group task ≡ Some x → StillHas x.variables store.old.state }
+        ensures config { self.new.config ≡ self.old.config }
+        ensures group { (x : TaskState) → task_at self.old.group task ≡ Some x
+            → self.new.group ≡ started_group self.old.group task x }
+        ensures begins { (x : TaskState) → task_at self.old.group task ≡ Some x
+            → store.new.state
+            ≡ scan_begins verified.now.config task (beginning_of self.old.group x) }
+        ensures of { IsOf verified.now.config task store.new }
+    {
+        self.shared.start(verified, task, store, variables);
     }
 
     /// A task's scan hands over its variables and the globals that its program writes. A car's outputs are settled, and it may serve a

@@ -8,7 +8,7 @@ ghost use Rattle.il_run.specs.Scan.{restricted};
 ghost use Rattle.lift_world.specs.declared.shared.TaskMemory.{TaskMemory as MemoryOf};
 ghost use Rattle.il_layout.specs.Layout.{Rows as RowsOf};
 ghost use Rattle.il_machine.specs.Scanning.{FitsOwn, OwnsDeclared, variables_in};
-ghost use Rattle.il_machine.specs.Standing.{IsOf, beginning_with};
+ghost use Rattle.il_machine.specs.Standing.{IsOf, StillHas, beginning_with};
 ghost use Rattle.lift_spec.specs.Image.{sizes_of, FieldsInRange};
 ghost use Rattle.lift_spec.specs.Calls.{ticket_of, enter_all, SlotInRange};
 ghost use Rattle.lift_spec.specs.Settle.{settled_car, settled_all, with_outputs, denials_of};
@@ -54,6 +54,13 @@ impl Drop for Shared {
             memories: _memories,
         } = self;
     }
+}
+
+/// Whether a task's store still has its variables, or takes them.
+#[derive(Clone, Copy)]
+pub enum Variables {
+    Stay,
+    Copied,
 }
 
 // Rows of their own with these values.
@@ -115,6 +122,7 @@ fn start_task(
     image: &Image,
     calls: &CallBook,
     store: &mut Store,
+    variables: Variables,
 )
     requires there { IsSome memory.old }
     requires variables { (s : MemoryOf) → memory.old ≡ Some s
@@ -127,6 +135,8 @@ fn start_task(
     requires each { (last : ℕ)
         × All (SlotInRange (sizes_of verified.now.config) last) calls.now.slots }
     requires of { IsOf verified.now.config task store.old }
+    requires kept { variables ≡ Variables.Stay → (s : MemoryOf) → memory.old ≡ Some s
+        → StillHas (variables_in verified.now.config task s.variables) store.old.state }
     ensures memory { (s : MemoryOf) → memory.old ≡ Some s
         → memory.new
         ≡ Some (record {
@@ -141,14 +151,17 @@ fn start_task(
     ensures of { IsOf verified.now.config task store.new }
 {
     if let Some(memory) = memory {
+        memory.tickets.open(calls);
         let begin = Begin {
             variables: &memory.variables,
             globals,
             image,
             calls,
         };
-        store.restart(verified, task, &begin);
-        memory.tickets.open(calls);
+        match variables {
+            Variables::Stay => store.restart_in_place(verified, task, &begin),
+            Variables::Copied => store.restart(verified, task, &begin),
+        }
     }
 }
 
@@ -311,11 +324,13 @@ impl Shared {
     }
 
     /// A task's scan begins, and the task holds the tickets that it sees. No scan of it is open.
-    pub fn start(&mut self, verified: &Verified, task: u8, store: &mut Store)
+    pub fn start(&mut self, verified: &Verified, task: u8, store: &mut Store, variables: Variables)
         requires there { IsSome (memory_at self.old task) }
         requires fits { SharedFits verified.now.config self.old }
         requires ranges { InRanges verified.now.config (group_in verified.now.config self.old) }
         requires of { IsOf verified.now.config task store.old }
+        requires kept { variables ≡ Variables.Stay → (s : MemoryOf) → memory_at self.old task ≡ Some s
+            → StillHas (variables_in verified.now.config task s.variables) store.old.state }
         ensures begins { (s : MemoryOf) → memory_at self.old task ≡ Some s
             → store.new.state
             ≡ scan_begins verified.now.config task
@@ -337,6 +352,7 @@ impl Shared {
             &self.image,
             &self.calls,
             store,
+            variables,
         );
     }
 

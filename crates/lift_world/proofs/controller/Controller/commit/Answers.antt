@@ -3,7 +3,7 @@ use Rattle.std.specs.Prelude.{is_some}
 use Rattle.il_machine.specs.Standing.{Standing}
 use Rattle.lift_spec.specs.World.{TaskState, task_at, committed_group}
 use Rattle.lift_world.proofs.Views.{the_memory}
-use Rattle.lift_world.proofs.Happening.{none_there, found, tickets_so, store_within, lent_is, lent_of, commit_none, commit_without, commit_early, open_so, committed, committed_stores}
+use Rattle.lift_world.proofs.Happening.{none_there, found, tickets_so, store_within, lent_is, lent_of, commit_none, commit_without, commit_early, open_so, committed, committed_stores, committed_variables}
 use Rattle.lift_world.proofs.controller.Controller.commit.Goals as goal
 
 pub returns-then-not-has_task-clause-model : goal.returns-then-not-has_task-clause-model
@@ -69,3 +69,14 @@ returns-clause-stores c =
     c.commit.ensures.group
     in
     committed_stores w c.requires c.args.task x c.commit.new.self.group c.commit.new.report (tickets_so w c.requires c.args.task x _ true c.is_open.ensures c.if-not-is_open.false) group
+
+pub returns-clause-variables : goal.returns-clause-variables
+returns-clause-variables c =
+    let w = c.args.self.now in
+    let x = found c.args.self.now c.requires c.args.task _ c.has_task.ensures c.if-not-has_task.false in
+    let same : c.in-Some.store ≡ x.store = the_memory _ c.in-Some.store x.store c.in-Some.is (lent_is c.args.self.now c.requires c.args.task x _ _ c.from.ensures c.index.ensures) in
+    let group =
+    subst (λ (s : Standing). (y : TaskState) (ts : List (Option ℕ)) → task_at w.core.group c.args.task ≡ Some y → y.tickets ≡ Some ts → committed_group w.verified.config w.core.group c.args.task y ts s.state.values ≡ (c.commit.new.self.group, c.commit.new.report)) same
+    c.commit.ensures.group
+    in
+    committed_variables w c.requires c.args.task x c.commit.new.self.group c.commit.new.report (tickets_so w c.requires c.args.task x _ true c.is_open.ensures c.if-not-is_open.false) group

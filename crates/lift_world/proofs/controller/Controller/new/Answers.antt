@@ -2,7 +2,7 @@ use Rattle.std.proofs.Common.{◌≡◌, ◌∙◌, subst}
 use Rattle.std.specs.Prelude.{IfOk}
 use Rattle.lift_spec.specs.World.{opening_group}
 use Rattle.lift_world.specs.declared.controller.Opened.{Opened}
-use Rattle.lift_world.specs.Groups.{StoresFit}
+use Rattle.lift_world.specs.Groups.{StoresFit, KeepVariables}
 use Rattle.lift_world.proofs.Opens.{world_opens, tasks_many}
 use Rattle.lift_world.proofs.Sound.{opening_reached}
 use Rattle.lift_world.proofs.controller.Controller.new.Goals.{After-of}
@@ -17,6 +17,9 @@ group c = subst (λ r. IfOk r (λ (o : Opened). o.core.group ≡ opening_group c
 
 stores : (c : After-of) → StoresFit c.args.verified.config c.in_ok-verified.opened.core.group.tasks c.in_ok-verified.opened.stores.items
 stores c = subst (λ r. IfOk r (λ (o : Opened). StoresFit c.args.verified.config o.core.group.tasks o.stores.items)) c.in_ok-verified.ensures.ok.1 c.opening-opened.ensures.stores
+
+variables : (c : After-of) → KeepVariables c.in_ok-verified.opened.core.group.tasks c.in_ok-verified.opened.stores.items
+variables c = subst (λ r. IfOk r (λ (o : Opened). KeepVariables o.core.group.tasks o.stores.items)) c.in_ok-verified.ensures.ok.1 c.opening-opened.ensures.variables
 
 pub returns-clause-opening : goal.returns-clause-opening
 returns-clause-opening c =
@@ -33,5 +36,6 @@ returns-clause-world c =
       costs = c.config-config.ensures.costs;
       same = config c;
       stores = stores c;
+      variables = variables c;
       reached = opening_reached k _ (world_opens k opened.core.group opened.stores.items (group c) ((stores c).as_many ∙ tasks_many k opened.core.group (group c)));
     })

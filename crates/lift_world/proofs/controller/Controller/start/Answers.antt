@@ -1,6 +1,6 @@
 use Rattle.std.proofs.Common.{rules, ◌∙◌, sym, ap, true, false}
 use Rattle.std.specs.Prelude.{is_some}
-use Rattle.lift_world.proofs.Happening.{none_there, found, tickets_so, store_within, lent_is, lent_of, start_none, start_again, started, started_stores}
+use Rattle.lift_world.proofs.Happening.{none_there, found, tickets_so, store_within, lent_is, lent_of, lent_variables, start_none, start_again, started, started_stores, started_variables}
 use Rattle.lift_world.proofs.controller.Controller.start.Goals as goal
 
 pub returns-then-not-has_task-clause-model : goal.returns-then-not-has_task-clause-model
@@ -33,6 +33,11 @@ begin-requires-clause-of c =
     let x = found c.args.self.now c.requires c.args.task _ c.has_task.ensures c.if-not-has_task.false in
     lent_of c.args.self.now c.requires c.args.task x _ (lent_is c.args.self.now c.requires c.args.task x _ _ c.from.ensures c.index_mut.ensures.value)
 
+pub begin-requires-clause-variables : goal.begin-requires-clause-variables
+begin-requires-clause-variables c =
+    let x = found c.args.self.now c.requires c.args.task _ c.has_task.ensures c.if-not-has_task.false in
+    lent_variables c.args.self.now c.requires c.args.task x (tickets_so c.args.self.now c.requires c.args.task x _ false c.is_open.ensures c.if-is_open.false) _ (lent_is c.args.self.now c.requires c.args.task x _ _ c.from.ensures c.index_mut.ensures.value)
+
 pub returns-clause-model : goal.returns-clause-model
 returns-clause-model c = λ _.
     let w = c.args.self.now in
@@ -46,3 +51,10 @@ returns-clause-stores c =
     let x = found c.args.self.now c.requires c.args.task _ c.has_task.ensures c.if-not-has_task.false in
     let s = c.begin.ensures.store x.task x.there in
     started_stores w c.requires c.args.task x c.begin.new.core.group s.0 (c.begin.ensures.group x.task x.there) c.begin.new.store c.from.result c.from.ensures s.1 s.2
+
+pub returns-clause-variables : goal.returns-clause-variables
+returns-clause-variables c =
+    let w = c.args.self.now in
+    let x = found c.args.self.now c.requires c.args.task _ c.has_task.ensures c.if-not-has_task.false in
+    let s = c.begin.ensures.store x.task x.there in
+    started_variables w c.requires c.args.task x c.begin.new.core.group s.0 (c.begin.ensures.group x.task x.there) c.begin.new.store c.from.result c.from.ensures

@@ -5,6 +5,9 @@ use Rattle.lift_world.proofs.shared.Shared.start.Goals as goal
 pub start_task-requires-clause-variables : goal.start_task-requires-clause-variables
 start_task-requires-clause-variables c = λ s is. c.requires.fits.memories c.args.task s (here _ _ _ _ c.from.ensures c.index_mut.ensures.value c.requires.there ∙ is)
 
+pub start_task-requires-clause-kept : goal.start_task-requires-clause-kept
+start_task-requires-clause-kept c = λ stay s is. c.requires.kept stay s (here _ _ _ _ c.from.ensures c.index_mut.ensures.value c.requires.there ∙ is)
+
 pub start_task-requires-clause-each : goal.start_task-requires-clause-each
 start_task-requires-clause-each c = (c.args.self.now.calls.last_ticket, c.requires.ranges.each_slot)
 

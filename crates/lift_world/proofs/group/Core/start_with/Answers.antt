@@ -3,11 +3,11 @@ use Rattle.std.specs.Prelude.{is_some}
 use Rattle.il_spec.specs.declared.tree.Config.{Config}
 use Rattle.lift_spec.specs.Snapshot.{scan_begins}
 use Rattle.lift_spec.specs.World.{InRanges, beginning_of, started_group, task_at}
-use Rattle.lift_world.specs.Running.{memory_at, SharedFits, group_in}
+use Rattle.lift_world.specs.Running.{memory_at, task_in, task_by, SharedFits, group_in}
 use Rattle.lift_world.specs.Groups.{GroupOf}
 use Rattle.lift_world.proofs.Views.{some_of}
-use Rattle.lift_world.proofs.Grouped.{config_here, group_here, task_some, memory_there, started_holds, group_started}
-use Rattle.lift_world.proofs.group.Core.start.Goals as goal
+use Rattle.lift_world.proofs.Grouped.{config_here, group_here, task_is, task_some, memory_there, started_holds, group_started}
+use Rattle.lift_world.proofs.group.Core.start_with.Goals as goal
 
 pub start-requires-clause-there : goal.start-requires-clause-there
 start-requires-clause-there c = sym (task_some c.self.inside.program.value.config c.self.inside.shared c.args.task) ∙ ap (λ (k : GroupOf). is_some (task_at k.group c.args.task)) c.self.view_is ∙ c.requires.there
@@ -17,6 +17,12 @@ start-requires-clause-fits c = subst (λ (k : Config). SharedFits k c.self.insid
 
 pub start-requires-clause-ranges : goal.start-requires-clause-ranges
 start-requires-clause-ranges c = subst (λ (k : Config). InRanges k (group_in k c.self.inside.shared)) (config_here c.self.inside.program.value.config c.self.inside.shared c.args.self.now c.self.view_is _ c.requires.program) c.self.invariant.ranges
+
+pub start-requires-clause-kept : goal.start-requires-clause-kept
+start-requires-clause-kept c = λ stay s there.
+    let config = c.args.verified.now.config in
+    let here = group_here c.self.inside.program.value.config c.self.inside.shared c.args.self.now c.self.view_is config c.requires.program in
+    c.requires.kept stay (task_in config c.args.task s) (ap (λ g. task_at g c.args.task) (sym here) ∙ task_is config c.self.inside.shared c.args.task ∙ ap (task_by config c.args.task) there)
 
 pub invariant_of-self : goal.invariant_of-self
 invariant_of-self c =
