@@ -18,8 +18,9 @@ use Rattle.lift_spec.specs.Settle.{Settled, AllSettled, settled_car, settled_all
 use Rattle.lift_spec.specs.Snapshot.{program_of, wishes_of, assigned, assigned_from, written_globals}
 use Rattle.lift_spec.specs.World.{Group, committed_group, car_commits, refreshed_group, refreshed_as, tell_all, serve_wish}
 use Rattle.lift_world.specs.declared.shared.TaskMemory.{TaskMemory}
-use Rattle.lift_world.specs.Running.{task_in, tasks_in, group_by}
-use Rattle.lift_world.proofs.Views.{task_put}
+use Rattle.lift_world.specs.declared.shared.Shared.{Shared}
+use Rattle.lift_world.specs.Running.{task_in, tasks_in, group_by, group_in, HasOpenScan, Commits, CommitsUnder, wished_ticket, serve_under}
+use Rattle.lift_world.proofs.Views.{task_put, the_memory}
 
 -- a refresh, by what it settles and what enters
 pub refresh_group : (c : Config) (i : Image) (k : Calls) (g : Values) (memories : List (Option TaskMemory)) (fields : Fields) (hand : List Call) (settled : AllSettled) (entered : Entered)
@@ -88,3 +89,18 @@ assigned_many (suc n) slot values = ap suc (assigned_many n (slot + 1) values)
 pub assigned_each : (n : ℕ) (values : Values) → length (assigned n values) ≡ n
 unfolding assigned
 assigned_each n values = assigned_many n 1 values
+
+-- what a car serves, by the ticket of the slot of its wish
+pub serves : (calls : Calls) (car : ℕ) (tickets : List (Option ℕ)) (slot : ℕ) (ticket : Option ℕ) → ticket ≡ wished_ticket tickets slot → serve_wish calls car tickets slot ≡ serve_under calls car slot ticket
+serves calls car tickets zero ticket is = refl
+serves calls car tickets (suc slot) ticket is = ap (serve_under calls car (suc slot)) (sym is)
+
+-- a commit under the tickets that the open scan saw
+pub commits_open : (c : Config) (t : ℕ) (k after : Shared) (values : Values) (report : Report) (o : HasOpenScan c k t) → CommitsUnder c t k o.tickets values after report → Commits c t k values after report
+commits_open c t k after values report o under = record {
+  group = λ s tickets there saw.
+      let same : o.tickets ≡ tickets = the_memory o.memory.tickets o.tickets tickets o.saw (ap (λ (x : TaskMemory). x.tickets) (the_memory _ o.memory s o.there there) ∙ saw) in
+      ap (λ ts. committed_group c (group_in c k) t (task_in c t s) ts values) (sym same) ∙ under.group s there;
+  closed = under.closed;
+  fits = under.fits;
+}

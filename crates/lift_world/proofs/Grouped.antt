@@ -1,12 +1,14 @@
 -- What the tasks share keeps its ranges, and is the group of the definitions.
-use Rattle.std.proofs.Common.{◌≡◌, ℕ, suc, ◌+◌, inl, inr, List, [], ◌∷◌, map, length, All, Option, Some, None, Bor, refl, sym, ap, ◌∙◌, subst}
+use Rattle.std.proofs.Common.{◌≡◌, ℕ, suc, ◌+◌, inl, inr, true, List, [], ◌∷◌, map, length, All, Option, Some, None, Bor, refl, sym, ap, ◌∙◌, subst}
 use Rattle.std.specs.Prelude.{slice_get, is_some, option_copied}
 use Rattle.std.proofs.lemmas.List.{length-map}
 use Rattle.il_spec.specs.declared.tree.Config.{Config}
 use Rattle.il_spec.specs.declared.tree.Unit.{Unit as ProgramUnit}
 use Rattle.il_run.specs.State.{State}
 use Rattle.il_machine.specs.Scanning.{IsRunnable}
+use Rattle.il_layout.specs.Layout.{Rows}
 use Rattle.il_machine.specs.Sharing.{globals_in}
+use Rattle.il_machine.specs.Standing.{Standing, IsOf}
 use Rattle.il_machine.proofs.Scans.{sound_of}
 use Rattle.lift_spec.specs.declared.image.Fields.{Fields}
 use Rattle.lift_spec.specs.declared.calls.Call.{Call}
@@ -28,8 +30,8 @@ use Rattle.lift_run_laws.proofs.Tasks.{is_sized}
 use Rattle.lift_world.specs.declared.shared.Shared.{Shared}
 use Rattle.lift_world.specs.declared.shared.TaskMemory.{TaskMemory}
 use Rattle.lift_world.specs.Running.{memory_at, open_by, task_in, task_by, tasks_in, group_in, with_memory, SharedFits, HasOpenScan, Commits, HoldsShared}
-use Rattle.lift_world.specs.Groups.{GroupOf, holds_tickets, is_open_in}
-use Rattle.lift_world.proofs.Views.{length_set, after_set, task_here, task_put}
+use Rattle.lift_world.specs.Groups.{GroupOf, ScansWhole, holds_tickets, is_open_in}
+use Rattle.lift_world.proofs.Views.{length_set, after_set, some_of, task_here, task_put}
 use Rattle.lift_world.proofs.Keeping.{memories_put}
 use Rattle.lift_world.proofs.Opens.{all_idle, tasks_many}
 
@@ -148,37 +150,61 @@ open_scan c k holds t x tickets e saw =
     let is : (s.0).tickets ≡ Some tickets = ap (λ (y : TaskState). y.tickets) s.2 ∙ saw in
     record { memory = s.0; there = s.1; tickets = tickets; saw = is; each = holds.saw t s.0 tickets s.1 is }
 
-module _ (c : Config) (k after : Shared) (holds : HoldsShared c k) (t : ℕ) (scan : State) (report : Report) (commits : Commits c t k scan.values after report) (known : (u : ProgramUnit) → IsTaskOf c t u → ScanHolds c t u 0 scan) (open_so : HasOpenScan c k t) where
-  pub group_committed : (x : TaskState) (tickets : List (Option ℕ)) → task_at (group_in c k) t ≡ Some x → x.tickets ≡ Some tickets → committed_group c (group_in c k) t x tickets scan.values ≡ (group_in c after, report)
-  group_committed x tickets e saw =
-      let s = memory_there c k t x e in
-      ap (λ y. committed_group c (group_in c k) t y tickets scan.values) (sym s.2) ∙ commits.group s.0 tickets s.1 (ap (λ (y : TaskState). y.tickets) s.2 ∙ saw)
+-- what the scan of a store has written lies in its ranges
+pub known_of : (c : Config) (t : ℕ) (s : Standing) → IsOf c t s → ((u : ProgramUnit) → IsTaskOf s.config s.task u → ScanHolds s.config s.task u 0 s.state) → (u : ProgramUnit) → IsTaskOf c t u → ScanHolds c t u 0 s.state
+known_of c t s of holds =
+    subst (λ k. (u : ProgramUnit) → IsTaskOf k t u → ScanHolds k t u 0 s.state) of.0
+    (subst (λ n. (u : ProgramUnit) → IsTaskOf s.config n u → ScanHolds s.config n u 0 s.state) of.1 holds)
 
-  left : committed_group c (group_in c k) t (task_in c t open_so.memory) open_so.tickets scan.values ≡ (group_in c after, report)
-  left = commits.group open_so.memory open_so.tickets open_so.there open_so.saw
-
-  well : CommitsWell c (group_in c k) t (task_in c t open_so.memory) scan.values (committed_group c (group_in c k) t (task_in c t open_so.memory) open_so.tickets scan.values).0
+-- a commit of a task, under these tickets
+module _ (c : Config) (k after : Shared) (holds : HoldsShared c k) (t : ℕ) (s : TaskMemory) (there : memory_at k t ≡ Some s) (tickets : List (Option ℕ)) (each : length tickets ≡ (sizes_of c).slots) (scan : State) (known : (u : ProgramUnit) → IsTaskOf c t u → ScanHolds c t u 0 scan) (report : Report)
+    (left : committed_group c (group_in c k) t (task_in c t s) tickets scan.values ≡ (group_in c after, report)) (closed : (v : Rows) × (after.memories.items ≡ with_memory k t v None)) (fits : SharedFits c after) where
+  well : CommitsWell c (group_in c k) t (task_in c t s) scan.values (committed_group c (group_in c k) t (task_in c t s) tickets scan.values).0
   well =
-      let own = holds.fits.memories t open_so.memory open_so.there in
-      commits_well c (group_in c k) t 0 own.0.0 (task_in c t open_so.memory) open_so.tickets scan (is_sized c holds.runnable.declared) holds.ranges (record { slots = holds.ranges.slots; each = holds.ranges.each_slot; tickets = holds.tickets }) holds.obeys own.0.1 (known own.0.0 own.0.1) open_so.each
+      let own = holds.fits.memories t s there in
+      commits_well c (group_in c k) t 0 own.0.0 (task_in c t s) tickets scan (is_sized c holds.runnable.declared) holds.ranges (record { slots = holds.ranges.slots; each = holds.ranges.each_slot; tickets = holds.tickets }) holds.obeys own.0.1 (known own.0.0 own.0.1) each
 
-  after_is : (committed_group c (group_in c k) t (task_in c t open_so.memory) open_so.tickets scan.values).0 ≡ group_in c after
+  after_is : (committed_group c (group_in c k) t (task_in c t s) tickets scan.values).0 ≡ group_in c after
   after_is = ap (λ (r : Group × Report). r.0) left
 
   pub committed_holds : HoldsShared c after
   committed_holds = record {
     runnable = holds.runnable;
-    fits = commits.fits;
+    fits = fits;
     ranges = subst (InRanges c) after_is well.ranges;
     obeys = subst (λ (g : Group). Obeys g.image) after_is well.obeys;
     tickets = subst (λ (g : Group). TicketsHold g.calls) after_is well.tickets;
-    many = ap length commits.closed.1 ∙ length_set k.memories.items t _ ∙ holds.many;
+    many = ap length closed.1 ∙ length_set k.memories.items t _ ∙ holds.many;
     saw = λ j x tickets at saw.
-        elim (after_set k.memories.items t j (record { variables = commits.closed.0; tickets = None }) x (ap (λ l. flat (slice_get l j)) (sym commits.closed.1) ∙ at)) [
+        elim (after_set k.memories.items t j (record { variables = closed.0; tickets = None }) x (ap (λ l. flat (slice_get l j)) (sym closed.1) ∙ at)) [
           | inl now ↦ (let bad : None ≡ Some tickets = ap (λ (y : TaskMemory). y.tickets) now.1 ∙ saw in cc)
           | inr was ↦ holds.saw j x tickets was saw
         ];
   }
+
+-- the commit of an open scan
+module _ (c : Config) (k after : Shared) (holds : HoldsShared c k) (t : ℕ) (scan : State) (report : Report) (commits : Commits c t k scan.values after report) where
+  pub group_committed : (x : TaskState) (tickets : List (Option ℕ)) → task_at (group_in c k) t ≡ Some x → x.tickets ≡ Some tickets → committed_group c (group_in c k) t x tickets scan.values ≡ (group_in c after, report)
+  group_committed x tickets e saw =
+      let s = memory_there c k t x e in
+      ap (λ y. committed_group c (group_in c k) t y tickets scan.values) (sym s.2) ∙ commits.group s.0 tickets s.1 (ap (λ (y : TaskState). y.tickets) s.2 ∙ saw)
+
+  pub open_holds : (o : HasOpenScan c k t) → ((u : ProgramUnit) → IsTaskOf c t u → ScanHolds c t u 0 scan) → HoldsShared c after
+  open_holds o known = committed_holds c k after holds t o.memory o.there o.tickets o.each scan known report (commits.group o.memory o.tickets o.there o.saw) commits.closed commits.fits
+
+-- A WHOLE SCAN
+
+module _ (c : Config) (k after : Shared) (holds : HoldsShared c k) (t : ℕ) (last : Standing) (report : Report) (scan : (s : TaskMemory) → memory_at k t ≡ Some s → ScansWhole c t (group_in c k) (task_in c t s) last (group_in c after) report) where
+  pub group_scanned : (x : TaskState) → task_at (group_in c k) t ≡ Some x → ScansWhole c t (group_in c k) x last (group_in c after) report
+  group_scanned x e =
+      let s = memory_there c k t x e in
+      subst (λ y. ScansWhole c t (group_in c k) y last (group_in c after) report) s.2 (scan s.0 s.1)
+
+  pub scanned_holds : is_some (memory_at k t) ≡ true → (v : Rows) × (after.memories.items ≡ with_memory k t v None) → SharedFits c after → ((u : ProgramUnit) → IsTaskOf last.config last.task u → ScanHolds last.config last.task u 0 last.state) → HoldsShared c after
+  scanned_holds there closed fits known =
+      let s = some_of (memory_at k t) there in
+      let whole = scan s.0 s.1 in
+      committed_holds c k after holds t s.0 s.1 (map ticket_of k.calls.slots) (length-map k.calls.slots ticket_of ∙ holds.ranges.slots) last.state (known_of c t last whole.of known) report whole.commits closed fits
 
 -- REFRESH
 

@@ -12,6 +12,7 @@ pub mod Replying
 pub mod Happening
 pub mod Alone
 pub mod Handing
+pub mod Straight
 pub mod Whole
 mod Standings
 pub mod Nobody

@@ -1,22 +1,20 @@
 -- A whole scan of a task, from its start to its commit.
-use Rattle.std.proofs.Common.{◌≡◌, ◌≢◌, ℕ, ◌≤◌, Bool, true, false, List, [], map, Option, Some, None, Ok, refl, sym, ap, ◌∙◌}
+use Rattle.std.proofs.Common.{◌≡◌, ℕ, Bool, true, false, List, [], map, Option, Some, None, Ok, refl, sym, ap, ◌∙◌}
 use Rattle.std.specs.Prelude.{slice_get, slice_set, is_some}
 use Rattle.il_spec.specs.declared.tree.Config.{Config}
-use Rattle.il_spec.specs.declared.tree.Unit.{Unit as Organized}
 use Rattle.il_run.specs.State.{State}
-use Rattle.il_run.specs.Scan.{Reaches, has_ended, begins}
 use Rattle.il_machine.specs.Scanning.{Program, HasTask}
-use Rattle.il_machine.specs.Standing.{Standing, IsOf}
+use Rattle.il_machine.specs.Standing.{Standing}
 use Rattle.lift_spec.specs.declared.event.Event.TheVariants.{Start, Commit}
 use Rattle.lift_spec.specs.declared.report.Report.{Report}
 use Rattle.lift_spec.specs.Calls.{ticket_of}
 use Rattle.lift_spec.specs.Replies.{Started, Committed}
-use Rattle.lift_spec.specs.Snapshot.{Beginning, program_of, begins_by, scan_begins}
+use Rattle.lift_spec.specs.Snapshot.{scan_begins}
 use Rattle.lift_spec.specs.World.{Group, TaskState, flat, task_at, scan_at, beginning_of, started_group, committed_group, closed_tasks}
 use Rattle.lift_run_laws.specs.Runs.{IsReached}
 use Rattle.lift_world.specs.declared.controller.Controller.{Controller}
 use Rattle.lift_world.specs.Running.{instructions, up_to_end}
-use Rattle.lift_world.specs.Groups.{world_by, StoresFit, KeepVariables}
+use Rattle.lift_world.specs.Groups.{ScansWhole, world_by, StoresFit, KeepVariables}
 use Rattle.lift_world.specs.Worlds.{world_in, IsController, IsWholeScan}
 use Rattle.lift_world.proofs.Views.{set_again, set_there, within}
 use Rattle.lift_world.proofs.Keeping.{stores_step, stores_task, variables_step, variables_begun, variables_left}
@@ -24,11 +22,7 @@ use Rattle.lift_world.proofs.Sound.{reached_well, one_event, many_events}
 use Rattle.lift_world.proofs.Events.{open_scan, start_is, commit_is, commit_closes, ended_so}
 use Rattle.lift_world.proofs.Finishing.{finishes}
 use Rattle.lift_world.proofs.Happening.{There, found}
-
--- where a task's scan begins it has not ended
-begins_going : (c : Config) (t : ℕ) (u : Organized) (b : Beginning) → program_of c t ≡ Some u → has_ended (scan_begins c t b) ≡ false
-unfolding scan_begins begins
-begins_going c t u b is = ap (λ o. has_ended (begins_by c t b o)) is
+use Rattle.lift_world.proofs.Straight.{committed_again}
 
 -- a task of the group is there
 pub the_task : (w : Controller) → IsController w → (t : ℕ) → HasTask w.verified.config t → There w t
@@ -59,9 +53,6 @@ module _ (w : Controller) (is : IsController w) (t : ℕ) (has : HasTask w.verif
 
   -- THE START
 
-  pub there_so : is_some (task_at g t) ≡ true
-  there_so = ap is_some x.there
-
   abbrev seen : List (Option ℕ)
   seen = map ticket_of g.calls.slots
 
@@ -74,85 +65,81 @@ module _ (w : Controller) (is : IsController w) (t : ℕ) (has : HasTask w.verif
   there_now : task_at begun_group t ≡ Some begun_task
   there_now = set_there g.tasks t begun_task (within g.tasks t x.task x.there)
 
-  module _ (group : Group) (s : Standing) (starts : (y : TaskState) → task_at g t ≡ Some y → group ≡ started_group g t y) (begins_so : (y : TaskState) → task_at g t ≡ Some y → s.state ≡ scan_begins c t (beginning_of g y)) where
-    group_is : group ≡ begun_group
-    group_is = starts x.task x.there
+  -- where the scan stands then
+  abbrev first : Standing
+  first = record { config = c; task = t; state = scan_begins c t (beginning_of g x.task) }
 
-    -- it has not ended
-    pub going : s.state.frames ≢ []
-    going over = let bad : true ≡ false = sym (ended_so s.state over) ∙ ap has_ended (begins_so x.task x.there) ∙ begins_going c t has.0 (beginning_of g x.task) has.1.program in cc
+  -- THE END AND THE COMMIT
 
-    -- and it is open
-    pub opened : (y : TaskState) × (tickets : List (Option ℕ)) × (task_at group t ≡ Some y) × (y.tickets ≡ Some tickets)
-    opened = (begun_task, seen, ap (λ (k : Group). task_at k t) group_is ∙ there_now, refl)
+  module _ (i : ℕ) (at : i ≡ t) (last : Standing) (after : Group) (report : Report) (whole : (y : TaskState) → task_at g t ≡ Some y → ScansWhole c t g y last after report) where
+    scan : ScansWhole c t g x.task last after report
+    scan = whole x.task x.there
 
-    -- THE END AND THE COMMIT
+    abbrev first_stores : List (Option Standing)
+    first_stores = slice_set stores t (Some first)
 
-    module _ (last : Standing) (n i : ℕ) (after : Group) (report : Report) (at : i ≡ t) (of : IsOf c t s) (steps : Reaches c n s.state last.state) (of_last : IsOf c t last) (over : last.state.frames ≡ []) (some : 1 ≤ n)
-        (commits : (y : TaskState) (tickets : List (Option ℕ)) → task_at group t ≡ Some y → y.tickets ≡ Some tickets → committed_group c group t y tickets last.state.values ≡ (after, report)) where
-      abbrev first_stores : List (Option Standing)
-      first_stores = slice_set stores t (Some s)
+    abbrev last_stores : List (Option Standing)
+    last_stores = slice_set first_stores t (Some last)
 
-      abbrev last_stores : List (Option Standing)
-      last_stores = slice_set first_stores t (Some last)
+    put_once : slice_set stores i (Some last) ≡ last_stores
+    put_once = ap (λ k. slice_set stores k (Some last)) at ∙ sym (set_again stores t (Some first) (Some last))
 
-      put_once : slice_set stores i (Some last) ≡ last_stores
-      put_once = ap (λ k. slice_set stores k (Some last)) at ∙ sym (set_again stores t (Some s) (Some last))
+    commits_to : committed_group c begun_group t begun_task seen last.state.values ≡ (after, report)
+    commits_to = committed_again c g t x.task (Some seen) seen last.state.values ∙ scan.commits
 
-      commits_to : committed_group c begun_group t begun_task seen last.state.values ≡ (after, report)
-      commits_to = ap (λ (k : Group). committed_group c k t begun_task seen last.state.values) (sym group_is) ∙ commits begun_task seen (ap (λ (k : Group). task_at k t) group_is ∙ there_now) refl
+    kept_first : flat (slice_get first_stores t) ≡ Some first
+    kept_first = set_there stores t first (within stores t x.store x.kept)
 
-      kept_first : flat (slice_get first_stores t) ≡ Some s
-      kept_first = set_there stores t s (within stores t x.store x.kept)
+    kept_last : flat (slice_get last_stores t) ≡ Some last
+    kept_last = set_there first_stores t last (within first_stores t first kept_first)
 
-      kept_last : flat (slice_get last_stores t) ≡ Some last
-      kept_last = set_there first_stores t last (within first_stores t s kept_first)
+    fit_first : StoresFit c begun_group.tasks first_stores
+    fit_first = stores_step c begun_group.tasks stores t x.store first (stores_task c g.tasks begun_group.tasks stores t x.task begun_task is.stores x.there refl) (refl, refl) x.kept
 
-      fit_first : StoresFit c begun_group.tasks first_stores
-      fit_first = stores_step c begun_group.tasks stores t x.store s (stores_task c g.tasks begun_group.tasks stores t x.task begun_task is.stores x.there refl) of x.kept
+    fit_last : StoresFit c begun_group.tasks last_stores
+    fit_last = stores_step c begun_group.tasks first_stores t first last fit_first scan.of kept_first
 
-      fit_last : StoresFit c begun_group.tasks last_stores
-      fit_last = stores_step c begun_group.tasks first_stores t s last fit_first of_last kept_first
+    closed_now : after.tasks ≡ closed_tasks begun_group t begun_task last.state.values
+    closed_now = ap (λ (r : Group × Report). r.0.tasks) (sym commits_to) ∙ commit_closes c begun_group t begun_task seen last.state.values
 
-      closed_now : after.tasks ≡ closed_tasks begun_group t begun_task last.state.values
-      closed_now = ap (λ (r : Group × Report). r.0.tasks) (sym commits_to) ∙ commit_closes c begun_group t begun_task seen last.state.values
+    fit_after : StoresFit c after.tasks last_stores
+    fit_after = stores_task c begun_group.tasks after.tasks last_stores t begun_task _ fit_last there_now closed_now
 
-      fit_after : StoresFit c after.tasks last_stores
-      fit_after = stores_task c begun_group.tasks after.tasks last_stores t begun_task _ fit_last there_now closed_now
+    keep_last : KeepVariables begun_group.tasks last_stores
+    keep_last = variables_step begun_group.tasks first_stores t begun_task (Some last) (variables_begun g.tasks begun_group.tasks stores t x.task begun_task (Some first) is.variables x.there refl refl) there_now refl
 
-      keep_last : KeepVariables begun_group.tasks last_stores
-      keep_last = variables_step begun_group.tasks first_stores t begun_task (Some last) (variables_begun g.tasks begun_group.tasks stores t x.task begun_task (Some s) is.variables x.there refl refl) there_now refl
+    keep_after : KeepVariables after.tasks last_stores
+    keep_after = variables_left begun_group.tasks after.tasks last_stores t begun_task.variables last keep_last kept_last closed_now
 
-      keep_after : KeepVariables after.tasks last_stores
-      keep_after = variables_left begun_group.tasks after.tasks last_stores t begun_task.variables last keep_last kept_last closed_now
+    -- the whole scan
+    pub scans : IsWholeScan c t (world_in w) (world_by after (slice_set stores i (Some last)) w.desk w.hand) report
+    scans = record {
+      begun = world_by begun_group first_stores w.desk w.hand;
+      start = start_is c g stores w.desk w.hand t x.task x.store is.stores.as_many x.there x.kept first idle refl;
+      count = scan.count;
+      some = scan.some;
+      ended = world_by begun_group last_stores w.desk w.hand;
+      steps =
+          finishes c begun_group first_stores w.desk w.hand t begun_task fit_first.as_many there_now first (Some last) scan.count
+          (record { store = last; is = refl; of = scan.of; some = scan.some; steps = scan.steps; ended = scan.ended }) refl kept_first;
+      commit = commit_is c begun_group last_stores w.desk w.hand t begun_task last fit_last.as_many there_now kept_last seen after report refl (ended_so last.state scan.ended) commits_to
+          ∙ ap (λ ss. Ok (world_by after ss w.desk w.hand, Committed report)) (sym put_once);
+    }
 
-      -- the whole scan
-      pub scans : IsWholeScan c t (world_in w) (world_by after (slice_set stores i (Some last)) w.desk w.hand) report
-      scans = record {
-        begun = world_by begun_group first_stores w.desk w.hand;
-        start = start_is c g stores w.desk w.hand t x.task x.store is.stores.as_many x.there x.kept s idle (begins_so x.task x.there);
-        count = n;
-        some = some;
-        ended = world_by begun_group last_stores w.desk w.hand;
-        steps = finishes c begun_group first_stores w.desk w.hand t begun_task fit_first.as_many there_now s (Some last) n (record { store = last; is = refl; of = of_last; some = some; steps = steps; ended = over }) refl kept_first;
-        commit = commit_is c begun_group last_stores w.desk w.hand t begun_task last fit_last.as_many there_now kept_last seen after report refl (ended_so last.state over) commits_to
-            ∙ ap (λ ss. Ok (world_by after ss w.desk w.hand, Committed report)) (sym put_once);
-      }
+    -- a history has led to the world that it leaves
+    reached_after : IsReached c (world_by after (slice_set stores i (Some last)) w.desk w.hand)
+    reached_after =
+        let begun = one_event c (world_in w) scans.begun (Start t) Started is.reached scans.start in
+        let ended = many_events c scans.begun scans.ended (instructions t scans.count) [] (up_to_end scans.count) begun scans.steps in
+        one_event c scans.ended _ (Commit t) (Committed report) ended scans.commit
 
-      -- a history has led to the world that it leaves
-      reached_after : IsReached c (world_by after (slice_set stores i (Some last)) w.desk w.hand)
-      reached_after =
-          let begun = one_event c (world_in w) scans.begun (Start t) Started is.reached scans.start in
-          let ended = many_events c scans.begun scans.ended (instructions t scans.count) [] (up_to_end scans.count) begun scans.steps in
-          one_event c scans.ended _ (Commit t) (Committed report) ended scans.commit
-
-      -- and that is a group's
-      pub leaves : (v : Controller) → v.verified ≡ w.verified → v.core.config ≡ w.core.config → v.core.group ≡ after → v.desk ≡ w.desk → v.hand ≡ w.hand → v.stores.items ≡ slice_set stores i (Some last) → IsController v
-      leaves v verified config group_now desk hand put = record {
-        runnable = rw verified is.runnable;
-        costs = rw verified is.costs;
-        same = config ∙ is.same ∙ ap (λ (p : Program). p.config) (sym verified);
-        stores = rw (verified, group_now, put, put_once) fit_after;
-        variables = rw (group_now, put, put_once) keep_after;
-        reached = rw (verified, group_now, desk, hand, put) reached_after;
-      }
+    -- and that is a group's
+    pub leaves : (v : Controller) → v.verified ≡ w.verified → v.core.config ≡ w.core.config → v.core.group ≡ after → v.desk ≡ w.desk → v.hand ≡ w.hand → v.stores.items ≡ slice_set stores i (Some last) → IsController v
+    leaves v verified config group_now desk hand put = record {
+      runnable = rw verified is.runnable;
+      costs = rw verified is.costs;
+      same = config ∙ is.same ∙ ap (λ (p : Program). p.config) (sym verified);
+      stores = rw (verified, group_now, put, put_once) fit_after;
+      variables = rw (group_now, put, put_once) keep_after;
+      reached = rw (verified, group_now, desk, hand, put) reached_after;
+    }

@@ -1,13 +1,17 @@
 -- A group of a configuration, and where its scans stand (own rules).
-use Rattle.std.specs.Prelude.{◌≡◌, ℕ, Bool, false, List, [], ◌∷◌, length, slice_get, if◌then◌else◌, Option, Some, None, is_some, refl}
+use Rattle.std.specs.Prelude.{◌≡◌, ℕ, ◌≤◌, Bool, false, List, [], ◌∷◌, map, length, slice_get, if◌then◌else◌, Option, Some, None, is_some, refl}
 use Rattle.std.specs.Coded.{Coded, code_by, coded×}
 use Rattle.il_spec.specs.declared.tree.Config.{Config}
 use Rattle.il_spec.specs.contracts.tree.Config as config
 use Rattle.il_run.specs.State.{State}
+use Rattle.il_run.specs.Scan.{Reaches}
 use Rattle.il_machine.specs.Standing.{Standing, IsOf, StillHas}
-use Rattle.lift_spec.specs.World.{World, Group, TaskState, flat, task_at}
+use Rattle.lift_spec.specs.Calls.{ticket_of}
+use Rattle.lift_spec.specs.Snapshot.{scan_begins}
+use Rattle.lift_spec.specs.World.{World, Group, TaskState, flat, task_at, beginning_of, committed_group}
 use Rattle.lift_spec.specs.WorldCodes.{group_code}
 use Rattle.lift_spec.specs.declared.calls.Call.{Call}
+use Rattle.lift_spec.specs.declared.report.Report.{Report}
 
 -- what the tasks of a configuration share, and the tasks
 pub record GroupOf : Type 0 where
@@ -54,3 +58,15 @@ pub record StoresFit (c : Config) (tasks : List (Option TaskState)) (stores : Li
 -- each task between scans has its variables still in its store, so that its next scan finds them there
 abbrev pub KeepVariables : List (Option TaskState) → List (Option Standing) → Type 0
 KeepVariables tasks stores = (t : ℕ) (x : TaskState) (s : Standing) → flat (slice_get tasks t) ≡ Some x → flat (slice_get stores t) ≡ Some s → x.tickets ≡ None → StillHas x.variables s.state
+
+-- WHOLE SCANS
+
+-- a whole scan of a task: its start, so many instructions to its end, where this store stands, and its commit, under the tickets that the slots
+-- have all along
+pub record ScansWhole (c : Config) (t : ℕ) (g : Group) (x : TaskState) (last : Standing) (after : Group) (report : Report) : Type 0 where
+  pub of : IsOf c t last
+  pub count : ℕ
+  pub some : 1 ≤ count
+  pub steps : Reaches c count (scan_begins c t (beginning_of g x)) last.state
+  pub ended : last.state.frames ≡ []
+  pub commits : committed_group c g t x (map ticket_of g.calls.slots) last.state.values ≡ (after, report)

@@ -6,12 +6,13 @@ use Rattle.il_machine.specs.Scanning.{IsRunnable, OwnsDeclared, FitsOwn, variabl
 use Rattle.il_machine.specs.Sharing.{globals_in, FitsGlobals}
 use Rattle.il_layout.specs.Layout.{Rows}
 use Rattle.lift_spec.specs.Image.{sizes_of, Obeys}
-use Rattle.lift_spec.specs.World.{Group, TaskState, flat, committed_group, InRanges}
+use Rattle.lift_spec.specs.World.{Group, TaskState, flat, serve_with, committed_group, InRanges}
 use Rattle.lift_spec.specs.declared.image.Image.{Image}
 use Rattle.lift_spec.specs.declared.calls.Slot.{Slot}
 use Rattle.lift_spec.specs.declared.calls.Slot.TheVariants.{Free, Waiting, Told}
 use Rattle.lift_spec.specs.Calls.{Calls}
 use Rattle.lift_spec.specs.Replies.{Reply, Started, More, End, Committed, Refreshed, New, Already, Gathered, Held, Refused}
+use Rattle.lift_spec.specs.declared.report.Answered.{Answered}
 use Rattle.lift_spec.specs.declared.report.Report.{Report}
 use Rattle.lift_spec.specs.declared.event.Reply.{Reply as Answer}
 use Rattle.lift_spec.specs.declared.event.Reply.TheVariants as answer
@@ -167,6 +168,24 @@ pub record Commits (c : Config) (t : ℕ) (before : Shared) (values : Values) (a
   pub group : (s : TaskMemory) (tickets : List (Option ℕ)) → memory_at before t ≡ Some s → s.tickets ≡ Some tickets → committed_group c (group_in c before) t (task_in c t s) tickets values ≡ (group_in c after, report)
   pub closed : (v : Rows) × (after.memories.items ≡ with_memory before t v None)
   pub fits : SharedFits c after
+
+-- the same under these tickets
+pub record CommitsUnder (c : Config) (t : ℕ) (before : Shared) (tickets : List (Option ℕ)) (values : Values) (after : Shared) (report : Report) : Type 0 where
+  pub group : (s : TaskMemory) → memory_at before t ≡ Some s → committed_group c (group_in c before) t (task_in c t s) tickets values ≡ (group_in c after, report)
+  pub closed : (v : Rows) × (after.memories.items ≡ with_memory before t v None)
+  pub fits : SharedFits c after
+
+-- the ticket of the slot of a wish, among these; 0 wishes none
+abbrev pub wished_ticket : List (Option ℕ) → ℕ → Option ℕ
+wished_ticket tickets zero = None
+wished_ticket tickets (suc slot) = flat (slice_get tickets slot)
+
+-- what a car serves, under the ticket of the slot of its wish
+abbrev pub serve_under : Calls → ℕ → ℕ → Option ℕ → Calls × List Answered
+serve_under calls car zero ticket = (calls, [])
+serve_under calls car (suc slot) ticket =
+    let served = serve_with calls (suc slot) car ticket in
+    (served.0, record { slot = suc slot; ticket = ticket; car = car; answer = served.1 } ∷ [])
 
 -- how many slots are free
 abbrev pub free_count : List Slot → ℕ

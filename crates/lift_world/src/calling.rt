@@ -1,10 +1,12 @@
 // What events do to the calls, and the rows of a report.
 
-ghost use Rattle.std.specs.Prelude.{◌≡◌, ℕ, List, All, IsTrue, Option, ◌≤◌, ◌<◌, ◌+◌, ◌-◌, ◌∷◌, [], length, slice_get};
-ghost use Rattle.lift_spec.specs.Calls.{enter_all};
+ghost use Rattle.std.specs.Prelude.{◌≡◌, ℕ, List, All, IsTrue, Option, ◌≤◌, ◌<◌, ◌+◌, ◌∷◌, [], length, map};
+ghost use Rattle.lift_spec.specs.Calls.{enter_all, ticket_of};
 ghost use Rattle.lift_spec.specs.Settle.{denials_of};
-ghost use Rattle.lift_spec.specs.World.{flat, serve_with, serve_wish, tell_with, tell_all};
+ghost use Rattle.lift_spec.specs.World.{serve_with, tell_with, tell_all};
+ghost use Rattle.lift_world.specs.Running.{wished_ticket, serve_under};
 
+use crate::tickets::Tickets;
 use lift_calls::book::CallBook;
 use lift_spec::calls::{Answer, Entering};
 use lift_spec::hand::Hand;
@@ -31,18 +33,21 @@ pub fn report_denials(denials: &mut Bounded<Denial, DENIAL_PLACES>, car: u8, rul
     }
 }
 
-// The ticket that a scan saw in a slot; none where the slot was free, or where there is no such slot.
-fn ticket_in(tickets: &[Option<u64>], slot: u8) -> Option<u64>
-    requires { 1 ≤ slot }
-    ensures { result ≡ flat (slice_get tickets.now (slot - 1)) }
+/// The ticket of the slot that a car wishes to serve; none where it wishes none, where the slot was free, or where there is no such slot.
+#[inline(always)]
+pub fn ticket_in(tickets: &[Option<u64>], slot: u8) -> Option<u64>
+    ensures { result ≡ wished_ticket tickets.now slot }
 {
+    if slot == 0 {
+        return None;
+    }
     match tickets.get(usize::from(slot - 1)) {
         Some(ticket) => *ticket,
         None => None,
     }
 }
 
-// A car serves the call in a slot, under the ticket that its scan saw.
+// A car serves the call in a slot, under a ticket.
 fn served(calls: &mut CallBook, slot: u8, ticket: Option<u64>, car: u8) -> Answer
     ensures { serve_with calls.old slot car ticket ≡ (calls.new, result) }
 {
@@ -52,19 +57,19 @@ fn served(calls: &mut CallBook, slot: u8, ticket: Option<u64>, car: u8) -> Answe
     }
 }
 
-/// What a car serves: the call in the slot of its wish, under the ticket that its scan saw.
+/// What a car serves: the call in the slot of its wish, under a ticket.
+#[inline(always)]
 pub fn serve(
     calls: &mut CallBook,
     car: u8,
-    tickets: &[Option<u64>],
     slot: u8,
+    ticket: Option<u64>,
     answers: &mut Bounded<Answered, SLOT_PLACES>,
 )
-    ensures { serve_wish calls.old car tickets.now slot ≡ (calls.new, answers.new) }
+    ensures { serve_under calls.old car slot ticket ≡ (calls.new, answers.new) }
 {
     clear(answers);
     if slot > 0 {
-        let ticket = ticket_in(tickets, slot);
         let answer = served(calls, slot, ticket, car);
         answers.push(Answered {
             slot,
@@ -122,6 +127,23 @@ fn are_none(cars: &[u8]) -> bool
     none
 }
 
+// Tells each call to the car that was assigned to its slot, in the order of the slots, under these tickets.
+fn tell_each(
+    calls: &mut CallBook,
+    tickets: &[Option<u64>],
+    cars: &[u8],
+    answers: &mut Bounded<Answered, SLOT_PLACES>,
+)
+    requires few { length tickets.now ≤ SLOT_PLACES }
+    requires each { length cars.now ≡ length tickets.now }
+    requires none { answers.old ≡ [] }
+    ensures { tell_all calls.old [] 1 tickets.now cars.now ≡ (calls.new, answers.new) }
+{
+    for slot in 0..tickets.len() {
+        tell(calls, slot as u8 + 1, tickets[slot], cars[slot], answers);
+    }
+}
+
 /// Tells each call to the car that GROUP assigned to its slot, in the order of the slots, under the tickets that its scan saw.
 pub fn tell_all(
     calls: &mut CallBook,
@@ -137,9 +159,36 @@ pub fn tell_all(
     if are_none(cars) {
         return;
     }
-    for slot in 0..tickets.len() {
-        tell(calls, slot as u8 + 1, tickets[slot], cars[slot], answers);
+    tell_each(calls, tickets, cars, answers);
+}
+
+// Tells each call under the ticket that its slot has, by a copy of the tickets. It stands apart, since few scans assign a car.
+#[cold]
+#[inline(never)]
+fn tell_by_copy(calls: &mut CallBook, cars: &[u8], answers: &mut Bounded<Answered, SLOT_PLACES>)
+    requires each { length cars.now ≡ length calls.old.slots }
+    requires none { answers.old ≡ [] }
+    ensures { tell_all calls.old [] 1 (map ticket_of calls.old.slots) cars.now
+        ≡ (calls.new, answers.new) }
+{
+    let _slots = calls.count();
+    let mut tickets = Tickets::none();
+    tickets.open(calls);
+    tell_each(calls, tickets.saw(), cars, answers);
+}
+
+/// The same under the tickets that the slots have.
+#[inline(always)]
+pub fn tell_all_now(calls: &mut CallBook, cars: &[u8], answers: &mut Bounded<Answered, SLOT_PLACES>)
+    requires { length cars.now ≡ length calls.old.slots }
+    ensures { tell_all calls.old [] 1 (map ticket_of calls.old.slots) cars.now
+        ≡ (calls.new, answers.new) }
+{
+    clear(answers);
+    if are_none(cars) {
+        return;
     }
+    tell_by_copy(calls, cars, answers);
 }
 
 /// The calls of the hand enter in its order; from the first without a slot on they stay.

@@ -462,8 +462,6 @@ impl Controller {
         let Some(scan) = &mut self.stores[usize::from(task)] else {
             unreachable!()
         };
-        self.core.start_in_place(&self.verified, task, scan);
-        finish(&self.verified, task, scan);
-        self.core.commit(&self.verified, task, scan, report);
+        self.core.scan_whole(&self.verified, task, scan, report);
     }
 }

@@ -7,7 +7,7 @@ ghost use Rattle.lift_spec.specs.Calls.{enter_all, IsCall};
 ghost use Rattle.lift_spec.specs.Image.{sizes_of, FieldsInRange, Obeys};
 ghost use Rattle.lift_spec.specs.Snapshot.{scan_begins};
 ghost use Rattle.lift_spec.specs.World.{TaskState, task_at, opening_group, beginning_of, started_group, committed_group, refreshed_group, InRanges};
-ghost use Rattle.lift_world.specs.Groups.{is_open_in};
+ghost use Rattle.lift_world.specs.Groups.{is_open_in, ScansWhole};
 
 use crate::shared::{Shared, Variables};
 use il_machine::{Store, Value, Verified};
@@ -194,6 +194,28 @@ impl Core {
     {
         store.holds();
         self.shared.commit(verified, task, store, report);
+    }
+
+    /// A whole scan of a task: its start, its instructions to the end, and its commit, under the tickets that the slots have all along. The
+    /// task is between scans behind it. No allocation.
+    #[inline(always)]
+    pub fn scan_whole(
+        &mut self,
+        verified: &Verified,
+        task: u8,
+        store: &mut Store,
+        report: &mut Report,
+    )
+        requires program { self.old.config ≡ verified.now.config }
+        requires there { IsSome (task_at self.old.group task) }
+        requires of { IsOf verified.now.config task store.old }
+        ensures config { self.new.config ≡ self.old.config }
+        ensures scan { (x : TaskState) → task_at self.old.group task ≡ Some x
+            → ScansWhole verified.now.config task self.old.group x store.new self.new.group
+            report.new }
+    {
+        self.shared.scan_whole(verified, task, store, report);
+        store.holds();
     }
 
     /// The image takes fields in their ranges, the outputs are settled under them, and calls of the group enter. No allocation.

@@ -1,6 +1,6 @@
 // What the tasks share, and the work of the events on it.
 
-ghost use Rattle.std.specs.Prelude.{◌≡◌, ℕ, suc, ◌≤◌, [], All, List, Option, length, map, slice_get, Some, None, IfOk, IsSome, option_and_then, option_copied};
+ghost use Rattle.std.specs.Prelude.{◌≡◌, ◌≢◌, ℕ, suc, ◌≤◌, [], All, List, Option, length, map, slice_get, Some, None, IfOk, IsSome, option_and_then, option_copied};
 ghost use Rattle.il_spec.specs.declared.tree.Config.{Config as ConfigOf};
 ghost use Rattle.il_table.specs.NameMap as values;
 ghost use Rattle.il_run.specs.Ranges.{HoldGlobals};
@@ -10,21 +10,23 @@ ghost use Rattle.il_layout.specs.Layout.{Rows as RowsOf};
 ghost use Rattle.il_machine.specs.Scanning.{FitsOwn, OwnsDeclared, variables_in};
 ghost use Rattle.il_machine.specs.Standing.{IsOf, StillHas, beginning_with};
 ghost use Rattle.lift_spec.specs.Image.{sizes_of, FieldsInRange};
-ghost use Rattle.lift_spec.specs.Calls.{ticket_of, enter_all, SlotInRange};
+ghost use Rattle.lift_spec.specs.Calls.{Calls as CallsOf, ticket_of, enter_all, SlotInRange};
 ghost use Rattle.lift_spec.specs.Settle.{settled_car, settled_all, with_outputs, denials_of};
-ghost use Rattle.lift_spec.specs.Snapshot.{scan_begins, program_of, written_globals};
-ghost use Rattle.lift_spec.specs.World.{InRanges, flat, opening_task, opening_tasks_from, opening_group, beginning_of, refreshed_group};
-ghost use Rattle.lift_world.specs.Running.{memory_at, task_in, task_by, tasks_in, group_in, is_open, FitDeclared, SharedFits, with_memory, HasOpenScan, Commits};
+ghost use Rattle.lift_spec.specs.Snapshot.{scan_begins, program_of, wishes_of, assigned, written_globals};
+ghost use Rattle.lift_spec.specs.World.{InRanges, flat, opening_task, opening_tasks_from, opening_group, beginning_of, tell_all, refreshed_group};
+ghost use Rattle.lift_world.specs.Running.{memory_at, task_in, task_by, tasks_in, group_in, is_open, FitDeclared, SharedFits, with_memory, HasOpenScan, Commits, CommitsUnder, wished_ticket};
+ghost use Rattle.lift_world.specs.Groups.{ScansWhole};
 ghost use Rattle.il_machine.specs.Sharing.{globals_in, FitsGlobals};
 
-use crate::calling::{clear, enter_all, report_denials, serve, tell_all};
+use crate::calling::{clear, enter_all, report_denials, serve, tell_all, tell_all_now, ticket_in};
 use crate::taking::{take_fields, take_outputs};
 use crate::tickets::Tickets;
-use il_machine::{Begin, FirstRows, Rows, Store, Value, Verified, opening_image, variable};
+use il_machine::{Begin, FirstRows, Rows, Store, Value, Verified, finish, opening_image, variable};
 use lift_calls::book::CallBook;
 use lift_interlock::{replace, settle_car, settle_each};
 use lift_spec::calls::Slot;
 use lift_spec::hand::Hand;
+use lift_spec::image::Wishes;
 use lift_spec::report::Report;
 use lift_spec::{Bounded, Fields, Image, MOST_CARS, Motor, SLOT_PLACES};
 use std::alloc::{AllocError, Global};
@@ -165,7 +167,8 @@ fn start_task(
     }
 }
 
-// A task between scans, with what its scan left of its variables.
+// A task between scans, with what its scan left of its variables. Whatever tickets it held, it holds none.
+#[inline(always)]
 fn close_task(memory: &mut Option<TaskMemory>, verified: &Verified, task: u8, store: &Store)
     requires variables { (s : MemoryOf) → memory.old ≡ Some s
         → FitsOwn verified.now.config task s.variables }
@@ -198,6 +201,7 @@ fn saw(memory: &Option<TaskMemory>) -> &[Option<u64>]
 }
 
 // A car's outputs are settled, and reported.
+#[inline(always)]
 fn settle(image: &mut Image, car: u8, motor: Motor, opens: bool, report: &mut Report)
     requires car { (1 ≤ car) × (car ≤ length image.old.fields.cars) }
     requires outputs { length image.old.outputs ≡ length image.old.fields.cars }
@@ -373,7 +377,7 @@ impl Shared {
         }
     }
 
-    // A car's commit.
+    // A car's commit, under the ticket that its open scan saw.
     fn commit_car(&mut self, verified: &Verified, car: u8, store: &Store, report: &mut Report)
         requires car { 1 ≤ car }
         requires open { HasOpenScan verified.now.config self.old car }
@@ -384,19 +388,11 @@ impl Shared {
             report.new }
     {
         let wishes = store.wishes(verified);
-        settle(&mut self.image, car, wishes.motor, wishes.opens, report);
-        let tickets = saw(&self.memories[usize::from(car)]);
-        serve(
-            &mut self.calls,
-            car,
-            tickets,
-            wishes.serve,
-            &mut report.answers,
-        );
-        self.close(verified, car, store);
+        let ticket = ticket_in(saw(&self.memories[usize::from(car)]), wishes.serve);
+        self.leave_car(verified, car, store, wishes, ticket, report);
     }
 
-    // GROUP's commit.
+    // GROUP's commit, under the tickets that its open scan saw.
     fn commit_group(&mut self, verified: &Verified, store: &Store, report: &mut Report)
         requires open { HasOpenScan verified.now.config self.old 0 }
         requires fits { SharedFits verified.now.config self.old }
@@ -406,7 +402,6 @@ impl Shared {
             report.new }
     {
         let _config = verified.config();
-        let _room = self.image.outputs.len();
         let cars = store.assigned(verified);
         let tickets = saw(&self.memories[0]);
         tell_all(
@@ -415,6 +410,155 @@ impl Shared {
             cars.as_slice(),
             &mut report.answers,
         );
+        self.leave_group(verified, store, report);
+    }
+
+    /// A whole scan of a task: its start, its instructions to the end, and its commit, under the tickets that the slots have all along. It
+    /// copies no tickets, and no scan of the task is open behind it.
+    #[inline(always)]
+    pub fn scan_whole(
+        &mut self,
+        verified: &Verified,
+        task: u8,
+        store: &mut Store,
+        report: &mut Report,
+    )
+        requires there { IsSome (memory_at self.old task) }
+        requires fits { SharedFits verified.now.config self.old }
+        requires ranges { InRanges verified.now.config (group_in verified.now.config self.old) }
+        requires of { IsOf verified.now.config task store.old }
+        ensures scan { (s : MemoryOf) → memory_at self.old task ≡ Some s
+            → ScansWhole verified.now.config task (group_in verified.now.config self.old)
+            (task_in verified.now.config task s) store.new (group_in verified.now.config self.new)
+            report.new }
+        ensures closed { (v : RowsOf) × (self.new.memories.items ≡ with_memory self.old task v None) }
+        ensures fits { SharedFits verified.now.config self.new }
+    {
+        self.begin(verified, task, store);
+        finish(verified, task, store);
+        self.commit_now(verified, task, store, report);
+    }
+
+    // A task's scan begins, and the task holds no tickets of it.
+    #[inline(always)]
+    fn begin(&self, verified: &Verified, task: u8, store: &mut Store)
+        requires there { IsSome (memory_at self.now task) }
+        requires fits { SharedFits verified.now.config self.now }
+        requires ranges { InRanges verified.now.config (group_in verified.now.config self.now) }
+        requires of { IsOf verified.now.config task store.old }
+        ensures begins { (s : MemoryOf) → memory_at self.now task ≡ Some s
+            → store.new.state
+            ≡ scan_begins verified.now.config task
+            (beginning_of (group_in verified.now.config self.now)
+            (task_in verified.now.config task s)) }
+        ensures going { store.new.state.frames ≢ [] }
+        ensures of { IsOf verified.now.config task store.new }
+    {
+        let Some(memory) = &self.memories[usize::from(task)] else {
+            unreachable!()
+        };
+        let begin = Begin {
+            variables: &memory.variables,
+            globals: &self.globals,
+            image: &self.image,
+            calls: &self.calls,
+        };
+        store.restart(verified, task, &begin);
+    }
+
+    // The commit of a task's scan, which has ended, under the tickets that the slots have now.
+    #[inline(always)]
+    fn commit_now(&mut self, verified: &Verified, task: u8, store: &Store, report: &mut Report)
+        requires there { IsSome (memory_at self.old task) }
+        requires fits { SharedFits verified.now.config self.old }
+        requires ranges { InRanges verified.now.config (group_in verified.now.config self.old) }
+        requires of { IsOf verified.now.config task store.now }
+        ensures { CommitsUnder verified.now.config task self.old
+            (map ticket_of self.old.calls.slots) store.now.state.values self.new report.new }
+    {
+        if task == 0 {
+            self.commit_group_now(verified, store, report);
+        } else {
+            self.commit_car_now(verified, task, store, report);
+        }
+    }
+
+    // A car's commit, under the ticket that its slot has now.
+    #[inline(always)]
+    fn commit_car_now(&mut self, verified: &Verified, car: u8, store: &Store, report: &mut Report)
+        requires car { 1 ≤ car }
+        requires there { IsSome (memory_at self.old car) }
+        requires fits { SharedFits verified.now.config self.old }
+        requires ranges { InRanges verified.now.config (group_in verified.now.config self.old) }
+        requires of { IsOf verified.now.config car store.now }
+        ensures { CommitsUnder verified.now.config car self.old
+            (map ticket_of self.old.calls.slots) store.now.state.values self.new report.new }
+    {
+        let wishes = store.wishes(verified);
+        let ticket = ticket_in(self.calls.columns().tickets(), wishes.serve);
+        self.leave_car(verified, car, store, wishes, ticket, report);
+    }
+
+    // GROUP's commit, under the tickets that the slots have now.
+    #[inline(always)]
+    fn commit_group_now(&mut self, verified: &Verified, store: &Store, report: &mut Report)
+        requires there { IsSome (memory_at self.old 0) }
+        requires fits { SharedFits verified.now.config self.old }
+        requires ranges { InRanges verified.now.config (group_in verified.now.config self.old) }
+        requires of { IsOf verified.now.config 0 store.now }
+        ensures { CommitsUnder verified.now.config 0 self.old (map ticket_of self.old.calls.slots)
+            store.now.state.values self.new report.new }
+    {
+        let cars = store.assigned(verified);
+        tell_all_now(&mut self.calls, cars.as_slice(), &mut report.answers);
+        self.leave_group(verified, store, report);
+    }
+
+    // What a car's commit leaves, by its wishes and the ticket of the slot that it wishes to serve.
+    #[inline(always)]
+    fn leave_car(
+        &mut self,
+        verified: &Verified,
+        car: u8,
+        store: &Store,
+        wishes: Wishes,
+        ticket: Option<u64>,
+        report: &mut Report,
+    )
+        requires car { 1 ≤ car }
+        requires there { IsSome (memory_at self.old car) }
+        requires fits { SharedFits verified.now.config self.old }
+        requires ranges { InRanges verified.now.config (group_in verified.now.config self.old) }
+        requires of { IsOf verified.now.config car store.now }
+        requires wishes { wishes ≡ wishes_of store.now.state.values }
+        ensures { (tickets : List (Option ℕ)) → ticket ≡ wished_ticket tickets wishes.serve
+            → CommitsUnder verified.now.config car self.old tickets store.now.state.values self.new
+            report.new }
+    {
+        settle(&mut self.image, car, wishes.motor, wishes.opens, report);
+        serve(
+            &mut self.calls,
+            car,
+            wishes.serve,
+            ticket,
+            &mut report.answers,
+        );
+        self.close(verified, car, store);
+    }
+
+    // What GROUP's commit leaves once it has told its calls, which were so before.
+    #[inline(always)]
+    fn leave_group(&mut self, verified: &Verified, store: &Store, report: &mut Report)
+        requires there { IsSome (memory_at self.old 0) }
+        requires fits { SharedFits verified.now.config self.old }
+        requires of { IsOf verified.now.config 0 store.now }
+        ensures { (calls : CallsOf) (tickets : List (Option ℕ))
+            → tell_all calls [] 1 tickets (assigned (length tickets) store.now.state.values)
+            ≡ (self.old.calls, report.old.answers)
+            → CommitsUnder verified.now.config 0 (record self.old { calls = calls }) tickets
+            store.now.state.values self.new report.new }
+    {
+        let _room = self.image.outputs.len();
         self.close(verified, 0, store);
         take_outputs(&mut report.outputs, &self.image.outputs);
         clear(&mut report.denials);
@@ -422,6 +566,7 @@ impl Shared {
     }
 
     // A task between scans, with what its scan left of its variables and of the globals that its program writes.
+    #[inline(always)]
     fn close(&mut self, verified: &Verified, task: u8, store: &Store)
         requires there { IsSome (memory_at self.old task) }
         requires fits { SharedFits verified.now.config self.old }

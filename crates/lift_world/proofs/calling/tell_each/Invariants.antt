@@ -1,6 +1,6 @@
 use Rattle.std.proofs.Common.{◌≡◌, ◌≤◌, ◌+◌, [], drop, length}
 use Rattle.lift_spec.specs.World.{tell_all}
-use Rattle.lift_world.proofs.calling.tell_all.Given as goal
+use Rattle.lift_world.proofs.calling.tell_each.Given as goal
 
 -- what is left completes what was told
 abbrev pub invariant-loop-slot : goal.invariant-loop-slot
