@@ -162,33 +162,19 @@ pub fn tell_all(
     tell_each(calls, tickets, cars, answers);
 }
 
-// Tells each call under the ticket that its slot has, by a copy of the tickets. It stands apart, since few scans assign a car.
+/// The same under the tickets that the slots have, which are copied. It stands apart, since few scans assign a car.
 #[cold]
 #[inline(never)]
-fn tell_by_copy(calls: &mut CallBook, cars: &[u8], answers: &mut Bounded<Answered, SLOT_PLACES>)
-    requires each { length cars.now ≡ length calls.old.slots }
-    requires none { answers.old ≡ [] }
-    ensures { tell_all calls.old [] 1 (map ticket_of calls.old.slots) cars.now
-        ≡ (calls.new, answers.new) }
-{
-    let _slots = calls.count();
-    let mut tickets = Tickets::none();
-    tickets.open(calls);
-    tell_each(calls, tickets.saw(), cars, answers);
-}
-
-/// The same under the tickets that the slots have.
-#[inline(always)]
 pub fn tell_all_now(calls: &mut CallBook, cars: &[u8], answers: &mut Bounded<Answered, SLOT_PLACES>)
     requires { length cars.now ≡ length calls.old.slots }
     ensures { tell_all calls.old [] 1 (map ticket_of calls.old.slots) cars.now
         ≡ (calls.new, answers.new) }
 {
+    let _slots = calls.count();
     clear(answers);
-    if are_none(cars) {
-        return;
-    }
-    tell_by_copy(calls, cars, answers);
+    let mut tickets = Tickets::none();
+    tickets.open(calls);
+    tell_each(calls, tickets.saw(), cars, answers);
 }
 
 /// The calls of the hand enter in its order; from the first without a slot on they stay.

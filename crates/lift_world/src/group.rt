@@ -196,8 +196,8 @@ impl Core {
         self.shared.commit(verified, task, store, report);
     }
 
-    /// A whole scan of a task: its start, its instructions to the end, and its commit, under the tickets that the slots have all along. The
-    /// task is between scans behind it. No allocation.
+    /// A whole scan of a task, in a store that still has its variables: its start, its instructions to the end, and its commit, under the
+    /// tickets that the slots have all along. The task is between scans behind it. No allocation.
     #[inline(always)]
     pub fn scan_whole(
         &mut self,
@@ -209,6 +209,8 @@ impl Core {
         requires program { self.old.config ≡ verified.now.config }
         requires there { IsSome (task_at self.old.group task) }
         requires of { IsOf verified.now.config task store.old }
+        requires kept { (x : TaskState) → task_at self.old.group task ≡ Some x
+            → StillHas x.variables store.old.state }
         ensures config { self.new.config ≡ self.old.config }
         ensures scan { (x : TaskState) → task_at self.old.group task ≡ Some x
             → ScansWhole verified.now.config task self.old.group x store.new self.new.group

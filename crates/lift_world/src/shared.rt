@@ -27,7 +27,7 @@ use lift_interlock::{replace, settle_car, settle_each};
 use lift_spec::calls::Slot;
 use lift_spec::hand::Hand;
 use lift_spec::image::Wishes;
-use lift_spec::report::Report;
+use lift_spec::report::{Answered, Report};
 use lift_spec::{Bounded, Fields, Image, MOST_CARS, Motor, SLOT_PLACES};
 use std::alloc::{AllocError, Global};
 
@@ -228,6 +228,28 @@ fn settle(image: &mut Image, car: u8, motor: Motor, opens: bool, report: &mut Re
     clear(&mut report.entered);
 }
 
+// Tells each call to the car that GROUP's scan assigned to its slot, under the tickets that the slots have. Most scans assign none.
+#[inline(always)]
+fn tell_assigned(
+    calls: &mut CallBook,
+    verified: &Verified,
+    store: &Store,
+    answers: &mut Bounded<Answered, SLOT_PLACES>,
+)
+    requires of { IsOf verified.now.config 0 store.now }
+    requires slots { length calls.old.slots ≡ (sizes_of verified.now.config).slots }
+    ensures { tell_all calls.old [] 1 (map ticket_of calls.old.slots)
+        (assigned (length (map ticket_of calls.old.slots)) store.now.state.values)
+        ≡ (calls.new, answers.new) }
+{
+    if store.assigns_none(verified) {
+        clear(answers);
+        return;
+    }
+    let cars = store.assigned(verified);
+    tell_all_now(calls, cars.as_slice(), answers);
+}
+
 // The image takes fields of as many cars, and the outputs of all are settled under them, and reported.
 fn settle_cars(image: &mut Image, fields: &Fields, report: &mut Report)
     requires { length image.old.outputs ≡ length fields.now.cars }
@@ -413,8 +435,8 @@ impl Shared {
         self.leave_group(verified, store, report);
     }
 
-    /// A whole scan of a task: its start, its instructions to the end, and its commit, under the tickets that the slots have all along. It
-    /// copies no tickets, and no scan of the task is open behind it.
+    /// A whole scan of a task, in a store that still has its variables: its start, its instructions to the end, and its commit, under the
+    /// tickets that the slots have all along. It copies no tickets, and no scan of the task is open behind it.
     #[inline(always)]
     pub fn scan_whole(
         &mut self,
@@ -427,6 +449,8 @@ impl Shared {
         requires fits { SharedFits verified.now.config self.old }
         requires ranges { InRanges verified.now.config (group_in verified.now.config self.old) }
         requires of { IsOf verified.now.config task store.old }
+        requires kept { (s : MemoryOf) → memory_at self.old task ≡ Some s
+            → StillHas (variables_in verified.now.config task s.variables) store.old.state }
         ensures scan { (s : MemoryOf) → memory_at self.old task ≡ Some s
             → ScansWhole verified.now.config task (group_in verified.now.config self.old)
             (task_in verified.now.config task s) store.new (group_in verified.now.config self.new)
@@ -446,6 +470,8 @@ impl Shared {
         requires fits { SharedFits verified.now.config self.now }
         requires ranges { InRanges verified.now.config (group_in verified.now.config self.now) }
         requires of { IsOf verified.now.config task store.old }
+        requires kept { (s : MemoryOf) → memory_at self.now task ≡ Some s
+            → StillHas (variables_in verified.now.config task s.variables) store.old.state }
         ensures begins { (s : MemoryOf) → memory_at self.now task ≡ Some s
             → store.new.state
             ≡ scan_begins verified.now.config task
@@ -463,7 +489,7 @@ impl Shared {
             image: &self.image,
             calls: &self.calls,
         };
-        store.restart(verified, task, &begin);
+        store.restart_in_place(verified, task, &begin);
     }
 
     // The commit of a task's scan, which has ended, under the tickets that the slots have now.
@@ -509,8 +535,7 @@ impl Shared {
         ensures { CommitsUnder verified.now.config 0 self.old (map ticket_of self.old.calls.slots)
             store.now.state.values self.new report.new }
     {
-        let cars = store.assigned(verified);
-        tell_all_now(&mut self.calls, cars.as_slice(), &mut report.answers);
+        tell_assigned(&mut self.calls, verified, store, &mut report.answers);
         self.leave_group(verified, store, report);
     }
 

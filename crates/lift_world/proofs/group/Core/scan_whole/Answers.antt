@@ -2,9 +2,9 @@ use Rattle.std.proofs.Common.{ap, sym, ◌∙◌, subst}
 use Rattle.std.specs.Prelude.{is_some}
 use Rattle.il_spec.specs.declared.tree.Config.{Config}
 use Rattle.lift_spec.specs.World.{Group, InRanges, task_at}
-use Rattle.lift_world.specs.Running.{SharedFits, HoldsShared, group_in}
+use Rattle.lift_world.specs.Running.{SharedFits, HoldsShared, task_in, task_by, group_in}
 use Rattle.lift_world.specs.Groups.{GroupOf, ScansWhole}
-use Rattle.lift_world.proofs.Grouped.{config_here, group_here, task_some, group_scanned, scanned_holds}
+use Rattle.lift_world.proofs.Grouped.{config_here, group_here, task_is, task_some, group_scanned, scanned_holds}
 use Rattle.lift_world.proofs.group.Core.scan_whole.Goals as goal
 
 pub scan_whole-requires-clause-there : goal.scan_whole-requires-clause-there
@@ -15,6 +15,12 @@ scan_whole-requires-clause-fits c = subst (λ (k : Config). SharedFits k c.self.
 
 pub scan_whole-requires-clause-ranges : goal.scan_whole-requires-clause-ranges
 scan_whole-requires-clause-ranges c = subst (λ (k : Config). InRanges k (group_in k c.self.inside.shared)) (config_here c.self.inside.program.value.config c.self.inside.shared c.args.self.now c.self.view_is _ c.requires.program) c.self.invariant.ranges
+
+pub scan_whole-requires-clause-kept : goal.scan_whole-requires-clause-kept
+scan_whole-requires-clause-kept c = λ s there.
+    let config = c.args.verified.now.config in
+    let here = group_here c.self.inside.program.value.config c.self.inside.shared c.args.self.now c.self.view_is config c.requires.program in
+    c.requires.kept (task_in config c.args.task s) (ap (λ g. task_at g c.args.task) (sym here) ∙ task_is config c.self.inside.shared c.args.task ∙ ap (task_by config c.args.task) there)
 
 pub invariant_of-self : goal.invariant_of-self
 invariant_of-self c =
