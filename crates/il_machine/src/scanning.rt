@@ -111,6 +111,7 @@ fn enter(scan: &mut ScanState, frame: Frame)
 }
 
 // A scan's start with what is lent behind the task's variables, which the first rows hold.
+#[inline(always)]
 pub fn start_behind(verified: &Verified, task: u8, scan: &mut ScanState, begin: &Begin<'_>)
     requires rows { FitsTask verified.now.config task scan.old.rows }
     requires begin { IsBeginning verified.now.config task begin.now }

@@ -79,6 +79,7 @@ fn motor_denial(image: &Image, car: u8, wish: Motor, opens: bool) -> Option<Rule
 /// 4. A motor wish up or down is granted exactly where the rules 1, 2 with the settled open command, 3, 6 and 5 hold;
 /// otherwise the motor is still, and the first rule that fails, in this order, denied.
 #[tactic(auto, unfolding(lift_spec::specs::Settle::settled_car))]
+#[inline(always)]
 pub fn settle_car(image: &Image, car: u8, motor: Motor, open_wish: bool) -> Settled
     requires car { (1 ≤ car) × (car ≤ length image.now.fields.cars) }
     requires outputs { length image.now.outputs ≡ length image.now.fields.cars }

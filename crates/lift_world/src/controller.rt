@@ -289,6 +289,7 @@ impl Controller {
     }
 
     // Commit: the task's scan, which has ended, hands over what it left.
+    #[inline(always)]
     fn commit(&mut self, task: u8, report: &mut Report) -> Reply
         requires { IsController self.old }
         ensures model { Happens self.old (event.Commit task) self.new
