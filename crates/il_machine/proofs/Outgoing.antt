@@ -80,7 +80,7 @@ whole_in high most some low o (Integer z) is lies = rw is (lies.0, (let a = lies
 
 -- one more that is 0
 pub zeros_more : (numbers : List ℤ) (i : ℕ) → i < length numbers → All (λ z. z ≡ pos 0) (take i numbers) → get_or numbers i (pos 0) ≡ pos 0 → All (λ z. z ≡ pos 0) (take (i + 1) numbers)
-zeros_more numbers i low before zero = subst (All (λ z. z ≡ pos 0)) (sym (take_more numbers i (pos 0) low)) (All-append (λ z. z ≡ pos 0) (take i numbers) (get_or numbers i (pos 0) ∷ []) before (All-cons (λ z. z ≡ pos 0) (get_or numbers i (pos 0)) [] zero (All-nil (λ z. z ≡ pos 0))))
+zeros_more numbers i low before is = subst (All (λ z. z ≡ pos 0)) (sym (take_more numbers i (pos 0) low)) (All-append (λ z. z ≡ pos 0) (take i numbers) (get_or numbers i (pos 0) ∷ []) before (All-cons (λ z. z ≡ pos 0) (get_or numbers i (pos 0)) [] is (All-nil (λ z. z ≡ pos 0))))
 
 -- both of two tests
 pub both_true : (a b : Bool) → (a && b) ≡ true → (a ≡ true) × (b ≡ true)
@@ -394,4 +394,4 @@ module _ (c : Config) (runs : IsRunnable c) (s : Stored) (scan : IsScanOf c 0 s)
 
     pub none_assigned : All (λ z. z ≡ pos 0) (take n (drop (length cells - n) r.numbers)) → All (λ car. car ≡ 0) (assigned count group_values)
     unfolding assigned
-    none_assigned zeros = subst (λ (m : ℕ). All (λ car. car ≡ 0) (assigned_from m 1 group_values)) n_is (none_from n 0 refl zeros)
+    none_assigned zeros = subst (λ (m : ℕ). All (λ car. car ≡ 0) (assigned_from m 1 group_values)) n_is (none_from n 0 (omega arith) zeros)

@@ -3,8 +3,8 @@ use Rattle.lift_spec.specs.declared.image.Sizes.{Sizes}
 use Rattle.il_machine.proofs.Outgoing.{assign_room, none_assigned}
 use Rattle.il_machine.proofs.outputs.assigns_none.Goals as goal
 
-pub overflow_sub-first : goal.overflow_sub-first
-overflow_sub-first c =
+pub overflow_sub-cells : goal.overflow_sub-cells
+overflow_sub-cells c =
     assign_room c.args.verified.now.config c.task_code.ensures.runnable c.args.scan.now c.requires.scan c.cells-cells.result.now c.args.scan.now.rows c.sizes-count.result.slots (c.cells-cells.ensures ∙ (c.task_code.ensures.code c.requires.scan.0 c.requires.scan.1.program).cells) refl
     (ap (λ (z : Sizes). z.slots) c.sizes-count.ensures)
 
