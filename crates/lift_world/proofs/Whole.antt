@@ -40,7 +40,7 @@ module _ (w : Controller) (is : IsController w) (t : ℕ) (has : HasTask w.verif
   abbrev stores : List (Option Standing)
   stores = w.stores.items
 
-  x : There w t
+  pub x : There w t
   x = the_task w is t has
 
   -- no scan of it is open

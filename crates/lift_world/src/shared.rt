@@ -8,7 +8,7 @@ ghost use Rattle.il_run.specs.Scan.{restricted};
 ghost use Rattle.lift_world.specs.declared.shared.TaskMemory.{TaskMemory as MemoryOf};
 ghost use Rattle.il_layout.specs.Layout.{Rows as RowsOf};
 ghost use Rattle.il_machine.specs.Scanning.{FitsOwn, OwnsDeclared, variables_in};
-ghost use Rattle.il_machine.specs.Standing.{IsOf, StillHas, beginning_with};
+ghost use Rattle.il_machine.specs.Standing.{IsOf, StillHas, IsBeginning, beginning_in, beginning_with};
 ghost use Rattle.lift_spec.specs.Image.{sizes_of, FieldsInRange};
 ghost use Rattle.lift_spec.specs.Calls.{Calls as CallsOf, ticket_of, enter_all, SlotInRange};
 ghost use Rattle.lift_spec.specs.Settle.{settled_car, settled_all, with_outputs, denials_of};
@@ -115,6 +115,30 @@ fn opening_memories(
     Ok(memories)
 }
 
+// A scan begins in a store, with the variables that it still has, or with those that it takes.
+#[inline(always)]
+fn restart(
+    store: &mut Store,
+    verified: &Verified,
+    task: u8,
+    begin: &Begin<'_>,
+    variables: Variables,
+)
+    requires of { IsOf verified.now.config task store.old }
+    requires begin { IsBeginning verified.now.config task begin.now }
+    requires kept { variables ≡ Variables.Stay
+        → StillHas (variables_in verified.now.config task begin.now.variables.now)
+        store.old.state }
+    ensures begins { store.new.state
+        ≡ scan_begins verified.now.config task (beginning_in verified.now.config task begin.now) }
+    ensures of { IsOf verified.now.config task store.new }
+{
+    match variables {
+        Variables::Stay => store.restart_in_place(verified, task, begin),
+        Variables::Copied => store.restart(verified, task, begin),
+    }
+}
+
 // A task's scan begins, and the task holds the tickets of the slots.
 fn start_task(
     memory: &mut Option<TaskMemory>,
@@ -153,17 +177,14 @@ fn start_task(
     ensures of { IsOf verified.now.config task store.new }
 {
     if let Some(memory) = memory {
-        memory.tickets.open(calls);
         let begin = Begin {
             variables: &memory.variables,
             globals,
             image,
             calls,
         };
-        match variables {
-            Variables::Stay => store.restart_in_place(verified, task, &begin),
-            Variables::Copied => store.restart(verified, task, &begin),
-        }
+        restart(store, verified, task, &begin, variables);
+        memory.tickets.open(calls);
     }
 }
 

@@ -1,4 +1,4 @@
 use Rattle.lift_world.proofs.shared.start_task.Goals as goal
 
-pub restart_in_place-requires-clause-kept : goal.restart_in_place-requires-clause-kept
-restart_in_place-requires-clause-kept c = c.requires.kept c.in-Stay.is c.in-Some.memory c.in-Some.is
+pub restart-requires-clause-kept : goal.restart-requires-clause-kept
+restart-requires-clause-kept c = λ stay. c.requires.kept stay c.in-Some.memory c.in-Some.is
