@@ -1,8 +1,8 @@
 -- What a scan's rows hold of its outputs.
-use Rattle.std.proofs.Common.{◌≡◌, ◌<◌, ◌≤◌, ℕ, zero, suc, ◌+◌, ◌-◌, List, [], ◌∷◌, ◌++◌, length, slice_get, get_or, Bool, true, false, ◌&&◌, refl, sym, ap, ap₂, ◌∙◌, Some, None, Option, subst, Contains, ℤ, pos, negsuc, ◌≤ℤ◌, nat_abs, codes, append-nil, append_assoc, arith, All, take, drop, get_or-take, get_or-drop}
+use Rattle.std.proofs.Common.{◌≡◌, ◌<◌, ◌≤◌, ℕ, zero, suc, ◌+◌, ◌-◌, List, [], ◌∷◌, ◌++◌, length, slice_get, get_or, Bool, true, false, ◌&&◌, refl, sym, ap, ap₂, ◌∙◌, Some, None, Option, subst, Contains, ℤ, pos, negsuc, ◌≤ℤ◌, nat_abs, codes, append-nil, append_assoc, arith, All, take, drop, get_or-drop}
 use Rattle.std.specs.Prelude.{option_and_then}
 use Rattle.std.proofs.lemmas.Int.{ints}
-use Rattle.std.proofs.lemmas.List.{length-append, length-take-le, length-drop, map-append, take_more}
+use Rattle.std.proofs.lemmas.List.{length-append, length-drop, map-append, take_more}
 use Rattle.std.proofs.lemmas.List.Elements.{All-nil, All-cons, All-append}
 use Rattle.std.proofs.lemmas.Option.{slice_get-get_or}
 use Rattle.il_spec.specs.declared.tree.Config.{Config}
@@ -379,19 +379,19 @@ module _ (c : Config) (runs : IsRunnable c) (s : Stored) (scan : IsScanOf c 0 s)
         omega (arith, e, same, as_many, d, fits.numbers, n_is)
 
     -- numbers of these slots that are all 0 are no cars
-    none_from : (m k : ℕ) → k + m ≡ n → All (λ z. z ≡ pos 0) (take n (drop (length cells - n) r.numbers)) → All (λ car. car ≡ 0) (assigned_from m (k + 1) group_values)
+    none_from : (m k : ℕ) → k + m ≡ n → All (λ z. z ≡ pos 0) (drop (length cells - n) r.numbers) → All (λ car. car ≡ 0) (assigned_from m (k + 1) group_values)
     none_from zero k all zeros = All-nil (λ car. car ≡ 0)
     none_from (suc m) k all zeros =
         let low : k < n = omega (arith, all) in
         let read = assign_read k low in
         let room = numbers_room in
-        let inside : k < length (take n (drop (length cells - n) r.numbers)) = (let e = length-take-le n (drop (length cells - n) r.numbers) room in omega (arith, e, low)) in
+        let inside : k < length (drop (length cells - n) r.numbers) = omega (arith, room, low) in
         let zero_here : get_or r.numbers (length cells - n + k) (pos 0) ≡ pos 0 =
-        sym (get_or-take n (drop (length cells - n) r.numbers) k (pos 0) low ∙ get_or-drop (length cells - n) r.numbers k (pos 0)) ∙ zeros k (pos 0) inside in
+        sym (get_or-drop (length cells - n) r.numbers k (pos 0)) ∙ zeros k (pos 0) inside in
         All-cons (λ car. car ≡ 0) _ (assigned_from m (k + 1 + 1) group_values)
         (ap (λ o. nat_abs (whole_of o)) (sym (here_at k low) ∙ read.1) ∙ ap nat_abs zero_here)
         (none_from m (k + 1) (omega (arith, all)) zeros)
 
-    pub none_assigned : All (λ z. z ≡ pos 0) (take n (drop (length cells - n) r.numbers)) → All (λ car. car ≡ 0) (assigned count group_values)
+    pub none_assigned : All (λ z. z ≡ pos 0) (drop (length cells - n) r.numbers) → All (λ car. car ≡ 0) (assigned count group_values)
     unfolding assigned
     none_assigned zeros = subst (λ (m : ℕ). All (λ car. car ≡ 0) (assigned_from m 1 group_values)) n_is (none_from n 0 (omega arith) zeros)

@@ -128,5 +128,5 @@ pub fn assigns_none(verified: &Verified, scan: &ScanState) -> bool
     let count = verified.sizes().slots as usize;
     let cells = verified.task_code(0).cells();
     let (_, behind) = scan.rows.numbers.split_at(cells.len() - count);
-    are_zeros(&behind[..count])
+    are_zeros(behind)
 }

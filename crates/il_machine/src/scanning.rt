@@ -71,6 +71,7 @@ pub fn finish(verified: &Verified, task: u8, scan: &mut ScanState) -> u32
 }
 
 // Writes what a scan starts with behind the task's variables: the globals that its program lists, and the image.
+#[inline(always)]
 fn write_seen(
     rows: &mut Rows,
     own: usize,
