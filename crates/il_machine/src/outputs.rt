@@ -106,13 +106,21 @@ pub fn assigned(verified: &Verified, scan: &ScanState) -> Bounded<u8, SLOT_PLACE
     cars
 }
 
+// Whether a number is 0.
+#[inline(always)]
+fn is_zero(number: i64) -> bool
+    ensures { IsTrue result → number ≡ pos 0 }
+{
+    number == 0
+}
+
 // Whether all of these are 0. All are looked at, and so the machine takes many in a step.
 fn are_zeros(numbers: &[i64]) -> bool
     ensures { IsTrue result → All (λ z. z ≡ pos 0) numbers.now }
 {
     let mut zeros = true;
     'numbers: for number in numbers {
-        zeros &= *number == 0;
+        zeros &= is_zero(*number);
     }
     zeros
 }
