@@ -1,10 +1,10 @@
 -- A whole scan of a task, from its start to its commit.
 use Rattle.std.proofs.Common.{◌≡◌, ℕ, Bool, true, false, List, [], map, Option, Some, None, Ok, refl, sym, ap, ◌∙◌}
-use Rattle.std.specs.Prelude.{slice_get, slice_set, is_some}
+use Rattle.std.specs.Prelude.{slice_get, slice_set, slice_index_or, is_some}
 use Rattle.il_spec.specs.declared.tree.Config.{Config}
 use Rattle.il_run.specs.State.{State}
 use Rattle.il_machine.specs.Scanning.{Program, HasTask}
-use Rattle.il_machine.specs.Standing.{Standing}
+use Rattle.il_machine.specs.Standing.{Standing, StillHas}
 use Rattle.lift_spec.specs.declared.event.Event.TheVariants.{Start, Commit}
 use Rattle.lift_spec.specs.declared.report.Report.{Report}
 use Rattle.lift_spec.specs.Calls.{ticket_of}
@@ -21,7 +21,7 @@ use Rattle.lift_world.proofs.Keeping.{stores_step, stores_task, variables_step, 
 use Rattle.lift_world.proofs.Sound.{reached_well, one_event, many_events}
 use Rattle.lift_world.proofs.Events.{open_scan, start_is, commit_is, commit_closes, ended_so}
 use Rattle.lift_world.proofs.Finishing.{finishes}
-use Rattle.lift_world.proofs.Happening.{There, found}
+use Rattle.lift_world.proofs.Happening.{There, found, lent_is, lent_variables}
 use Rattle.lift_world.proofs.Straight.{committed_again}
 
 -- a task of the group is there
@@ -40,16 +40,20 @@ module _ (w : Controller) (is : IsController w) (t : ℕ) (has : HasTask w.verif
   abbrev stores : List (Option Standing)
   stores = w.stores.items
 
-  pub x : There w t
+  x : There w t
   x = the_task w is t has
 
   -- no scan of it is open
-  pub idle : is_some x.task.tickets ≡ false
+  idle : is_some x.task.tickets ≡ false
   idle = by (is_some x.task.tickets) refl
     where
       by : (b : Bool) → is_some x.task.tickets ≡ b → is_some x.task.tickets ≡ false
       by false e = e
       by true e = let bad : ◌≡◌ {A = Option State} None (Some x.store.state) = sym closed ∙ open_scan c g stores w.desk w.hand t x.task x.store is.stores.as_many x.there x.kept e in cc
+
+  -- its store has its variables
+  pub kept_variables : (o : Option Standing) (i : ℕ) → i ≡ t → o ≡ slice_index_or stores i o → (y : TaskState) (s : Standing) → task_at g t ≡ Some y → o ≡ Some s → StillHas y.variables s.state
+  kept_variables o i at e = lent_variables w is t x idle o (lent_is w is t x o i at e)
 
   -- THE START
 

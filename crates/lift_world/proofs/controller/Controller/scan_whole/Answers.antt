@@ -1,7 +1,7 @@
 use Rattle.std.proofs.Common.{rules, ◌≡◌, ◌∙◌, sym, ap, refl, true, false}
 use Rattle.std.specs.Prelude.{is_some}
-use Rattle.lift_world.proofs.Happening.{store_within, lent_is, lent_of, lent_variables}
-use Rattle.lift_world.proofs.Whole.{the_task, idle, scans, leaves}
+use Rattle.lift_world.proofs.Happening.{store_within, lent_is, lent_of}
+use Rattle.lift_world.proofs.Whole.{the_task, kept_variables, scans, leaves}
 use Rattle.lift_world.proofs.controller.Controller.scan_whole.Goals as goal
 
 pub index_mut-requires : goal.index_mut-requires
@@ -31,9 +31,7 @@ scan_whole-requires-clause-of c =
 
 pub scan_whole-requires-clause-kept : goal.scan_whole-requires-clause-kept
 scan_whole-requires-clause-kept c = λ y there.
-    let w = c.args.self.now in
-    let x = the_task w c.requires.world c.args.task c.requires.there in
-    lent_variables w c.requires.world c.args.task x (idle w c.requires.world c.args.task c.requires.there c.requires.closed) _ (lent_is w c.requires.world c.args.task x _ _ c.from.ensures c.index_mut.ensures.value) y c.in-Some.scan there c.in-Some.is
+    kept_variables c.args.self.now c.requires.world c.args.task c.requires.there c.requires.closed _ _ c.from.ensures c.index_mut.ensures.value y c.in-Some.scan there c.in-Some.is
 
 pub returns-clause-scan : goal.returns-clause-scan
 returns-clause-scan c =
