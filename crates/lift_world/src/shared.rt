@@ -139,6 +139,44 @@ fn restart(
     }
 }
 
+// A task's scan begins in a store, with the variables that it still has, or with those of the task.
+#[inline(always)]
+fn begin_task(
+    memory: &TaskMemory,
+    verified: &Verified,
+    task: u8,
+    globals: &Rows,
+    image: &Image,
+    calls: &CallBook,
+    store: &mut Store,
+    variables: Variables,
+)
+    requires variables { FitDeclared verified.now.config task memory.now.variables }
+    requires globals { FitsGlobals verified.now.config globals.now }
+    requires shared { HoldGlobals verified.now.config (globals_in verified.now.config globals.now) }
+    requires fields { FieldsInRange (sizes_of verified.now.config) image.now.fields }
+    requires outputs { length image.now.outputs ≡ (sizes_of verified.now.config).cars }
+    requires slots { length calls.now.slots ≡ (sizes_of verified.now.config).slots }
+    requires each { (last : ℕ)
+        × All (SlotInRange (sizes_of verified.now.config) last) calls.now.slots }
+    requires of { IsOf verified.now.config task store.old }
+    requires kept { variables ≡ Variables.Stay
+        → StillHas (variables_in verified.now.config task memory.now.variables) store.old.state }
+    ensures begins { store.new.state
+        ≡ scan_begins verified.now.config task
+        (beginning_with verified.now.config task memory.now.variables image.now calls.now.slots
+        globals.now) }
+    ensures of { IsOf verified.now.config task store.new }
+{
+    let begin = Begin {
+        variables: &memory.variables,
+        globals,
+        image,
+        calls,
+    };
+    restart(store, verified, task, &begin, variables);
+}
+
 // A task's scan begins, and the task holds the tickets of the slots.
 fn start_task(
     memory: &mut Option<TaskMemory>,
@@ -177,13 +215,9 @@ fn start_task(
     ensures of { IsOf verified.now.config task store.new }
 {
     if let Some(memory) = memory {
-        let begin = Begin {
-            variables: &memory.variables,
-            globals,
-            image,
-            calls,
-        };
-        restart(store, verified, task, &begin, variables);
+        begin_task(
+            memory, verified, task, globals, image, calls, store, variables,
+        );
         memory.tickets.open(calls);
     }
 }
@@ -504,13 +538,16 @@ impl Shared {
         let Some(memory) = &self.memories[usize::from(task)] else {
             unreachable!()
         };
-        let begin = Begin {
-            variables: &memory.variables,
-            globals: &self.globals,
-            image: &self.image,
-            calls: &self.calls,
-        };
-        store.restart_in_place(verified, task, &begin);
+        begin_task(
+            memory,
+            verified,
+            task,
+            &self.globals,
+            &self.image,
+            &self.calls,
+            store,
+            Variables::Stay,
+        );
     }
 
     // The commit of a task's scan, which has ended, under the tickets that the slots have now.

@@ -1,4 +1,4 @@
 use Rattle.lift_world.proofs.shared.start_task.Goals as goal
 
-pub restart-requires-clause-kept : goal.restart-requires-clause-kept
-restart-requires-clause-kept c = λ stay. c.requires.kept stay c.in-Some.memory c.in-Some.is
+pub begin_task-requires-clause-kept : goal.begin_task-requires-clause-kept
+begin_task-requires-clause-kept c = λ stay. c.requires.kept stay c.in-Some.memory c.in-Some.is
