@@ -7,9 +7,10 @@ use Rattle.std.specs.Ordering.{nat_cmp, eq_by_cmp, is_eq}
 use Rattle.std.specs.Map.{lookup}
 use Rattle.std.specs.String.{string_bytes, string_cmp}
 use Rattle.std.proofs.lemmas.Map.Text.{btree_map_updates_text, is_eq-slice_cmp}
-use Rattle.std.specs.BTreeMap.{BTreeMap, Updates, UpdatesBy, get_by_text}
+use Rattle.std.specs.BTreeMap.{BTreeMap, UpdatesBy, get_by_text}
 use Rattle.il_table.specs.NameMap.{Text, order, from_entries, get, insert, get-insert, get-empty, same_map}
 use Rattle.il_table.specs.Numbers.{appended, number, are_bytes, is_short, text_from, text_of, is_number}
+use Rattle.il_table.specs.Places.{HasPut}
 use Rattle.il_table.specs.ByText.{short_entries, long_entries, by_text}
 
 -- TESTS
@@ -26,7 +27,7 @@ both : (a b : Bool) → a ≡ true → b ≡ true → (a && b) ≡ true
 both true b e f = f
 both false b e f = cc
 
-agree : (a b : Bool) → (a ≡ true → b ≡ true) → (b ≡ true → a ≡ true) → a ≡ b
+pub agree : (a b : Bool) → (a ≡ true → b ≡ true) → (b ≡ true → a ≡ true) → a ≡ b
 agree true true f g = refl
 agree false false f g = refl
 agree true false f g = sym (f refl)
@@ -186,8 +187,8 @@ pub get-long : {A X : Type 0} (es : List (ℕ × X)) (fs : List (String A × X))
 get-long es fs q long = get-from (short_entries es ++ long_entries fs) q ∙ not_in_short es (long_entries fs) q long ∙ in_long fs q long
 
 -- a write at the number of a short name is an insertion
-pub put_short : {A X : Type 0} (m n : BTreeMap ℕ X) (fs : List (String A × X)) (k : Text) (v : X) → is_short k ≡ true → Updates nat_cmp m n (number k) (Some v) → by_text n.entries fs ≡ insert (by_text m.entries fs) k v
-put_short m n fs k v short h = same_map _ _ (λ q. by_length q (is_short q) refl ∙ sym (get-insert (by_text m.entries fs) k v q))
+pub put_short : {A X : Type 0} (es ds : List (ℕ × X)) (fs : List (String A × X)) (k : Text) (v : X) → is_short k ≡ true → HasPut es ds (number k) v → by_text ds fs ≡ insert (by_text es fs) k v
+put_short es ds fs k v short h = same_map _ _ (λ q. by_length q (is_short q) refl ∙ sym (get-insert (by_text es fs) k v q))
   where
     same : (q : Text) → is_short q ≡ true → is_eq (nat_cmp (number k) (number q)) ≡ eq_by_cmp order q k
     same q is = agree _ _
@@ -198,11 +199,11 @@ put_short m n fs k v short h = same_map _ _ (λ q. by_length q (is_short q) refl
     no q is false e = refl
     no q is true e = let never : true ≡ false = sym short ∙ ap is_short (sym (same_order q k e)) ∙ is in cc
 
-    by_length : (q : Text) (b : Bool) → is_short q ≡ b → get (by_text n.entries fs) q ≡ cond (eq_by_cmp order q k) (Some v) (get (by_text m.entries fs) q)
+    by_length : (q : Text) (b : Bool) → is_short q ≡ b → get (by_text ds fs) q ≡ cond (eq_by_cmp order q k) (Some v) (get (by_text es fs) q)
     by_length q true is =
-        get-short n.entries fs q is ∙ h.0 (number q) ∙ ap₂ (λ t o. cond t (Some v) o) (same q is) (sym (get-short m.entries fs q is))
+        get-short ds fs q is ∙ h (number q) ∙ ap₂ (λ t o. cond t (Some v) o) (same q is) (sym (get-short es fs q is))
     by_length q false is =
-        get-long n.entries fs q is ∙ sym (get-long m.entries fs q is) ∙ ap (λ t. cond t (Some v) (get (by_text m.entries fs) q)) (sym (no q is (eq_by_cmp order q k) refl))
+        get-long ds fs q is ∙ sym (get-long es fs q is) ∙ ap (λ t. cond t (Some v) (get (by_text es fs) q)) (sym (no q is (eq_by_cmp order q k) refl))
 
 -- and one at another name
 pub put_long : {A X : Type 0} (es : List (ℕ × X)) (m n : BTreeMap (String A) X) (k : Text) (v : X) → is_short k ≡ false → UpdatesBy string_cmp (λ x. order k (string_bytes x)) m n (Some v) → by_text es n.entries ≡ insert (by_text es m.entries) k v

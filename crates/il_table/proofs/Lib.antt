@@ -1,3 +1,4 @@
 pub mod Texts
 pub mod ByText
-pub mod NearLaws
+pub mod Small
+pub mod Put

@@ -1,28 +1,30 @@
 //! Tables: an entry for each of some names.
 #![tactic(auto)]
 
-mod near;
 mod numbers;
+mod places;
 
-ghost use Rattle.std.specs.Prelude.{◌≡◌, Some, OnOk, OnErr, option_copied};
-ghost use Rattle.std.specs.Ordering.{nat_cmp};
-ghost use Rattle.std.specs.BTreeMap.{Updates, get_by_text};
+ghost use Rattle.std.specs.Prelude.{◌≡◌, ◌++◌, OnOk, OnErr, option_copied};
+ghost use Rattle.std.specs.BTreeMap.{get_by_text};
 ghost use Rattle.il_table.specs.NameMap as map;
-ghost use Rattle.il_table.specs.Near.{AreIn, find};
+ghost use Rattle.il_table.specs.Places.{HasPut, find, numbered};
 
-use near::Near;
+use indexmap::IndexMap;
 use numbers::number_of;
+use places::{Places, Short};
 use std::alloc::{AllocError, Global};
 use std::collections::BTreeMap;
 use std::marker::Model;
 
-/// A table: an entry for each of some names, sorted, so that no choice of names makes a search slow. A name of at most 15 bytes stands
-/// there as a number, which takes no memory of its own and is compared at once. Contracts see the finite map.
+/// A table: an entry for each of some names, in the order in which they were first put in. A name of at most 15 bytes stands there as a
+/// number, which takes no memory of its own and is compared at once. Names whose place is full, and longer ones, stand apart and sorted, so
+/// that no choice of names makes a search slow. Contracts see the finite map.
 pub struct Table<X: Copy> {
-    short: BTreeMap<u128, X>,
+    short: IndexMap<Short, X, Places>,
+    // How many names have each place.
+    taken: Vec<u8>,
+    crowded: BTreeMap<u128, X>,
     long: BTreeMap<String, X>,
-    // Entries of short names, found without a search.
-    near: Near<X>,
 }
 
 // Written by hand, since who drops a type whose drop is derived proves the drop of each type inside again.
@@ -30,32 +32,32 @@ impl<X: Copy> Drop for Table<X> {
     fn drop(self) {
         let Table {
             short: _short,
+            taken: _taken,
+            crowded: _crowded,
             long: _long,
-            near: _near,
         } = self;
     }
 }
 
 impl<X: Copy> Model for Table<X> {
+    ghost use Rattle.std.specs.Prelude.{◌++◌};
     ghost use Rattle.il_table.specs.NameMap.{NameMap, code};
     ghost use Rattle.il_table.specs.ByText.{by_text};
-    ghost use Rattle.il_table.specs.Near.{AreIn};
+    ghost use Rattle.il_table.specs.Places.{numbered};
 
     ghost Value = { NameMap X };
 
     ghost coded = { code X.code };
 
-    ghost view = { λ t. by_text t.short.entries t.long.entries };
-
-    ghost invariant = { λ t. AreIn t.short.entries t.near.entries.items };
+    ghost view = { λ t. by_text (numbered (λ s. s.number) t.short.entries ++ t.crowded.entries) t.long.entries };
 }
 
-// The entry of a short name, by a search. Not inlined, so that a look-up without a search is short.
+// The entry of a short name whose place is full. Not inlined, so that a usual look-up is short.
 #[inline(never)]
-fn find_short<X: Copy>(short: &BTreeMap<u128, X>, number: u128) -> Option<&X>
-    ensures { option_copied result ≡ find number short.now.entries }
+fn find_crowded<X: Copy>(crowded: &BTreeMap<u128, X>, number: u128) -> Option<&X>
+    ensures { option_copied result ≡ find number crowded.now.entries }
 {
-    short.get(&number)
+    crowded.get(&number)
 }
 
 // The entry of another name.
@@ -68,20 +70,23 @@ fn find_long<'t, X: Copy>(long: &'t BTreeMap<String, X>, name: &str) -> Option<&
 
 // Gives the number of a short name its entry.
 fn put_short<X: Copy>(
-    short: &mut BTreeMap<u128, X>,
-    near: &mut Near<X>,
+    short: &mut IndexMap<Short, X, Places>,
+    taken: &mut Vec<u8>,
+    crowded: &mut BTreeMap<u128, X>,
     number: u128,
     entry: X,
 ) -> Result<(), AllocError>
-    requires { AreIn short.old.entries near.old.entries.items }
-    ensures ok { OnOk result (Updates nat_cmp short.old short.new number (Some entry)) }
-    ensures err { OnErr result (short.new.entries ≡ short.old.entries) }
-    ensures near { AreIn short.new.entries near.new.entries.items }
+    ensures ok { OnOk result (HasPut (numbered (λ s. s.number) short.old.entries ++ crowded.old.entries) (numbered (λ s. s.number) short.new.entries ++ crowded.new.entries) number entry) }
+    ensures err { OnErr result ((short.new.entries ≡ short.old.entries) × (crowded.new.entries ≡ crowded.old.entries)) }
 {
-    near.make_room()?;
-    match short.insert(number, entry)? {
-        None => near.remember(number, entry),
-        Some(_) => near.forget(),
+    let name = Short { number };
+    if places::is_full(taken.as_slice(), number) && !short.contains_key(&name) {
+        crowded.insert(number, entry)?;
+        return Ok(());
+    }
+    places::make_room(taken, short.len())?;
+    if short.insert(name, entry)?.is_none() {
+        places::count(taken.as_mut_slice(), number);
     }
     Ok(())
 }
@@ -92,9 +97,10 @@ impl<X: Copy> Table<X> {
         ensures { result ≡ map.empty }
     {
         Table {
-            short: BTreeMap::new(alloc),
+            short: IndexMap::with_hasher(alloc, Places),
+            taken: Vec::new(alloc),
+            crowded: BTreeMap::new(alloc),
             long: BTreeMap::new(alloc),
-            near: Near::new(alloc),
         }
     }
 
@@ -110,9 +116,9 @@ impl<X: Copy> Table<X> {
         ensures { option_copied result ≡ map.get self.now name.now }
     {
         match number_of(name) {
-            Some(number) => match self.near.find(number) {
+            Some(number) => match self.short.get(&Short { number }) {
                 Some(entry) => Some(entry),
-                None => find_short(&self.short, number),
+                None => find_crowded(&self.crowded, number),
             },
             None => find_long(&self.long, name),
         }
@@ -124,7 +130,13 @@ impl<X: Copy> Table<X> {
         ensures err { OnErr result (self.new ≡ self.old) }
     {
         match number_of(name) {
-            Some(number) => put_short(&mut self.short, &mut self.near, number, entry)?,
+            Some(number) => put_short(
+                &mut self.short,
+                &mut self.taken,
+                &mut self.crowded,
+                number,
+                entry,
+            )?,
             None => {
                 self.long.insert(String::from_str(alloc, name)?, entry)?;
             }

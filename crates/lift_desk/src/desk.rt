@@ -10,6 +10,7 @@ use il_spec::fault::Refusal;
 use lift_spec::hand::Hand;
 use std::alloc::{AllocError, Global};
 use std::marker::Model;
+use std::snapshot::Snapshot;
 
 /// The answer to a press.
 #[derive(Clone, Copy, Debug, PartialEq, Eq)]
@@ -127,13 +128,38 @@ impl Desk {
     }
 }
 
-/// What a closed desk leaves.
+/// What a closed desk leaves. It is made by its close alone.
 #[derive(Drop)]
 pub struct DeskClosed {
+    of: Snapshot<Desk>,
+    desk: Hand,
+    hand: Hand,
+}
+
+impl Model for DeskClosed {
+    ghost use Rattle.lift_desk.specs.Passes.{Left, left_code};
+
+    ghost Value = { Left };
+
+    ghost coded = { left_code };
+
+    ghost view = { λ c. record { table = c.of.value.table; desk = c.desk; hand = c.hand } };
+}
+
+impl DeskClosed {
     /// The calls on the desk.
-    pub desk: Hand,
+    pub fn desk(&self) -> &Hand
+        ensures { result.now ≡ self.now.desk }
+    {
+        &self.desk
+    }
+
     /// The calls in the collector's hand.
-    pub hand: Hand,
+    pub fn hand(&self) -> &Hand
+        ensures { result.now ≡ self.now.hand }
+    {
+        &self.hand
+    }
 }
 
 impl Desk {
@@ -225,7 +251,9 @@ impl Desk {
         ensures pressed { AreAnsweredNew self.floors panels.items }
         ensures calls { AreCalls self.floors result.desk }
         ensures hand { result.hand ≡ pass.hand }
+        ensures table { result.table ≡ self.table }
     {
+        let of = Snapshot::of(&self);
         let HandPass { hand, seat } = pass;
         let seat = self.take_back(panels, seat);
         let Desk { table, floors, .. } = self;
@@ -235,6 +263,6 @@ impl Desk {
             desk.insert_from(index + 1, closed.word(usize::from(index)) as u16);
         }
         closed.free();
-        DeskClosed { desk, hand }
+        DeskClosed { of, desk, hand }
     }
 }

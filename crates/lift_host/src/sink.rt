@@ -21,6 +21,9 @@ pub trait Sink {
     /// Whether a piece was refused.
     ghost has_failed: { Self → Bool };
 
+    /// Whether it was made as the file of this name, and whether each of its pieces waits for the disk. A stream wasn't made as any file.
+    ghost made: { Self → List ℕ → Bool → Bool } = { λ _ name sync. false };
+
     /// Takes a piece from its front on, at least one byte of a piece that isn't empty, and answers
     /// how many bytes it took.
     fn put(&mut self, piece: &[u8]) -> Result<usize, SinkFault>
@@ -28,7 +31,10 @@ pub trait Sink {
         ensures some { IfOk result (λ count. 0 < length piece.now → 0 < count) }
         ensures bytes { WriteAppends (contents self.old) (contents self.new) result piece.now }
         ensures goes_on { OnOk result (has_failed self.new ≡ has_failed self.old) }
-        ensures failed { OnErr result (has_failed self.new ≡ true) };
+        ensures failed { OnErr result (has_failed self.new ≡ true) }
+        // one that doesn't tell its bytes doesn't tell them later
+        ensures silent { contents self.old ≡ None → contents self.new ≡ None }
+        ensures made { made self.new ≡ made self.old };
 }
 
 /// Writes all of the bytes.
@@ -38,6 +44,8 @@ pub fn put_all<S: Sink>(sink: &mut S, bytes: &[u8]) -> Result<(), SinkFault>
     ensures failed { OnErr result (S.has_failed sink.new ≡ true) }
     ensures front { OnErr result (AppendsFront (S.contents sink.old) (S.contents sink.new)
         bytes.now) }
+    ensures silent { S.contents sink.old ≡ None → S.contents sink.new ≡ None }
+    ensures made { S.made sink.new ≡ S.made sink.old }
 {
     let mut rest = bytes;
     'pieces: while !rest.is_empty() {

@@ -29,6 +29,7 @@ use Rattle.lift_run_laws.proofs.Accepted.{accepted_runs_well}
 use Rattle.lift_run_laws.proofs.Following.{appends, follow, before, same_end}
 use Rattle.lift_run_laws.proofs.Lists.{same_or_other}
 use Rattle.lift_run_laws.proofs.Seats.{flat_same}
+use Rattle.lift_journal.specs.Closed.{IsClosed}
 use Rattle.lift_journal.specs.Journal.{IsAccepted, AllCalls}
 use Rattle.lift_journal.specs.Rounds.{Happen, ending, FinishesAndCommits, Scans, desk_events, entered_calls_of}
 use Rattle.lift_journal.proofs.Handing.{accepted_append, floor_so, both_so}
@@ -235,10 +236,6 @@ finished c w u v t (suc n) r some steps e =
     (record { at_end = u; finish = record { instructions = suc n; steps = steps }; report = report.0; commit = e ∙ ap (Led v) report.1 }, report.1)
 
 -- WHOSE SCANS ARE OPEN
-
--- no scan is open
-abbrev pub IsClosed : World → Type 0
-IsClosed w = (j : ℕ) → is_some (scan_at w j) ≡ false
 
 closes : (w m v : World) (t : ℕ) → Puts w m t true → Puts m v t false → IsClosed w → IsClosed v
 closes w m v t first last closed j = by (same_or_other j t)

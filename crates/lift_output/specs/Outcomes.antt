@@ -3,6 +3,7 @@ use Rattle.std.specs.Prelude.{◌≡◌, ◌<◌, ◌⊎◌, ℕ, ◌+◌, ◌++
 use Rattle.il_spec.specs.declared.tree.Config.{Config}
 use Rattle.il_reports.specs.RangeTexts.{AreRangesShown}
 use Rattle.il_machine.specs.Scanning.{Program}
+use Rattle.lift_desk.specs.Passes.{Left}
 use Rattle.lift_host.specs.declared.files.Reading.{Reading}
 use Rattle.lift_host.specs.declared.files.Reading.TheVariants.{Text, Failed}
 use Rattle.lift_host.specs.declared.press.Press.{Press}
@@ -58,7 +59,6 @@ use Rattle.lift_watch.specs.Following.{IsDeniedAlong, AreRowsAlong}
 use Rattle.lift_watch.specs.Names.{upper_case}
 use Rattle.lift_watch.specs.Values.{AreWatched, IsUnknown, header_text, watching}
 use Rattle.lift_workers.specs.Ran.{IsRun}
-use Rattle.lift_desk.specs.declared.desk.DeskClosed.{DeskClosed}
 
 -- CHECK
 
@@ -213,7 +213,7 @@ pub record IsTraceOfRun (program : Program) (asked : Rounds) (calls : Reading) (
   pub settings : List Setting
   pub driven : AreDriven (sizes_of program.config) asked calls presses settings
   pub entries : List Entry
-  pub left : DeskClosed
+  pub left : Left
   pub ran : IsRun program.config (switches_in (sizes_of program.config).cars settings) asked.rounds presses entries left
   pub trace : text ≡ text_of_entries entries
 

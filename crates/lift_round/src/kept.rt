@@ -33,7 +33,7 @@ impl Drop for Rounds {
 
 impl Rounds {
     ghost use Rattle.lift_spec.specs.Image.{sizes_of, FieldsInRange};
-    ghost use Rattle.lift_journal.proofs.Taking.{IsClosed};
+    ghost use Rattle.lift_journal.specs.Closed.{IsClosed};
     ghost use Rattle.lift_round.specs.Rounds.{IsRoundOf};
 
     /// The rounds of a world.

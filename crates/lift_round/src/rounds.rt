@@ -7,7 +7,7 @@ ghost use Rattle.lift_spec.specs.Image.{sizes_of, FieldsInRange};
 ghost use Rattle.lift_spec.specs.Replies.{Refreshed};
 ghost use Rattle.lift_spec.specs.World.{happens};
 ghost use Rattle.lift_journal.specs.Rounds.{tasks_in_order};
-ghost use Rattle.lift_journal.proofs.Taking.{IsClosed};
+ghost use Rattle.lift_journal.specs.Closed.{IsClosed};
 ghost use Rattle.lift_runs.specs.Driven.{AreTasks};
 ghost use Rattle.lift_runs.specs.Shown.{ScansReporting};
 ghost use Rattle.lift_round.specs.declared.notice.Notice.{Notice as NoticeOf};

@@ -20,7 +20,8 @@ use Rattle.lift_journal.specs.Journal.{IsAccepted}
 use Rattle.lift_journal.specs.Entered.{AllHaveWords}
 use Rattle.lift_journal.specs.Rounds.{ending, entered_calls_of, Takes, TakesAll, Refuses, IsRefusedAt}
 use Rattle.lift_journal.proofs.Journals.{Led}
-use Rattle.lift_journal.proofs.Taking.{IsClosed, finished, scan_closes, refresh_taken, entered_are}
+use Rattle.lift_journal.specs.Closed.{IsClosed}
+use Rattle.lift_journal.proofs.Taking.{finished, scan_closes, refresh_taken, entered_are}
 use Rattle.lift_journal.proofs.Calls.{have_words}
 use Rattle.il_machine.proofs.Sizes.{sizes_fit}
 use Rattle.lift_world.specs.Running.{instructions, up_to_end}

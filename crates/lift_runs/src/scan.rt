@@ -3,7 +3,7 @@
 ghost use Rattle.std.specs.Prelude.{◌≡◌, [], ◌∷◌, Ok, OnOk, IfErr, true, false, is_some};
 ghost use Rattle.lift_journal.specs.Rounds.{Happen};
 ghost use Rattle.lift_runs.specs.Shown.{FinishesReporting, ScansReporting};
-ghost use Rattle.lift_journal.proofs.Taking.{IsClosed};
+ghost use Rattle.lift_journal.specs.Closed.{IsClosed};
 ghost use Rattle.lift_run_laws.specs.Tasks.{IsTaskOf};
 ghost use Rattle.il_machine.specs.Scanning.{HasTask};
 ghost use Rattle.lift_spec.specs.declared.event.Event.TheVariants.{Instruction};

@@ -13,7 +13,7 @@ ghost use Rattle.lift_spec.specs.Replies.{Refreshed};
 ghost use Rattle.lift_spec.specs.World.{happens};
 ghost use Rattle.lift_spec.specs.declared.journal.Entry.TheVariants as entry;
 ghost use Rattle.lift_journal.specs.Rounds.{Happen, desk_events, floors_rising, tasks_in_order, scan_entries, entered_calls_of};
-ghost use Rattle.lift_journal.proofs.Taking.{IsClosed};
+ghost use Rattle.lift_journal.specs.Closed.{IsClosed};
 ghost use Rattle.lift_runs.specs.Driven.{call_of, ArePressed, AreSettings, IsSimulated, AreTasks};
 ghost use Rattle.lift_runs.specs.Shown.{Commit, IsShown, ScansCommit, RoundShown, behind_all, commits_text};
 

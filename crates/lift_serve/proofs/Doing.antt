@@ -8,7 +8,7 @@ use Rattle.lift_spec.specs.Hands.{has_call}
 use Rattle.lift_spec.specs.Image.{sizes_of, is_floor}
 use Rattle.lift_spec.specs.Replies.{Reply}
 use Rattle.lift_spec.specs.World.{World, Next, flat, happens, presses, presses_floors, presses_new, opening, opening_group}
-use Rattle.lift_journal.proofs.Taking.{IsClosed}
+use Rattle.lift_journal.specs.Closed.{IsClosed}
 use Rattle.lift_serve.specs.Answers.{outputs_line, stop_line}
 
 abbrev SameScans : World → Next → Type 0

@@ -1,5 +1,5 @@
 -- From the opening to the end.
-use Rattle.std.proofs.Common.{◌≡◌, ℕ, Bool, List, [], ◌++◌, Option, Some, None, refl, sym, subst}
+use Rattle.std.proofs.Common.{◌≡◌, ℕ, Bool, List, [], ◌++◌, length, Option, Some, None, refl, sym, ◌∙◌, subst}
 use Rattle.std.specs.Io.KnownBytes.{Appends, Consumes}
 use Rattle.il_spec.specs.declared.tree.Config.{Config}
 use Rattle.il_machine.specs.Scanning.{Program}
@@ -15,7 +15,7 @@ use Rattle.lift_serve.specs.declared.serve.Stop.TheVariants.{Line, Input, Lines}
 use Rattle.lift_serve.specs.declared.server.ServeFault.TheVariants as fault
 use Rattle.lift_serve.specs.Answers.{stop_line}
 use Rattle.lift_serve.specs.Ending.{head, Ends, IsHaltWritten, IsEnded, IsHalted}
-use Rattle.lift_serve.specs.Serving.{IsServed, IsStopped, IsStoppedBy, traced_text}
+use Rattle.lift_serve.specs.Serving.{IsServed, IsStopped, IsStoppedBy, AtStop, traced_text}
 use Rattle.lift_serve.proofs.Serving.{front_behind}
 use Rattle.lift_serve.proofs.Replaying.{served_taken}
 
@@ -54,27 +54,27 @@ ended p q w a v next Taken Out t0 t1 t2 opened grown s =
 ends_behind : (a b d : Option (List ℕ)) (failed : Bool) (x y : List ℕ) → Appends a b x → Ends b d failed y → Ends a d failed (x ++ y)
 ends_behind a b d failed x y first (front, whole) = (front_behind a b d x y first front, λ good. appends_more a b d x y first (whole good))
 
-module _ (c : Config) (v : World) (next : ℕ) (Taken : List ℕ → Type 0) (o0 o o1 : Option (List ℕ)) (failed : Bool) (t0 t1 t2 : Option (List ℕ)) (text events still : List ℕ) (grown : Appends t0 t1 head) where
-  why : (stop : Stop) → IsHaltWritten stop o o1 failed still → IsStoppedBy c v next Taken (λ l. Appends o0 o (text ++ l)) (λ l. AppendsFront o0 o (text ++ l)) (λ l. Appends t1 t2 (events ++ l)) (λ l. AppendsFront t1 t2 (events ++ l)) stop
-      → IsStoppedBy c v next Taken (λ l. Ends o0 o1 failed ((text ++ l) ++ still)) (λ l. AppendsFront o0 o1 (text ++ l)) (λ l. Appends t0 t2 (head ++ (events ++ l))) (λ l. AppendsFront t0 t2 (head ++ (events ++ l))) stop
+module _ (c : Config) (v : World) (next heard : ℕ) (left : Option (List ℕ)) (Taken : List ℕ → Type 0) (o0 o o1 : Option (List ℕ)) (had_failed failed trace_failed : Bool) (t0 t1 t2 : Option (List ℕ)) (text events still : List ℕ) (grown : Appends t0 t1 head) where
+  why : (stop : Stop) → IsHaltWritten stop o o1 had_failed failed still → IsStoppedBy c v next heard (record { left = left; out_failed = had_failed; trace_failed = trace_failed }) Taken (λ l. Appends o0 o (text ++ l)) (λ l. AppendsFront o0 o (text ++ l)) (λ l. Appends t1 t2 (events ++ l)) (λ l. AppendsFront t1 t2 (events ++ l)) stop
+      → IsStoppedBy c v next heard (record { left = left; out_failed = failed; trace_failed = trace_failed }) Taken (λ l. Ends o0 o1 failed ((text ++ l) ++ still)) (λ l. AppendsFront o0 o1 (text ++ l)) (λ l. Appends t0 t2 (head ++ (events ++ l))) (λ l. AppendsFront t0 t2 (head ++ (events ++ l))) stop
   why (Line (fault.WrongLine w)) written (line, one, taken, (none, out, trace)) = (line, one, taken, (none, ends_behind o0 o o1 failed (text ++ []) still out written, appends_more t0 t1 t2 head (events ++ []) grown trace))
-  why (Line fault.Trace) written (line, one, taken, (said, says, out, front)) = (line, one, taken, (said, says, ends_behind o0 o o1 failed (text ++ []) still out written, front_behind t0 t1 t2 head (events ++ traced_text c said next) grown front))
-  why (Line fault.Output) written (line, one, taken, (said, m, answer, says, acts, out, trace)) = (line, one, taken, (said, m, answer, says, acts, subst (λ x. AppendsFront o0 x (text ++ answer)) (sym written) out, appends_more t0 t1 t2 head (events ++ traced_text c said next) grown trace))
+  why (Line fault.Trace) written (line, one, taken, (said, says, lost, out, front)) = (line, one, taken, (said, says, lost, ends_behind o0 o o1 failed (text ++ []) still out written, front_behind t0 t1 t2 head (events ++ traced_text c said next) grown front))
+  why (Line fault.Output) (written, still_failed) (line, one, taken, (said, m, answer, says, acts, lost, out, trace)) = (line, one, taken, (said, m, answer, says, acts, still_failed ∙ lost, subst (λ x. AppendsFront o0 x (text ++ answer)) (sym written) out, appends_more t0 t1 t2 head (events ++ traced_text c said next) grown trace))
   why (Line fault.Memory) written (line, one, taken, (said, says, out, front)) = (line, one, taken, (said, says, ends_behind o0 o o1 failed (text ++ []) still out written, front_behind t0 t1 t2 head (events ++ traced_text c said next) grown front))
-  why (Line fault.Full) written (line, one, taken, (said, says, out, trace)) = (line, one, taken, (said, says, ends_behind o0 o o1 failed (text ++ []) still out written, appends_more t0 t1 t2 head (events ++ []) grown trace))
+  why (Line fault.Full) written (line, one, taken, (said, says, many, out, trace)) = (line, one, taken, (said, says, many, ends_behind o0 o o1 failed (text ++ []) still out written, appends_more t0 t1 t2 head (events ++ []) grown trace))
   why (Input Whole) written stopped = absurd stopped
-  why (Input Ended) written (line, one, taken, out, trace) = (line, one, taken, ends_behind o0 o o1 failed (text ++ []) still out written, appends_more t0 t1 t2 head (events ++ []) grown trace)
+  why (Input Ended) written (line, one, taken, end, out, trace) = (line, one, taken, end, ends_behind o0 o o1 failed (text ++ []) still out written, appends_more t0 t1 t2 head (events ++ []) grown trace)
   why (Input TooLong) written (line, more, one, long, no_feed, taken, out, trace) = (line, more, one, long, no_feed, taken, ends_behind o0 o o1 failed (text ++ []) still out written, appends_more t0 t1 t2 head (events ++ []) grown trace)
   why (Input Failed) written (line, one, taken, out, trace) = (line, one, taken, ends_behind o0 o o1 failed (text ++ []) still out written, appends_more t0 t1 t2 head (events ++ []) grown trace)
-  why Lines written (taken, out, trace) = (taken, ends_behind o0 o o1 failed (text ++ []) still out written, appends_more t0 t1 t2 head (events ++ []) grown trace)
+  why Lines written (many, taken, out, trace) = (many, taken, ends_behind o0 o o1 failed (text ++ []) still out written, appends_more t0 t1 t2 head (events ++ []) grown trace)
 
-pub halted : (p q : Program) (w : World) (a : ℕ) (Taken : List ℕ → Type 0) (o0 o o1 : Option (List ℕ)) (failed : Bool) (t0 t1 t2 : Option (List ℕ)) (still : List ℕ) (s : Stopped) → (q ≡ p) × (w ≡ opening p.config) × (a ≡ 0) → Appends t0 t1 head → still ≡ stop_line p.config
-    → IsHaltWritten s.stop o o1 failed still → IsStopped q.config w a Taken (Appends o0 o) (AppendsFront o0 o) (Appends t1 t2) (AppendsFront t1 t2) s.stop s.line → IsHalted p.config Taken o0 o1 failed (Appends t0 t2) (AppendsFront t0 t2) (halt.Stop s)
-halted p q w a Taken o0 o o1 failed t0 t1 t2 still s opened grown is written stopped =
-    let one = subst (λ (x : Program). IsStopped x.config w a Taken (Appends o0 o) (AppendsFront o0 o) (Appends t1 t2) (AppendsFront t1 t2) s.stop s.line) opened.0 stopped in
-    let two = subst (λ (x : World). IsStopped p.config x a Taken (Appends o0 o) (AppendsFront o0 o) (Appends t1 t2) (AppendsFront t1 t2) s.stop s.line) opened.1 one in
-    let all = subst (λ n. IsStopped p.config (opening p.config) n Taken (Appends o0 o) (AppendsFront o0 o) (Appends t1 t2) (AppendsFront t1 t2) s.stop s.line) opened.2 two in
-    let wrote = subst (IsHaltWritten s.stop o o1 failed) is written in
+pub halted : (p q : Program) (w : World) (a : ℕ) (Taken : List ℕ → Type 0) (left o0 o o1 : Option (List ℕ)) (had_failed failed trace_failed : Bool) (t0 t1 t2 : Option (List ℕ)) (still : List ℕ) (s : Stopped) → (q ≡ p) × (w ≡ opening p.config) × (a ≡ 0) → Appends t0 t1 head → still ≡ stop_line p.config
+    → IsHaltWritten s.stop o o1 had_failed failed still → IsStopped q.config w a (record { left = left; out_failed = had_failed; trace_failed = trace_failed }) Taken (Appends o0 o) (AppendsFront o0 o) (Appends t1 t2) (AppendsFront t1 t2) s.stop s.line → IsHalted p.config (record { left = left; out_failed = failed; trace_failed = trace_failed }) Taken o0 o1 (Appends t0 t2) (AppendsFront t0 t2) (halt.Stop s)
+halted p q w a Taken left o0 o o1 had_failed failed trace_failed t0 t1 t2 still s opened grown is written stopped =
+    let one = subst (λ (x : Program). IsStopped x.config w a (record { left = left; out_failed = had_failed; trace_failed = trace_failed }) Taken (Appends o0 o) (AppendsFront o0 o) (Appends t1 t2) (AppendsFront t1 t2) s.stop s.line) opened.0 stopped in
+    let two = subst (λ (x : World). IsStopped p.config x a (record { left = left; out_failed = had_failed; trace_failed = trace_failed }) Taken (Appends o0 o) (AppendsFront o0 o) (Appends t1 t2) (AppendsFront t1 t2) s.stop s.line) opened.1 one in
+    let all = subst (λ n. IsStopped p.config (opening p.config) n (record { left = left; out_failed = had_failed; trace_failed = trace_failed }) Taken (Appends o0 o) (AppendsFront o0 o) (Appends t1 t2) (AppendsFront t1 t2) s.stop s.line) opened.2 two in
+    let wrote = subst (IsHaltWritten s.stop o o1 had_failed failed) is written in
     record {
       lines = all.lines;
       place = all.place;
@@ -83,5 +83,5 @@ halted p q w a Taken o0 o o1 failed t0 t1 t2 still s opened grown is written sto
       text = all.text;
       events = all.events;
       serves = all.serves;
-      why = why p.config all.v all.next (λ l. Taken (text_of_lines all.lines ++ l)) o0 o o1 failed t0 t1 t2 all.text all.events (stop_line p.config) grown s.stop wrote all.why;
+      why = why p.config all.v all.next (length all.lines) left (λ l. Taken (text_of_lines all.lines ++ l)) o0 o o1 had_failed failed trace_failed t0 t1 t2 all.text all.events (stop_line p.config) grown s.stop wrote all.why;
     }

@@ -18,7 +18,7 @@ use Rattle.lift_serve.specs.declared.serve.Stop.{Stop}
 use Rattle.lift_serve.specs.declared.serve.Stop.TheVariants.{Line, Input, Lines}
 use Rattle.lift_serve.specs.declared.server.ServeFault.{ServeFault}
 use Rattle.lift_serve.specs.Coming.{LineComes}
-use Rattle.lift_serve.specs.Serving.{Hears, Serves, Unheard, IsServed, IsStopped, IsStoppedBy, is_end}
+use Rattle.lift_serve.specs.Serving.{Hears, Serves, Unheard, IsServed, IsStopped, IsStoppedBy, AtStop, most_lines, is_end}
 use Rattle.lift_serve.proofs.Serving.{serves_next, unheard_behind}
 
 pub consumes_more : (a b d : Option (List ℕ)) (x y : List ℕ) → Consumes a b x → Consumes b d y → Consumes a d (x ++ y)
@@ -48,10 +48,10 @@ end_of End is = refl
 
 module _ (p : Program) (w m : World) (a b n : ℕ) (r0 r o0 o t0 t : Option (List ℕ)) (before : SoFar p.config w a m b n r0 r o0 o t0 t) where
   -- serving stops behind the lines so far
-  stopped_at : (s z u : Option (List ℕ)) (stop : Stop) (k : ℕ) → k ≡ n + 1
-      → IsStoppedBy p.config m b (λ l. Consumes r0 s (text_of_lines before.0 ++ l)) (λ l. Appends o0 z (before.1 ++ l)) (λ l. AppendsFront o0 z (before.1 ++ l)) (λ l. Appends t0 u (before.2 ++ l)) (λ l. AppendsFront t0 u (before.2 ++ l)) stop
-      → IsStopped p.config w a (Consumes r0 s) (Appends o0 z) (AppendsFront o0 z) (Appends t0 u) (AppendsFront t0 u) stop k
-  stopped_at s z u stop k is why = record {
+  stopped_at : (at : AtStop) (s z u : Option (List ℕ)) (stop : Stop) (k : ℕ) → k ≡ n + 1
+      → IsStoppedBy p.config m b (length before.0) at (λ l. Consumes r0 s (text_of_lines before.0 ++ l)) (λ l. Appends o0 z (before.1 ++ l)) (λ l. AppendsFront o0 z (before.1 ++ l)) (λ l. Appends t0 u (before.2 ++ l)) (λ l. AppendsFront t0 u (before.2 ++ l)) stop
+      → IsStopped p.config w a at (Consumes r0 s) (Appends o0 z) (AppendsFront o0 z) (Appends t0 u) (AppendsFront t0 u) stop k
+  stopped_at at s z u stop k is why = record {
     lines = before.0;
     place = is ∙ ap (λ k. k + 1) (sym before.7);
     v = m;
@@ -97,24 +97,24 @@ module _ (p : Program) (w m : World) (a b n : ℕ) (r0 r o0 o t0 t : Option (Lis
           traced = appends_more t0 t u before.2 one before.6 trace;
         }
 
-    pub stopped_line : (f : ServeFault) → IsOneLine line → Unheard q.config other m b (Appends o p1) (AppendsFront o p1) (Appends t u) (AppendsFront t u) f
-        → IsStopped p.config w a (Consumes r0 s) (Appends o0 p1) (AppendsFront o0 p1) (Appends t0 u) (AppendsFront t0 u) (Line f) (n + 1)
-    stopped_line f one unheard =
-        let here = subst (λ (x : Program). Unheard x.config line m b (Appends o p1) (AppendsFront o p1) (Appends t u) (AppendsFront t u) f) same (subst (λ l. Unheard q.config l m b (Appends o p1) (AppendsFront o p1) (Appends t u) (AppendsFront t u) f) is unheard) in
-        stopped_at s p1 u (Line f) (n + 1) refl (line, one, consumes_more r0 r s (text_of_lines before.0) (line ++ 10 ∷ []) before.4 comes, unheard_behind p.config line m b f o0 o p1 t0 t u before.1 before.2 before.5 before.6 here)
+    pub stopped_line : (at : AtStop) (f : ServeFault) → IsOneLine line → Unheard q.config other m b at.out_failed at.trace_failed (Appends o p1) (AppendsFront o p1) (Appends t u) (AppendsFront t u) f
+        → IsStopped p.config w a at (Consumes r0 s) (Appends o0 p1) (AppendsFront o0 p1) (Appends t0 u) (AppendsFront t0 u) (Line f) (n + 1)
+    stopped_line at f one unheard =
+        let here = subst (λ (x : Program). Unheard x.config line m b at.out_failed at.trace_failed (Appends o p1) (AppendsFront o p1) (Appends t u) (AppendsFront t u) f) same (subst (λ l. Unheard q.config l m b at.out_failed at.trace_failed (Appends o p1) (AppendsFront o p1) (Appends t u) (AppendsFront t u) f) is unheard) in
+        stopped_at at s p1 u (Line f) (n + 1) refl (line, one, consumes_more r0 r s (text_of_lines before.0) (line ++ 10 ∷ []) before.4 comes, unheard_behind p.config line m b at.out_failed at.trace_failed f o0 o p1 t0 t u before.1 before.2 before.5 before.6 here)
 
   no_more : (x y : Option (List ℕ)) (text : List ℕ) → Appends x y text → Appends x y (text ++ [])
   no_more x y text grown = subst (Appends x y) (sym (append-nil text)) grown
 
-  pub stopped_input : (came : Came) (line : List ℕ) (s : Option (List ℕ)) → (came ≡ Whole → ⊥) → LineComes came r s line → IsStopped p.config w a (Consumes r0 s) (Appends o0 o) (AppendsFront o0 o) (Appends t0 t) (AppendsFront t0 t) (Input came) (n + 1)
-  stopped_input Whole line s other comes = absurd (other refl)
-  stopped_input Ended line s other (one, taken, end) =
-      stopped_at s o t (Input Ended) (n + 1) refl (line, one, consumes_more r0 r s (text_of_lines before.0) line before.4 taken, no_more o0 o before.1 before.5, no_more t0 t before.2 before.6)
-  stopped_input TooLong line s other (one, long, (more, no_feed, taken)) =
-      stopped_at s o t (Input TooLong) (n + 1) refl (line, more, one, long, no_feed, consumes_more r0 r s (text_of_lines before.0) _ before.4 taken, no_more o0 o before.1 before.5, no_more t0 t before.2 before.6)
-  stopped_input Failed line s other (one, taken) =
-      stopped_at s o t (Input Failed) (n + 1) refl (line, one, consumes_more r0 r s (text_of_lines before.0) line before.4 taken, no_more o0 o before.1 before.5, no_more t0 t before.2 before.6)
+  pub stopped_input : (of tf : Bool) (came : Came) (line : List ℕ) (s : Option (List ℕ)) → (came ≡ Whole → ⊥) → LineComes came r s line → IsStopped p.config w a (record { left = s; out_failed = of; trace_failed = tf }) (Consumes r0 s) (Appends o0 o) (AppendsFront o0 o) (Appends t0 t) (AppendsFront t0 t) (Input came) (n + 1)
+  stopped_input of tf Whole line s other comes = absurd (other refl)
+  stopped_input of tf Ended line s other (one, taken, end) =
+      stopped_at (record { left = s; out_failed = of; trace_failed = tf }) s o t (Input Ended) (n + 1) refl (line, one, consumes_more r0 r s (text_of_lines before.0) line before.4 taken, end, no_more o0 o before.1 before.5, no_more t0 t before.2 before.6)
+  stopped_input of tf TooLong line s other (one, long, (more, no_feed, taken)) =
+      stopped_at (record { left = s; out_failed = of; trace_failed = tf }) s o t (Input TooLong) (n + 1) refl (line, more, one, long, no_feed, consumes_more r0 r s (text_of_lines before.0) _ before.4 taken, no_more o0 o before.1 before.5, no_more t0 t before.2 before.6)
+  stopped_input of tf Failed line s other (one, taken) =
+      stopped_at (record { left = s; out_failed = of; trace_failed = tf }) s o t (Input Failed) (n + 1) refl (line, one, consumes_more r0 r s (text_of_lines before.0) line before.4 taken, no_more o0 o before.1 before.5, no_more t0 t before.2 before.6)
 
-  pub stopped_lines : (k : ℕ) → k ≡ n + 1 → IsStopped p.config w a (Consumes r0 r) (Appends o0 o) (AppendsFront o0 o) (Appends t0 t) (AppendsFront t0 t) Lines k
-  stopped_lines k is =
-      stopped_at r o t Lines k is (subst (Consumes r0 r) (sym (append-nil (text_of_lines before.0))) before.4, no_more o0 o before.1 before.5, no_more t0 t before.2 before.6)
+  pub stopped_lines : (at : AtStop) (k : ℕ) → k ≡ n + 1 → n ≡ most_lines → IsStopped p.config w a at (Consumes r0 r) (Appends o0 o) (AppendsFront o0 o) (Appends t0 t) (AppendsFront t0 t) Lines k
+  stopped_lines at k is most =
+      stopped_at at r o t Lines k is (before.7 ∙ most, subst (Consumes r0 r) (sym (append-nil (text_of_lines before.0))) before.4, no_more o0 o before.1 before.5, no_more t0 t before.2 before.6)

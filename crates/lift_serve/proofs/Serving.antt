@@ -1,6 +1,6 @@
 -- One line behind the other.
 use Rattle.std.proofs.Common.{◌≡◌, ℕ, true, false, List, [], ◌∷◌, ◌++◌, append-nil, Option, Result, Ok, Err, OnErr, OnOk, inl, inr, refl, sym, ap, ◌∙◌, subst}
-use Rattle.std.specs.Prelude.{is_err, ◌⊎◌}
+use Rattle.std.specs.Prelude.{is_err, ◌⊎◌, Bool}
 use Rattle.std.specs.Io.KnownBytes.{Appends}
 use Rattle.std.proofs.lemmas.List.{append_assoc}
 use Rattle.il_spec.specs.declared.tree.Config.{Config}
@@ -13,7 +13,7 @@ use Rattle.lift_serve.specs.declared.server.ServeFault.TheVariants as fault
 use Rattle.lift_world.specs.Worlds.{WorldOf}
 use Rattle.lift_serve.specs.Saying.{Says}
 use Rattle.lift_serve.specs.Answers.{Acts}
-use Rattle.lift_serve.specs.Serving.{is_end, Hears, Serves, Unheard, traced_text}
+use Rattle.lift_serve.specs.Serving.{is_end, Hears, Serves, Unheard, IsUntraced, traced_text}
 
 pub if_err : {X E : Type 0} {P : Type 0} (r : Result X E) → is_err r ≡ true → OnErr r P → P
 if_err (Ok x) is p = absurd (cc)
@@ -59,25 +59,34 @@ pub front_behind : (a b d : Option (List ℕ)) (x y : List ℕ) → Appends a b 
 front_behind a b d x y first (front, rest, grown, is) = (x ++ front, rest, appends_more a b d x front first grown, append_assoc x front rest ∙ ap (λ l. x ++ l) is)
 
 -- a line that is not heard behind others
-pub unheard_behind : (c : Config) (line : List ℕ) (w : World) (count : ℕ) (f : ServeFault) (o p q t u v : Option (List ℕ)) (text events : List ℕ) → Appends o p text → Appends t u events
-    → Unheard c line w count (Appends p q) (AppendsFront p q) (Appends u v) (AppendsFront u v) f
-    → Unheard c line w count (λ l. Appends o q (text ++ l)) (λ l. AppendsFront o q (text ++ l)) (λ l. Appends t v (events ++ l)) (λ l. AppendsFront t v (events ++ l)) f
-unheard_behind c line w count (fault.WrongLine why) o p q t u v text events out trace (none, x, y) = (none, appends_more o p q text [] out x, appends_more t u v events [] trace y)
-unheard_behind c line w count fault.Trace o p q t u v text events out trace (said, says, x, y) = (said, says, appends_more o p q text [] out x, front_behind t u v events _ trace y)
-unheard_behind c line w count fault.Output o p q t u v text events out trace (said, m, answer, says, acts, x, y) = (said, m, answer, says, acts, front_behind o p q text answer out x, appends_more t u v events _ trace y)
-unheard_behind c line w count fault.Memory o p q t u v text events out trace (said, says, x, y) = (said, says, appends_more o p q text [] out x, front_behind t u v events _ trace y)
-unheard_behind c line w count fault.Full o p q t u v text events out trace (said, says, x, y) = (said, says, appends_more o p q text [] out x, appends_more t u v events [] trace y)
+pub unheard_behind : (c : Config) (line : List ℕ) (w : World) (count : ℕ) (of tf : Bool) (f : ServeFault) (o p q t u v : Option (List ℕ)) (text events : List ℕ) → Appends o p text → Appends t u events
+    → Unheard c line w count of tf (Appends p q) (AppendsFront p q) (Appends u v) (AppendsFront u v) f
+    → Unheard c line w count of tf (λ l. Appends o q (text ++ l)) (λ l. AppendsFront o q (text ++ l)) (λ l. Appends t v (events ++ l)) (λ l. AppendsFront t v (events ++ l)) f
+unheard_behind c line w count of tf (fault.WrongLine why) o p q t u v text events out trace (none, x, y) = (none, appends_more o p q text [] out x, appends_more t u v events [] trace y)
+unheard_behind c line w count of tf fault.Trace o p q t u v text events out trace (said, says, failed, x, y) = (said, says, failed, appends_more o p q text [] out x, front_behind t u v events _ trace y)
+unheard_behind c line w count of tf fault.Output o p q t u v text events out trace (said, m, answer, says, acts, failed, x, y) = (said, m, answer, says, acts, failed, front_behind o p q text answer out x, appends_more t u v events _ trace y)
+unheard_behind c line w count of tf fault.Memory o p q t u v text events out trace (said, says, x, y) = (said, says, appends_more o p q text [] out x, front_behind t u v events _ trace y)
+unheard_behind c line w count of tf fault.Full o p q t u v text events out trace (said, says, many, x, y) = (said, says, many, appends_more o p q text [] out x, appends_more t u v events [] trace y)
 
 front_all : (a b : Option (List ℕ)) (x : List ℕ) → Appends a b x → AppendsFront a b x
 front_all a b x grown = (x, [], grown, append-nil x)
 
+-- a line that was not traced
+pub unheard_trace : (line : List ℕ) (said : Said) (old : WorldOf) (count : ℕ) (of tf : Bool) (f : ServeFault) (o t u : Option (List ℕ)) → Says old.program.config line said → Appends o o [] → IsUntraced old.program.config said count t u tf f
+    → Unheard old.program.config line old.world count of tf (Appends o o) (AppendsFront o o) (Appends t u) (AppendsFront t u) f
+unheard_trace line said old count of tf (fault.WrongLine why) o t u says none untraced = absurd untraced
+unheard_trace line said old count of tf fault.Trace o t u says none (failed, front) = (said, says, failed, none, front)
+unheard_trace line said old count of tf fault.Output o t u says none untraced = absurd untraced
+unheard_trace line said old count of tf fault.Memory o t u says none front = (said, says, none, front)
+unheard_trace line said old count of tf fault.Full o t u says none (many, nothing) = (said, says, many, none, nothing)
+
 -- a line whose answer failed, behind all that is traced of it
-pub unheard_answer : (line : List ℕ) (said : Said) (old mid : WorldOf) (v : World) (count : ℕ) (f : ServeFault) (o q t u : Option (List ℕ)) → mid ≡ old → Says old.program.config line said → Appends t u (traced_text old.program.config said count)
-    → ((f ≡ fault.Memory) × Appends o q []) ⊎ ((f ≡ fault.Output) × ((text : List ℕ) × Acts mid.program.config said mid.world v text × AppendsFront o q text)) → Unheard old.program.config line old.world count (Appends o q) (AppendsFront o q) (Appends t u) (AppendsFront t u) f
-unheard_answer line said old mid v count f o q t u same says traced (inl (is, none)) =
-    let here : Unheard old.program.config line old.world count (Appends o q) (AppendsFront o q) (Appends t u) (AppendsFront t u) fault.Memory = (said, says, none, front_all t u _ traced) in
-    subst (Unheard old.program.config line old.world count (Appends o q) (AppendsFront o q) (Appends t u) (AppendsFront t u)) (sym is) here
-unheard_answer line said old mid v count f o q t u same says traced (inr (is, (text, acts, front))) =
+pub unheard_answer : (line : List ℕ) (said : Said) (old mid : WorldOf) (v : World) (count : ℕ) (of tf : Bool) (f : ServeFault) (o q t u : Option (List ℕ)) → mid ≡ old → Says old.program.config line said → Appends t u (traced_text old.program.config said count)
+    → ((f ≡ fault.Memory) × Appends o q []) ⊎ ((f ≡ fault.Output) × (of ≡ true) × ((text : List ℕ) × Acts mid.program.config said mid.world v text × AppendsFront o q text)) → Unheard old.program.config line old.world count of tf (Appends o q) (AppendsFront o q) (Appends t u) (AppendsFront t u) f
+unheard_answer line said old mid v count of tf f o q t u same says traced (inl (is, none)) =
+    let here : Unheard old.program.config line old.world count of tf (Appends o q) (AppendsFront o q) (Appends t u) (AppendsFront t u) fault.Memory = (said, says, none, front_all t u _ traced) in
+    subst (Unheard old.program.config line old.world count of tf (Appends o q) (AppendsFront o q) (Appends t u) (AppendsFront t u)) (sym is) here
+unheard_answer line said old mid v count of tf f o q t u same says traced (inr (is, failed, (text, acts, front))) =
     let acted = subst (λ (x : WorldOf). Acts x.program.config said x.world v text) same acts in
-    let here : Unheard old.program.config line old.world count (Appends o q) (AppendsFront o q) (Appends t u) (AppendsFront t u) fault.Output = (said, v, text, says, acted, front, traced) in
-    subst (Unheard old.program.config line old.world count (Appends o q) (AppendsFront o q) (Appends t u) (AppendsFront t u)) (sym is) here
+    let here : Unheard old.program.config line old.world count of tf (Appends o q) (AppendsFront o q) (Appends t u) (AppendsFront t u) fault.Output = (said, v, text, says, acted, failed, front, traced) in
+    subst (Unheard old.program.config line old.world count of tf (Appends o q) (AppendsFront o q) (Appends t u) (AppendsFront t u)) (sym is) here

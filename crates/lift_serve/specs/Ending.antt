@@ -1,5 +1,5 @@
 -- A group from its opening to the end of its lines (own rules).
-use Rattle.std.specs.Prelude.{◌≡◌, ℕ, Bool, false, List, [], ◌∷◌, ◌++◌, Option}
+use Rattle.std.specs.Prelude.{◌≡◌, ℕ, Bool, true, false, List, [], ◌∷◌, ◌++◌, Option}
 use Rattle.std.specs.Io.KnownBytes.{Appends}
 use Rattle.il_spec.specs.declared.tree.Config.{Config}
 use Rattle.lift_spec.specs.World.{World, opening}
@@ -14,7 +14,7 @@ use Rattle.lift_serve.specs.declared.serve.Stop.{Stop as StopOf}
 use Rattle.lift_serve.specs.declared.serve.Stop.TheVariants as stop
 use Rattle.lift_serve.specs.declared.server.ServeFault.TheVariants as fault
 use Rattle.lift_serve.specs.Answers.{stop_line}
-use Rattle.lift_serve.specs.Serving.{IsServed, IsStopped}
+use Rattle.lift_serve.specs.Serving.{IsServed, IsStopped, AtStop}
 
 -- the head of a trace
 abbrev pub head : List ℕ
@@ -25,14 +25,14 @@ abbrev pub Ends : Option (List ℕ) → Option (List ℕ) → Bool → List ℕ 
 Ends old new failed bytes = AppendsFront old new bytes × (failed ≡ false → Appends old new bytes)
 
 -- the stop was written, unless it was the output that had failed
-abbrev pub IsHaltWritten : StopOf → Option (List ℕ) → Option (List ℕ) → Bool → List ℕ → Type 0
-IsHaltWritten (stop.Line fault.Output) old new failed text = new ≡ old
-IsHaltWritten (stop.Line (fault.WrongLine why)) old new failed text = Ends old new failed text
-IsHaltWritten (stop.Line fault.Trace) old new failed text = Ends old new failed text
-IsHaltWritten (stop.Line fault.Memory) old new failed text = Ends old new failed text
-IsHaltWritten (stop.Line fault.Full) old new failed text = Ends old new failed text
-IsHaltWritten (stop.Input c) old new failed text = Ends old new failed text
-IsHaltWritten stop.Lines old new failed text = Ends old new failed text
+abbrev pub IsHaltWritten : StopOf → Option (List ℕ) → Option (List ℕ) → Bool → Bool → List ℕ → Type 0
+IsHaltWritten (stop.Line fault.Output) old new had_failed failed text = (new ≡ old) × (failed ≡ had_failed)
+IsHaltWritten (stop.Line (fault.WrongLine why)) old new had_failed failed text = Ends old new failed text
+IsHaltWritten (stop.Line fault.Trace) old new had_failed failed text = Ends old new failed text
+IsHaltWritten (stop.Line fault.Memory) old new had_failed failed text = Ends old new failed text
+IsHaltWritten (stop.Line fault.Full) old new had_failed failed text = Ends old new failed text
+IsHaltWritten (stop.Input c) old new had_failed failed text = Ends old new failed text
+IsHaltWritten stop.Lines old new had_failed failed text = Ends old new failed text
 
 -- It came to its end: from the opening on each line that the reader gave was answered, and the trace is whole: it is that of events which lead to the world behind
 -- them, so that a replay of it does.
@@ -40,9 +40,10 @@ abbrev pub IsEnded : Config → (List ℕ → Type 0) → (List ℕ → Type 0) 
 IsEnded c Taken Out Trace =
     (v : World) × (next : ℕ) × IsServed c (opening c) 0 v next Taken Out (λ events. Trace (head ++ events)) × ((events : List TraceEvent) × TakesAll c (opening c) events v × Trace (text_of Two events))
 
--- It came to no end. Where a line was not answered, or none came, the stop is the last line that was written, behind the answers; only an output that failed before has
--- a front of the answer.
-abbrev pub IsHalted : Config → (List ℕ → Type 0) → Option (List ℕ) → Option (List ℕ) → Bool → (List ℕ → Type 0) → (List ℕ → Type 0) → Halt → Type 0
-IsHalted c Taken old new failed Trace TraceFront halt.Memory = Taken [] × (new ≡ old) × Trace []
-IsHalted c Taken old new failed Trace TraceFront halt.Head = Taken [] × Ends old new failed (stop_line c) × TraceFront head
-IsHalted c Taken old new failed Trace TraceFront (halt.Stop s) = IsStopped c (opening c) 0 Taken (λ text. Ends old new failed (text ++ stop_line c)) (λ text. AppendsFront old new text) (λ events. Trace (head ++ events)) (λ events. TraceFront (head ++ events)) s.stop s.line
+-- It came to no end. Where a line was not answered, or none came, or the head of the trace couldn't be written, the stop is the last line that was written, behind the
+-- answers; only an output that failed before has a front of the answer. Where memory was missing for the group to open, nothing was written.
+abbrev pub IsHalted : Config → AtStop → (List ℕ → Type 0) → Option (List ℕ) → Option (List ℕ) → (List ℕ → Type 0) → (List ℕ → Type 0) → Halt → Type 0
+IsHalted c at Taken old new Trace TraceFront halt.Memory = Taken [] × (new ≡ old) × Trace []
+IsHalted c at Taken old new Trace TraceFront halt.Head = Taken [] × (at.trace_failed ≡ true) × Ends old new at.out_failed (stop_line c) × TraceFront head
+IsHalted c at Taken old new Trace TraceFront (halt.Stop s) =
+    IsStopped c (opening c) 0 at Taken (λ text. Ends old new at.out_failed (text ++ stop_line c)) (λ text. AppendsFront old new text) (λ events. Trace (head ++ events)) (λ events. TraceFront (head ++ events)) s.stop s.line

@@ -1,5 +1,5 @@
 -- A group behind lines, and what each line leaves (own rules).
-use Rattle.std.specs.Prelude.{◌≡◌, ◌≢◌, ◌≤◌, ℕ, ◌+◌, Bool, true, false, if◌then◌else◌, List, [], ◌∷◌, ◌++◌, length, map, flat_map, string_bytes}
+use Rattle.std.specs.Prelude.{◌≡◌, ◌≢◌, ◌≤◌, ◌<◌, ℕ, ◌+◌, Bool, Option, true, false, if◌then◌else◌, List, [], ◌∷◌, ◌++◌, length, map, flat_map, string_bytes}
 use Rattle.il_spec.specs.declared.tree.Config.{Config}
 use Rattle.lift_spec.specs.declared.trace.TraceEvent.TheVariants as traced
 use Rattle.lift_spec.specs.declared.image.Sizes.{Sizes}
@@ -7,7 +7,9 @@ use Rattle.lift_spec.specs.World.{World}
 use Rattle.lift_trace.specs.Text.{last_line, text_of_lines}
 use Rattle.lift_trace.specs.Writing.{events_text}
 use Rattle.lift_journal.specs.Rounds.{floors_rising, tasks_in_order}
-use Rattle.lift_journal.proofs.Taking.{IsClosed}
+use Rattle.std.specs.Io.KnownBytes.{Appends, IsAtEnd}
+use Rattle.lift_host.specs.Writes.{AppendsFront}
+use Rattle.lift_journal.specs.Closed.{IsClosed}
 use Rattle.lift_serve.specs.declared.said.Said.{Said}
 use Rattle.lift_serve.specs.declared.said.Said.TheVariants.{Round, Press, End}
 use Rattle.lift_serve.specs.declared.server.Server.{Server}
@@ -59,14 +61,27 @@ pub record Hears (c : Config) (line : List ℕ) (said : Said) (w v : World) (cou
   pub traced : events ≡ traced_text c said count
   pub counted : next ≡ count + length (events_of c said)
 
--- Why a line isn't answered, by what the answers and the trace grew, in whole or by a front: it says nothing to the group; the trace failed, and nothing was answered; the answer
--- failed, behind all that is traced of the line; memory is missing, or no further event can be counted.
-abbrev pub Unheard : Config → List ℕ → World → ℕ → (List ℕ → Type 0) → (List ℕ → Type 0) → (List ℕ → Type 0) → (List ℕ → Type 0) → ServeFault → Type 0
-Unheard c line w count Out OutFront Trace TraceFront (fault.WrongLine why) = SaysNothing c line why × Out [] × Trace []
-Unheard c line w count Out OutFront Trace TraceFront fault.Trace = (said : Said) × Says c line said × Out [] × TraceFront (traced_text c said count)
-Unheard c line w count Out OutFront Trace TraceFront fault.Output = (said : Said) × (v : World) × (text : List ℕ) × Says c line said × Acts c said w v text × OutFront text × Trace (traced_text c said count)
-Unheard c line w count Out OutFront Trace TraceFront fault.Memory = (said : Said) × Says c line said × Out [] × TraceFront (traced_text c said count)
-Unheard c line w count Out OutFront Trace TraceFront fault.Full = (said : Said) × Says c line said × Out [] × Trace []
+-- so many events can be counted
+abbrev pub most_events : ℕ
+most_events = 18446744073709551615
+
+-- Why what a line says isn't traced: more events can't be counted, memory is missing, or the trace failed. By then it has the lines before, and at most a front of
+-- what is traced of this one.
+abbrev pub IsUntraced : Config → Said → ℕ → Option (List ℕ) → Option (List ℕ) → Bool → ServeFault → Type 0
+IsUntraced c said count old new failed (fault.WrongLine why) = ⊥
+IsUntraced c said count old new failed fault.Trace = (failed ≡ true) × AppendsFront old new (traced_text c said count)
+IsUntraced c said count old new failed fault.Output = ⊥
+IsUntraced c said count old new failed fault.Memory = AppendsFront old new (traced_text c said count)
+IsUntraced c said count old new failed fault.Full = (most_events < count + length (events_of c said)) × Appends old new []
+
+-- Why a line isn't answered, by what the answers and the trace grew, in whole or by a front: it says nothing to the group; the trace failed, and nothing was answered; the output
+-- failed, behind all that is traced of the line; memory is missing; or the events of the line can't be counted any more.
+abbrev pub Unheard : Config → List ℕ → World → ℕ → Bool → Bool → (List ℕ → Type 0) → (List ℕ → Type 0) → (List ℕ → Type 0) → (List ℕ → Type 0) → ServeFault → Type 0
+Unheard c line w count out_failed trace_failed Out OutFront Trace TraceFront (fault.WrongLine why) = SaysNothing c line why × Out [] × Trace []
+Unheard c line w count out_failed trace_failed Out OutFront Trace TraceFront fault.Trace = (said : Said) × Says c line said × (trace_failed ≡ true) × Out [] × TraceFront (traced_text c said count)
+Unheard c line w count out_failed trace_failed Out OutFront Trace TraceFront fault.Output = (said : Said) × (v : World) × (text : List ℕ) × Says c line said × Acts c said w v text × (out_failed ≡ true) × OutFront text × Trace (traced_text c said count)
+Unheard c line w count out_failed trace_failed Out OutFront Trace TraceFront fault.Memory = (said : Said) × Says c line said × Out [] × TraceFront (traced_text c said count)
+Unheard c line w count out_failed trace_failed Out OutFront Trace TraceFront fault.Full = (said : Said) × Says c line said × (most_events < count + length (events_of c said)) × Out [] × Trace []
 
 -- ALL LINES
 
@@ -76,14 +91,25 @@ Serves c [] w count v next text events = (w ≡ v) × (count ≡ next) × (text 
 Serves c (line ∷ lines) w count v next text events =
     (said : Said) × (m : World) × (k : ℕ) × (first : List ℕ) × (one : List ℕ) × (rest : List ℕ) × (others : List ℕ) × Hears c line said w m count k first one × (is_end said ≡ false) × Serves c lines m k v next rest others × (text ≡ first ++ rest) × (events ≡ one ++ others)
 
--- Why serving stopped: the next line was whole and was not answered; none came whole, and nothing of it was traced or answered; or the lines were too many.
-abbrev pub IsStoppedBy : Config → World → ℕ → (List ℕ → Type 0) → (List ℕ → Type 0) → (List ℕ → Type 0) → (List ℕ → Type 0) → (List ℕ → Type 0) → Stop → Type 0
-IsStoppedBy c w count Taken Out OutFront Trace TraceFront (Line fault) = (line : List ℕ) × IsOneLine line × Taken (line ++ 10 ∷ []) × Unheard c line w count Out OutFront Trace TraceFront fault
-IsStoppedBy c w count Taken Out OutFront Trace TraceFront (Input Whole) = ⊥
-IsStoppedBy c w count Taken Out OutFront Trace TraceFront (Input Ended) = (line : List ℕ) × IsOneLine line × Taken line × Out [] × Trace []
-IsStoppedBy c w count Taken Out OutFront Trace TraceFront (Input TooLong) = (line : List ℕ) × (more : ℕ) × IsOneLine line × (length line ≡ greatest_line) × (more ≢ 10) × Taken (line ++ more ∷ []) × Out [] × Trace []
-IsStoppedBy c w count Taken Out OutFront Trace TraceFront (Input Failed) = (line : List ℕ) × IsOneLine line × Taken line × Out [] × Trace []
-IsStoppedBy c w count Taken Out OutFront Trace TraceFront Lines = Taken [] × Out [] × Trace []
+-- how the streams stand where serving stops: what the reader has left, where it tells that, and which of the sinks failed
+pub record AtStop : Type 0 where
+  pub left : Option (List ℕ)
+  pub out_failed : Bool
+  pub trace_failed : Bool
+
+-- so many lines can be counted, and the number of the one behind them
+abbrev pub most_lines : ℕ
+most_lines = 18446744073709551614
+
+-- Why serving stopped, behind so many lines: the next line was whole and was not answered; none came whole, and nothing of it was traced or answered: the input ended, the
+-- line was too long, or the reader failed; or no line more can be counted.
+abbrev pub IsStoppedBy : Config → World → ℕ → ℕ → AtStop → (List ℕ → Type 0) → (List ℕ → Type 0) → (List ℕ → Type 0) → (List ℕ → Type 0) → (List ℕ → Type 0) → Stop → Type 0
+IsStoppedBy c w count heard at Taken Out OutFront Trace TraceFront (Line fault) = (line : List ℕ) × IsOneLine line × Taken (line ++ 10 ∷ []) × Unheard c line w count at.out_failed at.trace_failed Out OutFront Trace TraceFront fault
+IsStoppedBy c w count heard at Taken Out OutFront Trace TraceFront (Input Whole) = ⊥
+IsStoppedBy c w count heard at Taken Out OutFront Trace TraceFront (Input Ended) = (line : List ℕ) × IsOneLine line × Taken line × IsAtEnd at.left × Out [] × Trace []
+IsStoppedBy c w count heard at Taken Out OutFront Trace TraceFront (Input TooLong) = (line : List ℕ) × (more : ℕ) × IsOneLine line × (length line ≡ greatest_line) × (more ≢ 10) × Taken (line ++ more ∷ []) × Out [] × Trace []
+IsStoppedBy c w count heard at Taken Out OutFront Trace TraceFront (Input Failed) = (line : List ℕ) × IsOneLine line × Taken line × Out [] × Trace []
+IsStoppedBy c w count heard at Taken Out OutFront Trace TraceFront Lines = (heard ≡ most_lines) × Taken [] × Out [] × Trace []
 
 -- The end was said: the reader gave these lines and then one that says it, and no other of them does.
 pub record IsServed (c : Config) (w : World) (count : ℕ) (v : World) (next : ℕ) (Taken Out Trace : List ℕ → Type 0) : Type 0 where
@@ -102,7 +128,7 @@ pub record IsServed (c : Config) (w : World) (count : ℕ) (v : World) (next : �
   pub traced : Trace (events ++ ends)
 
 -- Serving stopped, behind lines that were answered and traced, at the line of this number.
-pub record IsStopped (c : Config) (w : World) (count : ℕ) (Taken Out OutFront Trace TraceFront : List ℕ → Type 0) (stop : Stop) (number : ℕ) : Type 0 where
+pub record IsStopped (c : Config) (w : World) (count : ℕ) (at : AtStop) (Taken Out OutFront Trace TraceFront : List ℕ → Type 0) (stop : Stop) (number : ℕ) : Type 0 where
   pub lines : List (List ℕ)
   pub place : number ≡ length lines + 1
   pub v : World
@@ -110,4 +136,4 @@ pub record IsStopped (c : Config) (w : World) (count : ℕ) (Taken Out OutFront 
   pub text : List ℕ
   pub events : List ℕ
   pub serves : Serves c lines w count v next text events
-  pub why : IsStoppedBy c v next (λ l. Taken (text_of_lines lines ++ l)) (λ l. Out (text ++ l)) (λ l. OutFront (text ++ l)) (λ l. Trace (events ++ l)) (λ l. TraceFront (events ++ l)) stop
+  pub why : IsStoppedBy c v next (length lines) at (λ l. Taken (text_of_lines lines ++ l)) (λ l. Out (text ++ l)) (λ l. OutFront (text ++ l)) (λ l. Trace (events ++ l)) (λ l. TraceFront (events ++ l)) stop

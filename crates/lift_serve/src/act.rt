@@ -6,7 +6,7 @@ ghost use Rattle.lift_spec.specs.Image.{sizes_of, FieldsInRange};
 ghost use Rattle.lift_spec.specs.Replies.{Reply as ReplyOf};
 ghost use Rattle.lift_spec.specs.World.{happens};
 ghost use Rattle.lift_journal.specs.Rounds.{tasks_in_order};
-ghost use Rattle.lift_journal.proofs.Taking.{IsClosed};
+ghost use Rattle.lift_journal.specs.Closed.{IsClosed};
 ghost use Rattle.lift_round.specs.declared.notice.Notice.{Notice as NoticeOf};
 ghost use Rattle.lift_round.specs.Rounds.{IsRoundOf};
 ghost use Rattle.lift_serve.specs.Saying.{IsSpelled, IsTaken};

@@ -1,6 +1,6 @@
 // A group from its opening to the end of its lines.
 
-ghost use Rattle.std.specs.Prelude.{◌≡◌, OnOk, IfErr};
+ghost use Rattle.std.specs.Prelude.{◌≡◌, None, OnOk, IfErr};
 ghost use Rattle.std.specs.Io.KnownBytes.{Appends, Consumes};
 ghost use Rattle.lift_host.specs.Writes.{AppendsFront};
 ghost use Rattle.lift_serve.specs.Ending.{Ends, IsEnded, IsHalted, IsHaltWritten};
@@ -35,11 +35,16 @@ pub fn serve_group<R: Read, O: Sink, T: Sink>(
         (Consumes (R.remaining reader.old) (R.remaining reader.new))
         (Appends (O.contents out.old) (O.contents out.new))
         (Appends (T.contents trace.old) (T.contents trace.new))) }
-    ensures halted { IfErr result (λ halt. IsHalted verified.config
-        (Consumes (R.remaining reader.old) (R.remaining reader.new)) (O.contents out.old)
-        (O.contents out.new) (O.has_failed out.new)
+    ensures halted { IfErr result (λ halt. IsHalted verified.config (record {
+      left = R.remaining reader.new;
+      out_failed = O.has_failed out.new;
+      trace_failed = T.has_failed trace.new;
+    }) (Consumes (R.remaining reader.old) (R.remaining reader.new)) (O.contents out.old)
+        (O.contents out.new)
         (Appends (T.contents trace.old) (T.contents trace.new))
         (AppendsFront (T.contents trace.old) (T.contents trace.new)) halt) }
+    ensures silent { T.contents trace.old ≡ None → T.contents trace.new ≡ None }
+    ensures made { T.made trace.new ≡ T.made trace.old }
 {
     let Ok(mut server) = Server::new(alloc, verified) else {
         return Err(Halt::Memory);
@@ -62,8 +67,8 @@ pub fn serve_group<R: Read, O: Sink, T: Sink>(
 
 // Writes the stop, unless it was the output that failed.
 fn write_stop<O: Sink>(stop: Stop, text: &[u8], out: &mut O)
-    ensures { IsHaltWritten stop (O.contents out.old) (O.contents out.new) (O.has_failed out.new)
-        text.now }
+    ensures { IsHaltWritten stop (O.contents out.old) (O.contents out.new)
+        (O.has_failed out.old) (O.has_failed out.new) text.now }
 {
     match stop {
         Stop::Line(ServeFault::Output) => {}

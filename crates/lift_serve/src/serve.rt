@@ -1,6 +1,6 @@
 // Lines, one behind the other.
 
-ghost use Rattle.std.specs.Prelude.{◌≡◌, ◌≤◌, OnOk, IfErr, vec_capacity};
+ghost use Rattle.std.specs.Prelude.{◌≡◌, ◌≤◌, None, OnOk, IfErr, vec_capacity};
 ghost use Rattle.std.specs.Io.KnownBytes.{Appends, Consumes};
 ghost use Rattle.lift_host.specs.Writes.{AppendsFront};
 ghost use Rattle.lift_serve.specs.Serving.{IsServer, IsServed, IsStopped};
@@ -47,13 +47,18 @@ pub fn serve<R: Read, O: Sink, T: Sink>(
         (Appends (O.contents out.old) (O.contents out.new))
         (Appends (T.contents trace.old) (T.contents trace.new))) }
     ensures stopped { IfErr result (λ s. IsStopped server.old.world.program.config
-        server.old.world.world server.old.count
-        (Consumes (R.remaining reader.old) (R.remaining reader.new))
+        server.old.world.world server.old.count (record {
+          left = R.remaining reader.new;
+          out_failed = O.has_failed out.new;
+          trace_failed = T.has_failed trace.new;
+        }) (Consumes (R.remaining reader.old) (R.remaining reader.new))
         (Appends (O.contents out.old) (O.contents out.new))
         (AppendsFront (O.contents out.old) (O.contents out.new))
         (Appends (T.contents trace.old) (T.contents trace.new))
         (AppendsFront (T.contents trace.old) (T.contents trace.new)) s.stop s.line) }
     ensures stop { server.new.stop ≡ server.old.stop }
+    ensures silent { T.contents trace.old ≡ None → T.contents trace.new ≡ None }
+    ensures made { T.made trace.new ≡ T.made trace.old }
 {
     'lines: for before in 0..MOST_LINES {
         let number = before + 1;

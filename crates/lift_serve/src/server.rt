@@ -1,6 +1,6 @@
 // A group behind lines.
 
-ghost use Rattle.std.specs.Prelude.{◌≡◌, ◌≢◌, ◌≤◌, ◌⊎◌, ◌++◌, ◌+◌, ◌∷◌, [], ℕ, List, Bool, true, length, OnOk, OnErr, IfOk, IfErr, string_bytes, map, flat_map};
+ghost use Rattle.std.specs.Prelude.{◌≡◌, ◌≢◌, ◌≤◌, ◌⊎◌, ◌++◌, ◌+◌, ◌∷◌, [], ℕ, List, Bool, true, length, OnOk, OnErr, IfOk, IfErr, None, string_bytes, map, flat_map};
 ghost use Rattle.std.specs.Io.KnownBytes.{Appends};
 ghost use Rattle.lift_spec.specs.World.{opening};
 ghost use Rattle.lift_spec.specs.declared.trace.TraceEvent.TheVariants.{Gather};
@@ -11,7 +11,7 @@ ghost use Rattle.lift_trace.specs.Writing.{events_text};
 ghost use Rattle.lift_journal.specs.Rounds.{TakesAll, counting_from};
 ghost use Rattle.lift_serve.specs.Saying.{scan_events, events_of, Says, IsSpelled, IsTaken};
 ghost use Rattle.lift_serve.specs.Answers.{Acts, greatest_answer, outputs_line};
-ghost use Rattle.lift_serve.specs.Serving.{IsServer, Hears, Unheard, traced_text, record_text, is_end};
+ghost use Rattle.lift_serve.specs.Serving.{IsServer, Hears, Unheard, IsUntraced, traced_text, record_text, is_end};
 ghost use Rattle.lift_serve.specs.declared.said.Said.{Said as SaidOf};
 
 use crate::act::{Scratch, act};
@@ -223,11 +223,11 @@ impl Server {
             (traced_text self.old.world.program.config said.now self.old.count)) }
         ensures counted { OnOk result (self.new.count
             ≡ self.old.count + length (events_of self.old.world.program.config said.now)) }
-        ensures fault { IfErr result (λ fault. ((fault ≡ ServeFault.Full)
-            × Appends (T.contents trace.old) (T.contents trace.new) [])
-            ⊎ (((fault ≡ ServeFault.Memory) ⊎ (fault ≡ ServeFault.Trace))
-            × AppendsFront (T.contents trace.old) (T.contents trace.new)
-            (traced_text self.old.world.program.config said.now self.old.count))) }
+        ensures fault { IfErr result (λ fault. IsUntraced self.old.world.program.config said.now
+            self.old.count (T.contents trace.old) (T.contents trace.new) (T.has_failed trace.new)
+            fault) }
+        ensures silent { T.contents trace.old ≡ None → T.contents trace.new ≡ None }
+        ensures made { T.made trace.new ≡ T.made trace.old }
         ensures same { self.new.world ≡ self.old.world }
         ensures stop { self.new.stop ≡ self.old.stop }
         ensures server { IsServer self.new }
@@ -270,7 +270,7 @@ impl Server {
             text × Appends (O.contents out.old) (O.contents out.new) text) }
         ensures fault { IfErr result (λ fault. ((fault ≡ ServeFault.Memory)
             × Appends (O.contents out.old) (O.contents out.new) [])
-            ⊎ ((fault ≡ ServeFault.Output)
+            ⊎ ((fault ≡ ServeFault.Output) × (O.has_failed out.new ≡ true)
             × ((text : List ℕ) × Acts self.old.world.program.config said self.old.world.world
             self.new.world.world text
             × AppendsFront (O.contents out.old) (O.contents out.new) text))) }
@@ -312,11 +312,13 @@ impl Server {
             × Appends (T.contents trace.old) (T.contents trace.new) events
             × (ended ≡ is_end said)) }
         ensures unheard { IfErr result (λ fault. Unheard self.old.world.program.config line.now
-            self.old.world.world self.old.count
+            self.old.world.world self.old.count (O.has_failed out.new) (T.has_failed trace.new)
             (Appends (O.contents out.old) (O.contents out.new))
             (AppendsFront (O.contents out.old) (O.contents out.new))
             (Appends (T.contents trace.old) (T.contents trace.new))
             (AppendsFront (T.contents trace.old) (T.contents trace.new)) fault) }
+        ensures silent { T.contents trace.old ≡ None → T.contents trace.new ≡ None }
+        ensures made { T.made trace.new ≡ T.made trace.old }
         ensures same { self.new.world.program ≡ self.old.world.program }
         ensures stop { self.new.stop ≡ self.old.stop }
         ensures server { OnOk result (IsServer self.new) }

@@ -6,8 +6,7 @@ use Rattle.std.proofs.lemmas.List.Sums.{sum_by-cons}
 use Rattle.std.proofs.lemmas.List.Sorted.{sum_by-IsPermutation}
 use Rattle.atomic_table.specs.Seated.{TableId}
 use Rattle.lift_desk.specs.Account.{times, membership}
-use Rattle.lift_desk.specs.Passes.{Panel, Holding, Gathered, IsBalanced, AreAnsweredNew, IsFloorOf}
-use Rattle.lift_desk.specs.declared.desk.DeskClosed.{DeskClosed}
+use Rattle.lift_desk.specs.Passes.{Panel, Holding, Left, Gathered, IsBalanced, AreAnsweredNew, IsFloorOf}
 use Rattle.lift_desk.proofs.Sums.{times-append, sum-push}
 use Rattle.lift_host.specs.declared.press.Press.{Press}
 use Rattle.lift_journal.specs.Journal.{calls_entered}
@@ -54,7 +53,7 @@ entered_on entered after calls h k m own gathered is same left =
 
 -- THE END
 
-pub kept_so : (floors : ℕ) (presses : List Press) (entries : List Entry) (left : DeskClosed) (panels : List Panel) (entered : List Call) (h : Holding) → entered ≡ calls_entered entries → IsEntered entered h → left.hand ≡ h.hand
+pub kept_so : (floors : ℕ) (presses : List Press) (entries : List Entry) (left : Left) (panels : List Panel) (entered : List Call) (h : Holding) → entered ≡ calls_entered entries → IsEntered entered h → left.hand ≡ h.hand
     → IsBalanced floors panels h.gathered left.desk → AreAnsweredNew floors panels → ArePressed presses panels → AreKept floors presses entries left
 kept_so floors presses entries left panels entered h is own same balanced answered all =
     let news : (c : Call) → IsFloorOf floors c.from → IsFloorOf floors c.to → found entries left c ≡ sum_by (λ (p : Panel). times c p.news) panels =
@@ -77,13 +76,13 @@ pressed_sum c (p ∷ presses) = omega (arith, pressed_sum c presses, sum_by-cons
 pub pressed_same : (xs ys : List Press) → IsPermutation xs ys → (c : Call) → pressed ys c ≡ pressed xs c
 pressed_same xs ys same c = pressed_sum c ys ∙ sum_by-IsPermutation (one_of c) xs ys same ∙ sym (pressed_sum c xs)
 
-pub kept_same : (floors : ℕ) (xs ys : List Press) (entries : List Entry) (left : DeskClosed) → IsPermutation xs ys → AreKept floors ys entries left → AreKept floors xs entries left
+pub kept_same : (floors : ℕ) (xs ys : List Press) (entries : List Entry) (left : Left) → IsPermutation xs ys → AreKept floors ys entries left → AreKept floors xs entries left
 kept_same floors xs ys entries left same kept = record {
   lost = λ c from to more. kept.lost c from to (omega (arith, more, pressed_same xs ys same c));
   doubled = λ c from to. omega (arith, kept.doubled c from to, pressed_same xs ys same c);
 }
 
-run_same : (c : Config) (switches : ℕ → Switches) (rounds : ℕ) (xs ys : List Press) (entries : List Entry) (left : DeskClosed) → IsPermutation xs ys → IsRun c switches rounds ys entries left → IsRun c switches rounds xs entries left
+run_same : (c : Config) (switches : ℕ → Switches) (rounds : ℕ) (xs ys : List Press) (entries : List Entry) (left : Left) → IsPermutation xs ys → IsRun c switches rounds ys entries left → IsRun c switches rounds xs entries left
 run_same c switches rounds xs ys entries left same run = record {
   world = run.world;
   journal = run.journal;

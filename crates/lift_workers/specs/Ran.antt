@@ -2,8 +2,7 @@
 use Rattle.std.specs.Prelude.{◌≡◌, ℕ, ◌+◌, ◌<◌, ◌≤◌, List, true}
 use Rattle.il_spec.specs.declared.tree.Config.{Config}
 use Rattle.lift_desk.specs.Account.{times, membership}
-use Rattle.lift_desk.specs.Passes.{Holding, IsFloorOf}
-use Rattle.lift_desk.specs.declared.desk.DeskClosed.{DeskClosed}
+use Rattle.lift_desk.specs.Passes.{Holding, Left, IsFloorOf}
 use Rattle.lift_host.specs.declared.press.Press.{Press}
 use Rattle.lift_workers.specs.Panels.{pressed}
 use Rattle.lift_spec.specs.declared.calls.Call.{Call}
@@ -21,18 +20,18 @@ abbrev pub IsEntered : List Call → Holding → Type 0
 IsEntered entered h = (call : Call) → times call entered + membership h.hand call ≡ times call h.gathered
 
 -- how often a call was entered, and 1 if it is in the hand, and 1 if it is on the desk
-abbrev pub found : List Entry → DeskClosed → Call → ℕ
+abbrev pub found : List Entry → Left → Call → ℕ
 found entries left call = times call (calls_entered entries) + membership left.hand call + membership left.desk call
 
 -- No press is lost and none is doubled: each call of two floors that was pressed is found, and none is found oftener than it was pressed.
-pub record AreKept (floors : ℕ) (presses : List Press) (entries : List Entry) (left : DeskClosed) : Type 0 where
+pub record AreKept (floors : ℕ) (presses : List Press) (entries : List Entry) (left : Left) : Type 0 where
   pub lost : (call : Call) → IsFloorOf floors call.from → IsFloorOf floors call.to → 0 < pressed presses call → 0 < found entries left call
   pub doubled : (call : Call) → IsFloorOf floors call.from → IsFloorOf floors call.to → found entries left call ≤ pressed presses call
 
 -- The entries are the journal of a run of the group from its opening, in which each task was started and committed in each of so many
 -- rounds, and the image was refreshed in each. Their order is free. Each refresh came from the plant, which was set by its number, and no car
 -- changed its place unless its door was shut, or left its shaft. The presses are kept.
-pub record IsRun (c : Config) (switches : ℕ → Switches) (rounds : ℕ) (presses : List Press) (entries : List Entry) (left : DeskClosed) : Type 0 where
+pub record IsRun (c : Config) (switches : ℕ → Switches) (rounds : ℕ) (presses : List Press) (entries : List Entry) (left : Left) : Type 0 where
   pub world : World
   pub journal : IsJournalOf c entries world
   pub tasks : (t : ℕ) → is_task c t ≡ true → entries_by t entries ≡ rounds + rounds

@@ -152,8 +152,8 @@ fn leaves(alloc: Global, played: &Played, left: Left) -> bool {
         Left::Entered(calls) => has_entered(played, calls),
         Left::Slot(slot) => played.slot == Some(slot),
         Left::Globals(g, h) => has_globals(played, g, h),
-        Left::Hand(words, count) => has_calls(&played.desk.hand, words, count),
-        Left::Desk(words, count) => has_calls(&played.desk.desk, words, count),
+        Left::Hand(words, count) => has_calls(played.desk.hand(), words, count),
+        Left::Desk(words, count) => has_calls(played.desk.desk(), words, count),
     }
 }
 

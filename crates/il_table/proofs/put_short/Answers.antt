@@ -1,11 +1,16 @@
-use Rattle.std.proofs.Common.{sym, ◌∙◌, subst}
-use Rattle.il_table.specs.Near.{AreIn}
-use Rattle.il_table.proofs.NearLaws.{in_updated}
+use Rattle.std.proofs.Common.{sym, ◌∙◌}
+use Rattle.il_table.proofs.Put.{put_here, put_there, none_there}
 use Rattle.il_table.proofs.put_short.Goals as goal
 
-pub returns-in-None-clause-near : goal.returns-in-None-clause-near
-returns-in-None-clause-near g c =
-    let is = c.in_ok-insert.ensures.updates in
-    c.remember.ensures c.insert.new.self.entries is.1
-    (in_updated c.args.short.now c.insert.new.self c.args.number c.args.entry c.make_room.new.self.entries.items (sym c.in_ok-insert.ensures.old ∙ c.in-None.is) is
-    (subst (AreIn c.args.short.now.entries) (sym c.make_room.ensures.entries) c.requires))
+pub returns-then-not-contains_key-clause-ok : goal.returns-then-not-contains_key-clause-ok
+returns-then-not-contains_key-clause-ok g c =
+    put_there c.args.short.now.entries c.args.crowded.now c.insert.new.self c.args.number c.args.entry
+    (none_there _ (sym c.contains_key.ensures ∙ c.if-not-contains_key.true)) c.in_ok-insert.ensures.updates
+
+pub returns-then-is_none-clause-ok : goal.returns-then-is_none-clause-ok
+returns-then-is_none-clause-ok g c =
+    put_here c.args.short.now.entries c.insert-2.new.self.entries c.args.crowded.now.entries c.args.number c.args.entry c.in_ok-insert-2.ensures.updates.0
+
+pub returns-else-is_none-clause-ok : goal.returns-else-is_none-clause-ok
+returns-else-is_none-clause-ok g c =
+    put_here c.args.short.now.entries c.insert-2.new.self.entries c.args.crowded.now.entries c.args.number c.args.entry c.in_ok-insert-2.ensures.updates.0

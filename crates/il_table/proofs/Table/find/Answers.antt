@@ -1,22 +1,26 @@
-use Rattle.std.proofs.Common.{sym, ap, ◌∙◌, refl}
+use Rattle.std.proofs.Common.{◌++◌, sym, ap, ◌∙◌, refl}
 use Rattle.il_table.specs.NameMap as map
-use Rattle.il_table.specs.Near.{find}
+use Rattle.il_table.specs.Places.{find, numbered}
 use Rattle.il_table.proofs.ByText.{get-short, get-long}
+use Rattle.il_table.proofs.Put.{found}
 use Rattle.il_table.proofs.Table.find.Goals as goal
 
-pub returns-in-Some-find : goal.returns-in-Some-find
-returns-in-Some-find g c =
+pub returns-in-Some-get : goal.returns-in-Some-get
+returns-in-Some-get g c =
     let is = c.in-Some.ensures.some in
-    sym (c.in-Some-find.ensures c.self.inside.short.entries c.self.invariant) ∙ ap (λ n. find n c.self.inside.short.entries) is.1
-    ∙ sym (get-short c.self.inside.short.entries c.self.inside.long.entries c.args.name.now is.0) ∙ ap (λ m. map.get m c.args.name.now) c.self.view_is
+    let both = numbered (λ s. s.number) c.self.inside.short.entries ++ c.self.inside.crowded.entries in
+    found c.in-Some.number c.self.inside.short.entries c.self.inside.crowded.entries c.in-Some-get.ensures.value ∙ ap (λ n. find n both) is.1
+    ∙ sym (get-short both c.self.inside.long.entries c.args.name.now is.0) ∙ ap (λ m. map.get m c.args.name.now) c.self.view_is
 
-pub returns-in-None-find : goal.returns-in-None-find
-returns-in-None-find g c =
+pub returns-in-None-get : goal.returns-in-None-get
+returns-in-None-get g c =
     let is = c.in-Some.ensures.some in
-    c.find_short.ensures ∙ ap (λ n. find n c.self.inside.short.entries) is.1
-    ∙ sym (get-short c.self.inside.short.entries c.self.inside.long.entries c.args.name.now is.0) ∙ ap (λ m. map.get m c.args.name.now) c.self.view_is
+    let both = numbered (λ s. s.number) c.self.inside.short.entries ++ c.self.inside.crowded.entries in
+    c.find_crowded.ensures ∙ found c.in-Some.number c.self.inside.short.entries c.self.inside.crowded.entries c.in-None-get.ensures.value ∙ ap (λ n. find n both) is.1
+    ∙ sym (get-short both c.self.inside.long.entries c.args.name.now is.0) ∙ ap (λ m. map.get m c.args.name.now) c.self.view_is
 
 pub returns-in-None : goal.returns-in-None
 returns-in-None g c =
     c.find_long.ensures
-    ∙ sym (get-long c.self.inside.short.entries c.self.inside.long.entries c.args.name.now (c.in-None.ensures.none refl)) ∙ ap (λ m. map.get m c.args.name.now) c.self.view_is
+    ∙ sym (get-long (numbered (λ s. s.number) c.self.inside.short.entries ++ c.self.inside.crowded.entries) c.self.inside.long.entries c.args.name.now (c.in-None.ensures.none refl))
+    ∙ ap (λ m. map.get m c.args.name.now) c.self.view_is

@@ -1,5 +1,5 @@
 use Rattle.std.proofs.Common.{◌≡◌, ◌++◌, ◌≤◌, ◌+◌, List, length, take, drop}
-use Rattle.lift_journal.proofs.Taking.{IsClosed}
+use Rattle.lift_journal.specs.Closed.{IsClosed}
 use Rattle.lift_round.specs.declared.notice.Notice.{Notice}
 use Rattle.lift_round.specs.Rounds.{ScansNoticed, most_of_scans}
 use Rattle.lift_round.proofs.rounds.scan_all.Given as goal

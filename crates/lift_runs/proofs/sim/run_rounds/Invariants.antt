@@ -1,7 +1,7 @@
 use Rattle.std.proofs.Common.{◌≡◌, ◌+◌, ◌++◌, ℕ, true, List, []}
 use Rattle.lift_spec.specs.Image.{sizes_of}
 use Rattle.lift_spec.specs.Plant.{IsPlantOf}
-use Rattle.lift_journal.proofs.Taking.{IsClosed}
+use Rattle.lift_journal.specs.Closed.{IsClosed}
 use Rattle.lift_runs.specs.Ahead.{press_round, IsAhead, IsStanding}
 use Rattle.lift_runs.specs.Driven.{calls_in, switches_in}
 use Rattle.lift_runs.specs.Shown.{Commit, RoundsShown, behind_all}

@@ -1,6 +1,6 @@
 use Rattle.std.proofs.Common.{◌≡◌, ◌++◌, List, flat_map, take}
 use Rattle.lift_journal.specs.Rounds.{scan_entries}
-use Rattle.lift_journal.proofs.Taking.{IsClosed}
+use Rattle.lift_journal.specs.Closed.{IsClosed}
 use Rattle.lift_runs.specs.Shown.{Commit, ScansCommit, behind_all, commits_text}
 use Rattle.lift_runs.proofs.sim.scan_all.Given as goal
 

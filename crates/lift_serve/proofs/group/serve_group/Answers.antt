@@ -9,6 +9,7 @@ use Rattle.lift_serve.proofs.group.serve_group.Goals as goal
 pub returns-then-is_err-clause-halted : goal.returns-then-is_err-clause-halted
 returns-then-is_err-clause-halted g c = (
   consumes_none (g.R.Read.remaining c.args.reader.now),
+  if_err c.put_all.result (sym c.is_err.ensures.value ∙ c.if-is_err.true) c.put_all.ensures.failed,
   subst (Ends (g.O.Sink.contents c.args.out.now) (g.O.Sink.contents c.put_stop.new.out) (g.O.Sink.has_failed c.put_stop.new.out)) (c.as_bytes.ensures.value ∙ c.in-Ok.ensures.server.stop ∙ ap (λ (x : Program). stop_line x.config) c.in-Ok.ensures.opening.0) c.put_stop.ensures,
   if_err c.put_all.result (sym c.is_err.ensures.value ∙ c.if-is_err.true) c.put_all.ensures.front,
 )
@@ -20,6 +21,6 @@ returns-in-Ok-serve-clause-ended g c =
 
 pub returns-clause-halted : goal.returns-clause-halted
 returns-clause-halted g c =
-    halted c.args.verified c.in-Ok.server.world.program c.in-Ok.server.world.world c.in-Ok.server.count _ (g.O.Sink.contents c.args.out.now) (g.O.Sink.contents c.serve.new.out) (g.O.Sink.contents c.write_stop.new.out) (g.O.Sink.has_failed c.write_stop.new.out)
+    halted c.args.verified c.in-Ok.server.world.program c.in-Ok.server.world.world c.in-Ok.server.count _ (g.R.Read.remaining c.serve.new.reader) (g.O.Sink.contents c.args.out.now) (g.O.Sink.contents c.serve.new.out) (g.O.Sink.contents c.write_stop.new.out) (g.O.Sink.has_failed c.serve.new.out) (g.O.Sink.has_failed c.write_stop.new.out) (g.T.Sink.has_failed c.serve.new.trace)
     (g.T.Sink.contents c.args.trace.now) (g.T.Sink.contents c.put_all.new.sink) (g.T.Sink.contents c.serve.new.trace) c.as_bytes-in-Err.result.now c.in-Err.stopped c.in-Ok.ensures.opening (if_ok c.put_all.result (sym c.is_err.ensures.value ∙ c.if-is_err.false) c.put_all.ensures.ok)
     (c.as_bytes-in-Err.ensures.value ∙ ap (λ s. string_bytes s) c.serve.ensures.stop ∙ c.in-Ok.ensures.server.stop ∙ ap (λ (x : Program). stop_line x.config) c.in-Ok.ensures.opening.0) c.write_stop.ensures c.in-Err.ensures.stopped

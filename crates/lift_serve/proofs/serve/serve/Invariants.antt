@@ -1,4 +1,4 @@
-use Rattle.std.proofs.Common.{◌≡◌, ◌≤◌, ℕ, List, length, vec_capacity}
+use Rattle.std.proofs.Common.{◌≡◌, ◌≤◌, ℕ, List, length, vec_capacity, None}
 use Rattle.std.specs.Io.KnownBytes.{Appends, Consumes}
 use Rattle.lift_trace.specs.Text.{text_of_lines}
 use Rattle.lift_serve.specs.Serving.{IsServer, Serves}
@@ -12,5 +12,7 @@ invariant-lines g l = record {
   stop : l.server.stop ≡ l.initial.server.stop;
   server : IsServer l.server;
   same : l.server.world.program ≡ l.initial.server.world.program;
+  silent : g.T.Sink.contents l.initial.trace ≡ None → g.T.Sink.contents l.trace ≡ None;
+  made : g.T.Sink.made l.trace ≡ g.T.Sink.made l.initial.trace;
   room : 128 ≤ vec_capacity l.line;
 }

@@ -8,7 +8,7 @@ use Rattle.lift_serve.proofs.server.Server.hear.Goals as goal
 
 pub returns-in-Err-answer_said-clause-unheard : goal.returns-in-Err-answer_said-clause-unheard
 returns-in-Err-answer_said-clause-unheard g c =
-    unheard_answer c.args.line.now c.in-Ok.said c.args.self.now.world c.trace_said.new.self.world c.answer_said.new.self.world.world c.args.self.now.count c.in-Err-answer_said.fault
+    unheard_answer c.args.line.now c.in-Ok.said c.args.self.now.world c.trace_said.new.self.world c.answer_said.new.self.world.world c.args.self.now.count (g.O.Sink.has_failed c.answer_said.new.out) (g.T.Sink.has_failed c.trace_said.new.trace) c.in-Err-answer_said.fault
     (g.O.Sink.contents c.args.out.now) (g.O.Sink.contents c.answer_said.new.out) (g.T.Sink.contents c.args.trace.now) (g.T.Sink.contents c.trace_said.new.trace) c.trace_said.ensures.same c.in-Ok.ensures.found c.in_ok-trace_said.ensures.traced c.in-Err-answer_said.ensures.fault
 
 pub returns-clause-replays : goal.returns-clause-replays
