@@ -25,7 +25,7 @@ pub(crate) const TEXTS: [Meaning; 46] = [
     },
     Meaning {
         number: 6,
-        text: "6: a text that is too long\n\nMore than 262144 bytes. The line is always 1, and nothing else of the text is checked. Shorten the text, for example its comments. (No example: it would be too long.)\n",
+        text: "6: a text that is too long\n\nMore than 262144 bytes. The line is always 1, and nothing else of the text is checked.\n\n    PROGRAM C\n    (* up *)         (* and 29999 more such lines, up to line 30001 *)\n    END_PROGRAM\n\nrefused 6 at line 1\n\nShorten the text, for example its comments.\n",
     },
     Meaning {
         number: 10,
@@ -105,7 +105,7 @@ pub(crate) const TEXTS: [Meaning; 46] = [
     },
     Meaning {
         number: 46,
-        text: "46: a chain of uses that is too long\n\nA unit with a chain of more than 16 units, itself counted, of which each uses the next and none is named twice. Named is its heading; where the unit uses itself too, 36 is named. Let functions and blocks use one another less deep.\n\n12, of slots, belongs to this phase too; it stands above.\n",
+        text: "46: a chain of uses that is too long\n\nA unit with a chain of more than 16 units, itself counted, of which each uses the next and none is named twice. Named is its heading; where the unit uses itself too, 36 is named.\n\n    FUNCTION F1 : INT\n    VAR_INPUT A : INT; END_VAR\n    LD A\n    F2\n    ST F1\n    END_FUNCTION     (* and 15 more such functions, F2 to F16: F2 uses F3, and so on *)\n    FUNCTION F17 : INT\n    VAR_INPUT A : INT; END_VAR\n    LD A\n    ST F17\n    END_FUNCTION\n    PROGRAM C\n    END_PROGRAM\n\nrefused 46 at line 1\n\nLet functions and blocks use one another less deep. Without the line `F17` in F16 the chain has 16 units, and the text is accepted.\n",
     },
     Meaning {
         number: 40,
@@ -129,43 +129,43 @@ pub(crate) const TEXTS: [Meaning; 46] = [
     },
     Meaning {
         number: 50,
-        text: "50: a unit that costs too much\n\nA control path of the unit costs more than 1000000, as `LANGUAGE.md` counts under *The scan*, with the units that it calls. Named is the heading of the first such unit. Call less in a row: one scan can do a part of the work, and the next one the rest. (No example: it would be long.)\n",
+        text: "50: a unit that costs too much\n\nA control path of the unit costs more than 1000000, as `LANGUAGE.md` counts under *The scan*, with the units that it calls. Named is the heading of the first such unit.\n\n    FUNCTION F : INT\n    VAR_INPUT A : INT; END_VAR\n    LD A             (* and 1997 more such lines, up to line 2000 *)\n    ST F\n    END_FUNCTION\n    PROGRAM C\n    LD 1\n    F                (* and 499 more such lines, up to line 2504 *)\n    END_PROGRAM\n\nrefused 50 at line 2003\n\nF costs 2000, and a call of it 2001; so C costs 1000502. Call less in a row: one scan can do a part of the work, and the next one the rest. With 499 calls C costs 998501, and the text is accepted.\n",
     },
     Meaning {
         number: 60,
-        text: "60: a field out of range\n\nRefresh with another number of cars than CARS, a POS not from 1 to FLOORS, NOW over 2147483647, or RUNLIMIT over CARS.\n\nHand in fields in range.\n",
+        text: "60: a field out of range\n\nRefresh with another number of cars than CARS, a POS not from 1 to FLOORS, NOW over 2147483647, or RUNLIMIT over CARS.\n\n    LIFTTRACE 2\n    R 100 1 0 3 10110\n    S 1\n    C 1\n    E 3\n\nrefused 60 at line 2\n\nHand in fields in range. The group has 2 floors:\n\n    LIFTTRACE 2\n    R 100 1 0 2 11010\n    S 1\n    C 1\n    E 3\n",
     },
     Meaning {
         number: 61,
-        text: "61: no open scan\n\nInstruction or Commit without an open scan, or Instruction behind its end.\n\nStart first; stop at the reply End.\n",
+        text: "61: no open scan\n\nInstruction or Commit without an open scan, or Instruction behind its end.\n\n    LIFTTRACE 2\n    R 100 1 0 1 10110\n    C 1\n    E 2\n\nrefused 61 at line 3\n\nStart first; stop at the reply End. In a trace each C line has an S line of its task before it:\n\n    LIFTTRACE 2\n    R 100 1 0 1 10110\n    S 1\n    C 1\n    E 3\n",
     },
     Meaning {
         number: 62,
-        text: "62: a scan that is open already\n\nStart while a scan of the task is open.\n\nCommit first.\n",
+        text: "62: a scan that is open already\n\nStart while a scan of the task is open.\n\n    LIFTTRACE 2\n    R 100 1 0 1 10110\n    S 1\n    S 1\n    C 1\n    E 4\n\nrefused 62 at line 4\n\nCommit first:\n\n    LIFTTRACE 2\n    R 100 1 0 1 10110\n    S 1\n    C 1\n    S 1\n    C 1\n    E 5\n",
     },
     Meaning {
         number: 63,
-        text: "63: a scan that has not ended\n\nCommit before the scan's end.\n\nRun instructions up to the reply End.\n",
+        text: "63: a scan that has not ended\n\nCommit before the scan's end.\n\n    world.apply(&Event::Start(1), &mut report);\n    world.apply(&Event::Commit(1), &mut report)\n\nReply::Refused(EventFault::NotAtEnd)\n\nRun instructions up to the reply End. `finish` does so:\n\n    world.apply(&Event::Start(1), &mut report);\n    world.finish(1)?;\n    world.apply(&Event::Commit(1), &mut report)\n",
     },
     Meaning {
         number: 64,
-        text: "64: no such task or floor\n\nA task that the group lacks, tested before 61 to 63; Press or Gather with a floor that is not from 1 to FLOORS.\n\nUse 0 for GROUP, k for CARk, and floors of the group.\n",
+        text: "64: no such task or floor\n\nA task that the group lacks, tested before 61 to 63; Press or Gather with a floor that is not from 1 to FLOORS.\n\n    LIFTTRACE 2\n    R 100 1 0 1 10110\n    S 2\n    C 2\n    E 3\n\nrefused 64 at line 3\n\nUse 0 for GROUP, k for CARk, and floors of the group. This one has CAR1 alone:\n\n    LIFTTRACE 2\n    R 100 1 0 1 10110\n    S 1\n    C 1\n    E 3\n",
     },
     Meaning {
         number: 65,
-        text: "65: a call to its own floor\n\nPress with the same floor twice.\n\nPress for another floor.\n",
+        text: "65: a call to its own floor\n\nPress with the same floor twice.\n\n    LIFTTRACE 2\n    P 2 2\n    G 2\n    R 100 1 0 1 10110\n    E 3\n\nrefused 65 at line 2\n\nPress for another floor:\n\n    LIFTTRACE 2\n    P 2 1\n    G 2\n    R 100 1 0 1 10110\n    E 3\n",
     },
     Meaning {
         number: 70,
-        text: "70: the journal is full\n\nA start, a commit or a refresh of a station whose journal has no room for another entry. It changes nothing, and so do all later ones: motors and doors keep their last command. The room is what the station was opened with. `liftplc` itself ends with `no memory` where a run can't have its journal.\n\nClose the station in time: close gives the journal. Open the next one with as many entries as the run makes: two for each scan, and one for each refresh.\n",
+        text: "70: the journal is full\n\nA start, a commit or a refresh of a station whose journal has no room for another entry. It changes nothing, and so do all later ones: motors and doors keep their last command. The room is what the station was opened with. `liftplc` itself ends with `no memory` where a run can't have its journal.\n\n    let (station, passes, refresher) = Station::<G>::new(alloc, blanks, verified, 1)?;\n    ..\n    let (pass, begun) = station.start(rt, pass);\n    ..\n    let (pass, done) = station.commit_ours(rt, pass, station.scan(begun), &mut report);\n\ndone is Err((StationFault::JournalFull, _))\n\nClose the station in time: close gives the journal. Open the next one with as many entries as the run makes: two for each scan, and one for each refresh. For this one scan:\n\n    let (station, passes, refresher) = Station::<G>::new(alloc, blanks, verified, 2)?;\n",
     },
     Meaning {
         number: 71,
-        text: "71: this scan is not open\n\nA commit at a station of a scan that is not the one its book has open for the task: another task's, another configuration's, one that began with other values, or one whose task has no open scan. It changes nothing.\n\nCommit each scan once, at the station where it was started.\n",
+        text: "71: this scan is not open\n\nA commit at a station of a scan that is not the one its book has open for the task: another task's, another configuration's, one that began with other values, or one whose task has no open scan. It changes nothing.\n\n    let (first, begun) = station.start(rt, first);\n    ..\n    let (second, done) = station.commit_ours(rt, second, station.scan(begun), &mut report);\n\ndone is Err((StationFault::NotOpen, _))\n\nCommit each scan once, at the station where it was started. Here `first` is the pass of the task that started it:\n\n    let (first, begun) = station.start(rt, first);\n    ..\n    let (first, done) = station.commit_ours(rt, first, station.scan(begun), &mut report);\n",
     },
     Meaning {
         number: 72,
-        text: "72: a scan of the task is open\n\nA start at a station where the last scan of the task was started and not committed. It changes nothing.\n\nCommit the scan before the next start. A scan that was dropped without a commit leaves its task at 72.\n",
+        text: "72: a scan of the task is open\n\nA start at a station where the last scan of the task was started and not committed. It changes nothing.\n\n    let (pass, begun) = station.start(rt, pass);\n    let (pass, again) = station.start(rt, pass);\n\nagain is Err(StationFault::AlreadyOpen)\n\nCommit the scan before the next start. A scan that was dropped without a commit leaves its task at 72.\n\n    let (pass, begun) = station.start(rt, pass);\n    ..\n    let (pass, done) = station.commit_ours(rt, pass, station.scan(begun), &mut report);\n    let (pass, again) = station.start(rt, pass);\n",
     },
     Meaning {
         number: 80,
@@ -177,7 +177,7 @@ pub(crate) const TEXTS: [Meaning; 46] = [
     },
     Meaning {
         number: 82,
-        text: "82: the trace can't be written\n\nThe sink to which a trace is written took no more; a beginning of the trace is in it. `liftplc` prints `cannot write` for it, and ends with status 3.\n\nGive the trace room: on the disk, or in what reads the pipe.\n",
+        text: "82: the trace can't be written\n\nThe sink to which a trace is written took no more; a beginning of the trace is in it. `liftplc` prints `cannot write` for it, and ends with status 3.\n\n    $ ./liftplc sim examples/idle.il 2 >/dev/full\n\ncannot write\n\nGive the trace room: on the disk, or in what reads the pipe.\n",
     },
     Meaning {
         number: 83,
@@ -185,6 +185,6 @@ pub(crate) const TEXTS: [Meaning; 46] = [
     },
     Meaning {
         number: 84,
-        text: "84: a file of calls that is too long\n\nThe file has more than 100000 lines, or more than 4000000 bytes. Reported is the line at which it is too much: line 100001, or the one in which byte 4000001 stands. Bytes are counted before a line is read.\n\nGive the run fewer calls, or take lines out that say nothing. A run of 50000 rounds with two calls in each is at the limit.\n",
+        text: "84: a file of calls that is too long\n\nThe file has more than 100000 lines, or more than 4000000 bytes. Reported is the line at which it is too much: line 100001, or the one in which byte 4000001 stands. Bytes are counted before a line is read.\n\nA file that has `1 1 2` in each line, and nothing else:\n\n    1 1 2            (and 99999 more such lines, up to line 100000)\n    1 1 2            (line 100001)\n\nrefused 84 at line 100001\n\nGive the run fewer calls, or take lines out that say nothing. A run of 50000 rounds with two calls in each is at the limit.\n",
     },
 ];
