@@ -1,6 +1,6 @@
 -- Texts that are completed behind some instructions of a unit: the units before it, its heading and these instructions stay, and as little as may be follows.
 use Rattle.std.specs.Prelude.{IsTrue}
-use Rattle.std.proofs.Common.{◌≡◌, ◌<◌, ◌≤◌, ℕ, Bool, true, false, ◌&&◌, List, [], ◌∷◌, ◌++◌, length, append-nil, refl, sym, ◌∙◌, ap, subst, inl, inr, arith}
+use Rattle.std.proofs.Common.{◌≡◌, ◌<◌, ◌≤◌, ℕ, Bool, true, false, ◌&&◌, List, [], ◌∷◌, ◌++◌, length, append-nil, refl, sym, ap, subst, inl, inr, arith}
 use Rattle.il_spec.specs.declared.token.Token.{Token}
 use Rattle.il_spec.specs.declared.keyword.Keyword.TheVariants as word
 use Rattle.il_spec.specs.declared.tree.Place.{Place}
@@ -8,26 +8,30 @@ use Rattle.il_spec.specs.declared.tree.Named.{Named}
 use Rattle.il_spec.specs.declared.tree.Step.{Step}
 use Rattle.il_spec.specs.declared.tree.Body.{Body}
 use Rattle.il_spec.specs.declared.tree.UnitKind.{UnitKind}
+use Rattle.il_spec.specs.declared.tree.UnitKind.TheVariants as unit
+use Rattle.il_spec.specs.declared.tree.Elementary.TheVariants as elementary
+use Rattle.il_spec.specs.declared.token.Sign.TheVariants.{Colon}
 use Rattle.il_spec.specs.declared.tree.Unit.{Unit as ProgramUnit}
 use Rattle.il_spec.specs.declared.tree.Config.{Config}
 use Rattle.il_spec.specs.Text.{AreTokens}
-use Rattle.il_spec.specs.Grammar.{Front, Gap, tight, loose, ◌⨾◌, ◌⋯◌, skip_line_ends, Nothing, Repeats, At, TheLineEnd, TheWord, TheName, SpellsResult, SpellsStep, SpellsUnit, HasItsLists, unit_word, end_word, is_nested, may_stand, depth_after, needs_load, greatest_depth}
+use Rattle.il_spec.specs.Grammar.{Front, Gap, tight, loose, ◌⨾◌, skip_line_ends, Nothing, Repeats, At, TheLineEnd, TheWord, TheName, SpellsResult, SpellsStep, SpellsUnit, HasItsLists, unit_word, end_word, is_nested, depth_after, needs_load, greatest_depth}
 use Rattle.il_grammar_laws.specs.Alike.{IsEndOf}
 use Rattle.il_grammar_laws.specs.GoesOn.{Sample, Test, AreOf, IsCut, always, ended, IsSampled, BeginsBy}
-use Rattle.il_grammar_laws.proofs.Alike.{end_same, end_length, end_of_end, loose_gap, gap_length}
+use Rattle.il_grammar_laws.proofs.Alike.{end_same, end_self, end_length, end_of_end, loose_gap, gap_length}
 use Rattle.il_grammar_laws.proofs.Bodies.{skip_one}
 use Rattle.il_grammar_laws.proofs.Open.{Opens, Takes, loose_open, asks, in_turn, both_lines, loosely, fill_placed, word_fills, the_name_fills, line_end_fills, declaration_fills, filled_opens, optional_opens, unit_externals_opens, result_opens}
-use Rattle.il_grammar_laws.proofs.Samples.{word_sample, word_sampled}
-use Rattle.il_grammar_laws.proofs.GoesOn.{is_solid, samples_apart, stays_loose, IsFilling}
-use Rattle.il_read.proofs.Breaks.{s_loose}
+use Rattle.il_grammar_laws.proofs.Samples.{word_sample, name_sample, sign_sample, declaration_samples, body_samples, word_sampled, the_name_sampled}
+use Rattle.il_grammar_laws.proofs.GoesOn.{cut_here, is_solid, samples_apart, stays_loose, IsFilling}
+use Rattle.il_read.proofs.Breaks.{s_loose, s_tight}
 use Rattle.il_read.proofs.Chain.{regroup}
 use Rattle.il_read.proofs.Nesting.{IsOpen, one_open}
 use Rattle.il_parse.specs.Refused.{IsBegun}
 use Rattle.il_parse.specs.GoesOn.{SpellsAll, Within}
 use Rattle.il_parse.specs.Parts.{SpellsGroup}
 use Rattle.il_parse.proofs.Entries.{step_filling, both_left}
-use Rattle.il_parse.proofs.Parts.{config, whole_config}
-use Rattle.il_parse.proofs.Rests.{unit_filling, group_sampled, text_goes_on}
+use Rattle.il_parse.proofs.Parts.{Group, config, whole_config}
+use Rattle.il_parse.proofs.Rests.{unit_filling, group_sampled, program_is, block_is, function_is, text_goes_on}
+use Rattle.il_parse.proofs.Shallow.{program_within, block_within, result_within}
 use Rattle.il_fault_laws.proofs.Runs.{join_run}
 use Rattle.il_fault_laws.proofs.Headings.{Lists, TheLists, Heading, heading_of, join_unit}
 use Rattle.il_fault_laws.proofs.Surplus.{TheEndOf}
@@ -104,6 +108,9 @@ depth_least depth (s ∷ steps) = omega arith
 abbrev pub EndsIn : List ProgramUnit → ProgramUnit → (List Step → Type 0) → Config → Type 0
 EndsIn front u K c = (b : Body) × (c.units ≡ front ++ (record u { body = b }) ∷ []) × K b.steps
 
+ends_in : (front : List ProgramUnit) (u : ProgramUnit) (K : List Step → Type 0) (b : Body) (g : Group) → K b.steps → EndsIn front u K (config (front ++ (record u { body = b }) ∷ []) g)
+ends_in front u K b g keeps = (b, refl, keeps)
+
 -- The rest of a body, of its own samples, behind some instructions: with these it keeps K.
 abbrev pub Rests : UnitKind → List Step → (List Step → Type 0) → List ℕ → List Token → List Token → List Sample → Type 0
 Rests kind steps K text here at zs = (other : List ℕ) (us vs rest : List Token) → IsCut text other at here us vs → AreOf other zs vs rest → skip_line_ends rest ≡ rest
@@ -145,10 +152,94 @@ module _ (text : List ℕ) (whole : List Token) (cut : AreTokens text 0 whole) (
             let g = (s_loose (word_sampled word.Configuration) sampled solid_group).stands other mid.0 rest mid.2 t in
             let all = join_run (SpellsUnit other) front (record u { body = b } ∷ []) (TheWord other word.Configuration) (skip_line_ends us) k1.0 g.1.0 k1.1
             (mid.0, unit, subst (λ (k : List Token). TheWord other word.Configuration k g.1.0) (sym solid) g.1.1) in
-            (config (front ++ record u { body = b } ∷ []) g.0.1, (whole_config other (front ++ record u { body = b } ∷ []) g.0.1 (skip_line_ends us) rest (g.1.0, all, g.1.2), (b, refl, x.4)));
+            (config (front ++ record u { body = b } ∷ []) g.0.1, (whole_config other (front ++ record u { body = b } ∷ []) g.0.1 (skip_line_ends us) rest (g.1.0, all, g.1.2), ends_in front u K b g.0.1 x.4));
       }
 
   -- a text goes on behind these instructions
   pub completed : Repeats (SpellsUnit text) front Nothing (skip_line_ends whole) from → HasItsLists u.kind u → Heading text u.kind (heading_of u) from bt → TheLineEnd bt line → Repeats (SpellsStep text) steps Nothing (skip_line_ends line) here
       → IsEndOf at here → length at < length here → Rests u.kind steps K text here at zs → IsBegun (λ vs c. EndsIn front u K c) text whole at
   completed units has heading line_end read e_here less rests = text_goes_on (λ vs c. EndsIn front u K c) text whole at cut (begins group_sampled refl units has heading line_end read e_here less rests)
+
+-- UNITS, OF THEIR WORDS
+
+-- a result, and what stands behind it
+abbrev result_samples : List Sample
+result_samples =
+    (sign_sample Colon ∷ word_sample (word.Elementary elementary.Bool) ∷ []) ++ ((word_sample word.VarInput ∷ declaration_samples ++ word_sample word.EndVar ∷ []) ++ body_samples word.EndFunction)
+
+-- what stands behind the word of a unit, of its own samples
+pub unit_rest : (k : UnitKind) → (zs : List Sample) × ((other : List ℕ) (place : Place) (n vs rest : List Token) → At place (TheWord other (unit_word k)) n vs → AreOf other zs vs rest → (v : ProgramUnit) × SpellsUnit other v n rest × (greatest_depth 0 v.body.steps ≤ 16))
+unit_rest unit.Program = (
+  name_sample ∷ body_samples word.EndProgram,
+  λ other place n vs rest word_here a.
+      let x = (s_tight the_name_sampled program_within).stands other vs rest a tt in
+      let solid = (stays_loose {samples = name_sample ∷ body_samples word.EndProgram} {test = always} refl).same other vs rest a tt in
+      let y = x.0 in
+      let name_here = subst (λ (j : List Token). TheName other y.0 j x.1.0) (sym solid) x.1.1 in (
+        record { place = place; kind = unit.Program; name = y.0; inputs = []; outputs = []; variables = y.1.0; externals = y.1.1; body = y.1.2 },
+        program_is (place, y.0, y.1) other n rest (vs, word_here, (x.1.0, name_here, x.1.2.0)),
+        (x.1.2.1 []).0,
+      ),
+)
+unit_rest unit.FunctionBlock = (
+  name_sample ∷ body_samples word.EndFunctionBlock,
+  λ other place n vs rest word_here a.
+      let x = (s_tight the_name_sampled block_within).stands other vs rest a tt in
+      let solid = (stays_loose {samples = name_sample ∷ body_samples word.EndFunctionBlock} {test = always} refl).same other vs rest a tt in
+      let y = x.0 in
+      let name_here = subst (λ (j : List Token). TheName other y.0 j x.1.0) (sym solid) x.1.1 in (
+        record { place = place; kind = unit.FunctionBlock; name = y.0; inputs = y.1.0; outputs = y.1.1; variables = y.1.2; externals = []; body = y.1.3 },
+        block_is (place, y.0, y.1) other n rest (vs, word_here, (x.1.0, name_here, x.1.2.0)),
+        (x.1.2.1 []).0,
+      ),
+)
+unit_rest (unit.Function s p) = (
+  name_sample ∷ result_samples,
+  λ other place n vs rest word_here a.
+      let x = (s_tight the_name_sampled result_within).stands other vs rest a tt in
+      let solid = (stays_loose {samples = name_sample ∷ result_samples} {test = always} refl).same other vs rest a tt in
+      let y = x.0 in
+      let name_here = subst (λ (j : List Token). TheName other y.0 j x.1.0) (sym solid) x.1.1 in (
+        record { place = place; kind = unit.Function y.1.0.1 y.1.0.0; name = y.0; inputs = y.1.1.0; outputs = []; variables = y.1.1.1; externals = []; body = y.1.1.2 },
+        function_is (place, y.0, y.1.0, y.1.1) other n rest (vs, word_here, (x.1.0, name_here, x.1.2.0)),
+        (x.1.2.1 []).0,
+      ),
+)
+
+-- units, and a shallow one
+abbrev pub EndsWith : List ProgramUnit → Config → Type 0
+EndsWith front c = (v : ProgramUnit) × (c.units ≡ front ++ v ∷ []) × (greatest_depth 0 v.body.steps ≤ 16)
+
+ends_with : (front : List ProgramUnit) (v : ProgramUnit) (g : Group) → greatest_depth 0 v.body.steps ≤ 16 → EndsWith front (config (front ++ v ∷ []) g)
+ends_with front v g low = (v, refl, low)
+
+module _ (text : List ℕ) (whole : List Token) (cut : AreTokens text 0 whole) (front : List ProgramUnit) (k : UnitKind) (place : Place) (from at : List Token) where
+  begins_word : {gs : List Sample} → IsSampled ended SpellsGroup gs → is_solid gs ≡ true → Repeats (SpellsUnit text) front Nothing (skip_line_ends whole) from → At place (TheWord text (unit_word k)) from at
+      → BeginsBy ended (λ vs. Within (EndsWith front) SpellsAll) text whole at
+  begins_word {gs = gs} sampled solid_group units word_here =
+      let fill = fill_placed place (word_fills (unit_word k)) in
+      let in_from = fill.opens.ends text from at word_here in
+      let less = fill.takes.less text from at word_here in
+      let e_from = fill_end unit_filling text front (skip_line_ends whole) from units in
+      let l = end_length from (skip_line_ends whole) e_from in
+      let zs = (unit_rest k).0 in
+      record {
+        inside = end_of_end at (skip_line_ends whole) whole (loose_gap.ends whole) (end_of_end at from (skip_line_ends whole) e_from in_from);
+        samples = zs ++ word_sample word.Configuration ∷ gs;
+        goes = λ other us vs rest c a t.
+            let c1 = loose_open.cut text other at whole us vs c (omega (arith, less, l)) in
+            let k1 = cut_run unit_filling text other front (skip_line_ends whole) (skip_line_ends us) from at vs c1 units in_from less in
+            let k2 = fill.opens.keeps text other at from k1.0 vs at word_here (end_self at) k1.2 (inr tt) in
+            let edge = cut_here text other at at k2.0 vs k2.2 refl in
+            let mid = samples_apart other zs (word_sample word.Configuration ∷ gs) vs rest a in
+            let solid = (stays_loose {samples = word_sample word.Configuration ∷ gs} {test = ended} refl).same other mid.0 rest mid.2 t in
+            let x = (unit_rest k).1 other place k1.0 vs mid.0 (subst (λ (j : List Token). At place (TheWord other (unit_word k)) k1.0 j) edge k2.1) mid.1 in
+            let g = (s_loose (word_sampled word.Configuration) sampled solid_group).stands other mid.0 rest mid.2 t in
+            let all = join_run (SpellsUnit other) front (x.0 ∷ []) (TheWord other word.Configuration) (skip_line_ends us) k1.0 g.1.0 k1.1
+            (mid.0, x.1, subst (λ (j : List Token). TheWord other word.Configuration j g.1.0) (sym solid) g.1.1) in
+            (config (front ++ x.0 ∷ []) g.0.1, (whole_config other (front ++ x.0 ∷ []) g.0.1 (skip_line_ends us) rest (g.1.0, all, g.1.2), ends_with front x.0 g.0.1 x.2));
+      }
+
+  -- a text goes on behind the word of a unit
+  pub word_completed : Repeats (SpellsUnit text) front Nothing (skip_line_ends whole) from → At place (TheWord text (unit_word k)) from at → IsBegun (λ vs c. EndsWith front c) text whole at
+  word_completed units word_here = text_goes_on (λ vs c. EndsWith front c) text whole at cut (begins_word group_sampled refl units word_here)

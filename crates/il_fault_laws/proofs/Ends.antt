@@ -1,6 +1,6 @@
 -- How a body is completed: behind a label, behind an instruction, and behind an operator.
 use Rattle.std.specs.Prelude.{IsTrue, ◌==◌, ◌||◌, not, max}
-use Rattle.std.proofs.Common.{◌≡◌, ◌<◌, ◌≤◌, ℕ, zero, suc, Bool, true, false, ◌&&◌, List, [], ◌∷◌, ◌++◌, length, append-nil, refl, sym, ◌∙◌, ap, subst, inl, inr, arith, Option, Some, None}
+use Rattle.std.proofs.Common.{◌≡◌, ◌≤◌, ℕ, zero, suc, Bool, true, false, ◌&&◌, List, [], ◌∷◌, ◌++◌, length, append-nil, refl, sym, ◌∙◌, ap, subst, inr, arith, Option}
 use Rattle.il_spec.specs.declared.token.Token.{Token}
 use Rattle.il_spec.specs.declared.token.Sign.TheVariants.{OpenParenthesis}
 use Rattle.il_spec.specs.declared.keyword.Keyword.{Keyword}
@@ -15,9 +15,9 @@ use Rattle.il_spec.specs.declared.tree.UnitKind.{UnitKind}
 use Rattle.il_spec.specs.declared.tree.Unit.{Unit as ProgramUnit}
 use Rattle.il_spec.specs.declared.tree.Config.{Config}
 use Rattle.il_spec.specs.Text.{AreTokens}
-use Rattle.il_spec.specs.Grammar.{Front, tight, ◌⨾◌, skip_line_ends, Nothing, At, Repeats, TheSign, TheLineEnd, SpellsOperand, SpellsOperator, SpellsFirst, SpellsInstruction, SpellsLabel, SpellsLabelled, SpellsStep, SpellsLabelLine, SpellsUnit, end_word, is_nested, may_stand, depth_after, needs_load, greatest_depth}
+use Rattle.il_spec.specs.Grammar.{Front, tight, ◌⨾◌, skip_line_ends, Nothing, At, Repeats, TheSign, TheLineEnd, SpellsOperand, SpellsOperator, SpellsFirst, SpellsInstruction, SpellsLabel, SpellsLabelled, SpellsStep, SpellsLabelLine, end_word, is_nested, may_stand, depth_after, needs_load, greatest_depth}
 use Rattle.il_grammar_laws.specs.Alike.{IsEndOf}
-use Rattle.il_grammar_laws.specs.GoesOn.{Sample, always}
+use Rattle.il_grammar_laws.specs.GoesOn.{always}
 use Rattle.il_grammar_laws.proofs.Alike.{end_self, end_length, end_of_end, loose_gap}
 use Rattle.il_grammar_laws.proofs.Leads.{at_holds}
 use Rattle.il_grammar_laws.proofs.Instructions.{instruction_no_label}
@@ -26,12 +26,12 @@ use Rattle.il_grammar_laws.proofs.Samples.{word_sample, true_sample, line_end_sa
 use Rattle.il_grammar_laws.proofs.GoesOn.{cut_here, is_solid, samples_apart, stays_loose, passes_calm, IsFilling}
 use Rattle.il_read.proofs.Chain.{regroup}
 use Rattle.il_read.proofs.Nesting.{IsOpen, none_open, one_open, closed}
-use Rattle.il_parse.specs.Refused.{IsBegun, IsItsPlace}
+use Rattle.il_parse.specs.Refused.{IsBegun}
 use Rattle.il_parse.proofs.Entries.{step_filling, not_zero, both_left}
 use Rattle.il_parse.proofs.Rests.{unit_filling}
 use Rattle.il_fault_laws.proofs.Runs.{join_run}
 use Rattle.il_fault_laws.proofs.Headings.{heading_of, split_unit}
-use Rattle.il_fault_laws.proofs.Surplus.{HasIt, IsLabel, IsStep, TheEndOf}
+use Rattle.il_fault_laws.proofs.Surplus.{IsLabel, TheEndOf}
 use Rattle.il_fault_laws.proofs.Completed.{heading_opens, fill_end, cut_run, open_steps, depth_least, EndsIn, Rests, completed}
 use Rattle.il_fault_laws.proofs.Found.{HasStep}
 
@@ -66,7 +66,7 @@ label_rests K text kind steps here t tl r ls n run label nested keeps = λ other
       [],
       (ls ++ n ∷ [], last.0),
       join_run (SpellsLabelLine other) ls (n ∷ []) (TheEndOf other (end_word kind) ([], last.0)) us k.0 rest k.1
-      (mid.0, (vs, subst (λ (x : List Token). SpellsLabel other n k.0 x) edge l.1, line.1), subst (λ (x : List Token). TheEndOf other (end_word kind) ([], last.0) x rest) (sym still) last.1),
+          (mid.0, (vs, subst (λ (x : List Token). SpellsLabel other n k.0 x) edge l.1, line.1), subst (λ (x : List Token). TheEndOf other (end_word kind) ([], last.0) x rest) (sym still) last.1),
       nested,
       keeps,
     )

@@ -1,28 +1,23 @@
 -- The first surplus of a text, in each that is alike up to its token.
-use Rattle.std.specs.Prelude.{◌⊎◌}
 use Rattle.std.specs.List.{All, slice_get}
-use Rattle.std.proofs.Common.{◌≡◌, ◌<◌, ◌≤◌, ℕ, List, [], ◌∷◌, ◌++◌, length, length-append, refl, sym, ◌∙◌, ap, subst, inl, inr, arith, Some}
-use Rattle.std.proofs.lemmas.List.Elements.{All-head, All-tail}
+use Rattle.std.proofs.Common.{◌≡◌, ◌<◌, ◌≤◌, ℕ, List, [], ◌∷◌, ◌++◌, length, ap, subst, arith, Some}
 use Rattle.il_spec.specs.declared.token.Token.{Token}
 use Rattle.il_spec.specs.declared.keyword.Keyword.TheVariants as word
-use Rattle.il_spec.specs.declared.tree.Place.{Place}
 use Rattle.il_spec.specs.declared.tree.Step.{Step}
 use Rattle.il_spec.specs.declared.tree.Unit.{Unit as ProgramUnit}
 use Rattle.il_spec.specs.declared.tree.Config.{Config}
 use Rattle.il_spec.specs.Text.{AreTokens}
-use Rattle.il_spec.specs.Grammar.{Front, loose, skip_line_ends, ◌⨾◌, ◌⋯◌, Nothing, At, Repeats, TheEnd, AfterLines, TheWord, SomeName, SpellsSizes, SpellsGlobals, SpellsResource, SpellsUnit, SpellsConfig, unit_word}
+use Rattle.il_spec.specs.Grammar.{Front, skip_line_ends, ◌⨾◌, ◌⋯◌, Nothing, Repeats, TheEnd, AfterLines, TheWord, SomeName, SpellsSizes, SpellsGlobals, SpellsResource, SpellsUnit, SpellsConfig, unit_word}
 use Rattle.il_grammar_laws.specs.Alike.{IsEndOf, AreAlike}
 use Rattle.il_grammar_laws.proofs.Alike.{end_self, end_length, end_of_end, loose_gap, gap_length}
 use Rattle.il_grammar_laws.proofs.Local.{unit_local}
-use Rattle.il_parse.specs.Refused.{IsItsPlace, StandsAmong, GoesBeyond, HasSurplus}
-use Rattle.il_read.specs.declared.stop.SyntaxError.TheVariants.{Unexpected, TooMany}
-use Rattle.il_parse.proofs.Behind.{at_among}
+use Rattle.il_parse.specs.Refused.{IsItsPlace}
 use Rattle.il_parse.proofs.LateUnits.{unit_spreads}
-use Rattle.il_fault_laws.proofs.Runs.{get_split, split_run, run_end}
+use Rattle.il_fault_laws.proofs.Runs.{split_run, run_end}
 use Rattle.il_fault_laws.proofs.Surplus.{HasIt, HasUnits, among_token, at_token, unit_same, units_same}
 
 -- what stands behind the units of a text
-abbrev TheRest : List ℕ → Config → Front
+abbrev pub TheRest : List ℕ → Config → Front
 TheRest text c =
     SomeName text ⋯ SpellsSizes text c ⨾ SpellsGlobals text c.globals_place c.globals ⋯ SpellsResource text c ⋯ TheWord text word.EndConfiguration ⋯ TheEnd
 
@@ -60,7 +55,7 @@ pub record IsFront (front : List ProgramUnit) (steps : List Step) : Type 0 where
 
 module _ (text : List ℕ) (whole : List Token) (cut : AreTokens text 0 whole) (t : Token) (back : List Token) (there : IsEndOf (t ∷ back) whole) (c : Config) (w : AfterLines (SpellsConfig text c) whole []) where
   -- the units before a token, and the one with it
-  in_unit : (front : List ProgramUnit) (u : ProgramUnit) (behind : List ProgramUnit) → c.units ≡ front ++ u ∷ behind → (mid : List Token) × (m : List Token) × Repeats (SpellsUnit text) front Nothing (skip_line_ends whole) mid × SpellsUnit text u mid m × IsEndOf mid (skip_line_ends whole)
+  pub in_unit : (front : List ProgramUnit) (u : ProgramUnit) (behind : List ProgramUnit) → c.units ≡ front ++ u ∷ behind → (mid : List Token) × (m : List Token) × Repeats (SpellsUnit text) front Nothing (skip_line_ends whole) mid × SpellsUnit text u mid m × IsEndOf mid (skip_line_ends whole)
   in_unit front u behind is =
       let all = subst (λ (us : List ProgramUnit). Repeats (SpellsUnit text) us (TheWord text word.Configuration ⋯ TheRest text c) (skip_line_ends whole) []) is w in
       let k = split_run (SpellsUnit text) front (u ∷ behind) (TheWord text word.Configuration ⋯ TheRest text c) (skip_line_ends whole) [] all in

@@ -1,5 +1,5 @@
 -- Units, as a heading with its lists and a body.
-use Rattle.std.proofs.Common.{◌≡◌, ◌<◌, ℕ, List, length, refl, arith}
+use Rattle.std.proofs.Common.{◌≡◌, ℕ, List, refl}
 use Rattle.il_spec.specs.declared.token.Token.{Token}
 use Rattle.il_spec.specs.declared.keyword.Keyword.TheVariants as word
 use Rattle.il_spec.specs.declared.tree.Place.{Place}
@@ -13,7 +13,6 @@ use Rattle.il_spec.specs.declared.tree.Unit.{Unit as ProgramUnit}
 use Rattle.il_spec.specs.Grammar.{Front, tight, loose, ◌⨾◌, ◌⋯◌, At, TheWord, TheName, SpellsDeclaration, SpellsFilledList, SpellsOptionalList, SpellsExternals, SpellsResult, SpellsBody, SpellsUnit, unit_word, end_word, HasItsLists}
 use Rattle.il_grammar_laws.specs.One.{IsDeterministic}
 use Rattle.il_grammar_laws.specs.Alike.{Carries}
-use Rattle.il_grammar_laws.specs.GoesOn.{Test}
 use Rattle.il_grammar_laws.proofs.Combinators.{chain, behind, place_of}
 use Rattle.il_grammar_laws.proofs.Leads.{reserved, lead, word_lead, at_holds, word_sure, the_name_one}
 use Rattle.il_grammar_laws.proofs.Types.{declarations_one, filled_list_one, optional_list_one}

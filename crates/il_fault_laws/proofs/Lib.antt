@@ -8,3 +8,6 @@ pub mod Through
 pub mod Found
 pub mod Ends
 pub mod Many
+pub mod Behind
+pub mod Before
+pub mod Once

@@ -1,48 +1,44 @@
 -- Of two faults none stands behind the other, where the first is of too many.
 use Rattle.std.specs.Prelude.{◌⊎◌}
 use Rattle.std.specs.List.{All, slice_get}
-use Rattle.std.proofs.Common.{◌≡◌, ◌<◌, ◌≤◌, ℕ, List, [], ◌∷◌, ◌++◌, length, length-append, drop, refl, sym, ◌∙◌, ap, subst, inl, inr, arith, Some}
+use Rattle.std.proofs.Common.{◌≡◌, ◌<◌, ◌≤◌, ℕ, List, [], ◌∷◌, ◌++◌, length, length-append, sym, ◌∙◌, ap, subst, inl, inr, arith, Some}
 use Rattle.std.proofs.lemmas.List.Elements.{All-nil, All-cons, All-append, All-head, All-tail}
 use Rattle.il_spec.specs.declared.token.Token.{Token}
 use Rattle.il_spec.specs.declared.token.Kind.TheVariants as kind
 use Rattle.il_spec.specs.declared.token.Sign.TheVariants.{Colon}
-use Rattle.il_spec.specs.declared.keyword.Keyword.TheVariants as word
 use Rattle.il_spec.specs.declared.tree.Place.{Place}
 use Rattle.il_spec.specs.declared.tree.Named.{Named}
 use Rattle.il_spec.specs.declared.tree.Instruction.{Instruction}
 use Rattle.il_spec.specs.declared.tree.Instruction.TheVariants as instruction
 use Rattle.il_spec.specs.declared.tree.Step.{Step}
-use Rattle.il_spec.specs.declared.tree.Body.{Body}
 use Rattle.il_spec.specs.declared.tree.Unit.{Unit as ProgramUnit}
 use Rattle.il_spec.specs.declared.tree.Config.{Config}
 use Rattle.il_spec.specs.Text.{AreTokens}
 use Rattle.il_spec.specs.Words.{keyword_of}
-use Rattle.il_spec.specs.Grammar.{AfterLines, At, TheSign, TheWord, SpellsInstruction, SpellsLabel, SpellsConfig, depth_after, greatest_depth, unit_word}
+use Rattle.il_spec.specs.Grammar.{AfterLines, TheSign, SpellsInstruction, SpellsLabel, SpellsConfig, depth_after, greatest_depth}
 use Rattle.il_rules.specs.Written.{IsNested}
 use Rattle.il_grammar_laws.specs.Alike.{HasSameBytes, IsEndOf, AreAlike}
 use Rattle.il_grammar_laws.specs.GoesOn.{IsCut}
-use Rattle.il_grammar_laws.proofs.Alike.{end_same, end_self, end_length, end_of_end}
-use Rattle.il_grammar_laws.proofs.Leads.{name, lead, lead_of as grammar_lead_of}
-use Rattle.il_grammar_laws.proofs.Instructions.{Sort, none, invokes, sort_at, sort_of, instruction_sort}
-use Rattle.il_grammar_laws.proofs.Bodies.{label_lead as label_begins}
+use Rattle.il_grammar_laws.proofs.Alike.{end_self, end_of_end}
+use Rattle.il_grammar_laws.proofs.Instructions.{invokes, sort_of}
 use Rattle.il_grammar_laws.proofs.Local.{same_name}
 use Rattle.il_grammar_laws.proofs.Open.{operands_fill}
 use Rattle.il_read.specs.Lead.{lead_at, lead_of}
 use Rattle.il_read.specs.declared.lead.Lead.TheVariants as lead_kind
 use Rattle.il_read.specs.declared.stop.SyntaxError.{SyntaxError}
-use Rattle.il_read.specs.declared.stop.SyntaxError.TheVariants.{Unexpected, TooDeep, TooMany}
+use Rattle.il_read.specs.declared.stop.SyntaxError.TheVariants.{TooMany}
 use Rattle.il_read.specs.Reads.{past_name, turn}
 use Rattle.il_read.proofs.Settings.{label_lead}
 use Rattle.il_parse.specs.Refused.{IsItsPlace, StandsAmong, IsLateSurplus, GoesBeyond, IsBegun, Keeps}
 use Rattle.il_parse.proofs.Begun.{behind_all}
-use Rattle.il_fault_laws.proofs.Parts.{Parts, starts_rise, one_start}
+use Rattle.il_fault_laws.proofs.Parts.{Parts, starts_rise}
 use Rattle.il_fault_laws.proofs.Order.{cut_alike, alike_between}
 use Rattle.il_fault_laws.proofs.Runs.{get_split}
-use Rattle.il_fault_laws.proofs.Surplus.{IsStep, IsLabel, at_token}
+use Rattle.il_fault_laws.proofs.Surplus.{IsStep, IsLabel}
 use Rattle.il_fault_laws.proofs.Completed.{EndsIn, depth_least}
-use Rattle.il_fault_laws.proofs.Through.{cut_rest, cut_earlier, through, before_cut, next_cut}
-use Rattle.il_fault_laws.proofs.Found.{HasUnit, HasStep, IsFront, found_unit, found_step, in_unit}
-use Rattle.il_fault_laws.proofs.Ends.{IsShallow, inner, behind_label, behind_step, own_rest, label_inside, here_inside}
+use Rattle.il_fault_laws.proofs.Through.{cut_rest, cut_earlier, before_cut}
+use Rattle.il_fault_laws.proofs.Found.{HasUnit, HasStep, IsFront, found_unit, found_step}
+use Rattle.il_fault_laws.proofs.Ends.{IsShallow}
 
 -- WHAT IS TOO MANY
 
@@ -98,7 +94,7 @@ stands_late text ts t tail vs p cut there e w same =
     omega (arith, less, a, b)
 
 -- the instruction of this number
-numbered : (all steps ms : List Step) (s : Step) → length steps ≡ 4096 → all ≡ steps ++ s ∷ ms → slice_get all 4096 ≡ Some s
+pub numbered : (all steps ms : List Step) (s : Step) → length steps ≡ 4096 → all ≡ steps ++ s ∷ ms → slice_get all 4096 ≡ Some s
 numbered all steps ms s full is = ap (λ (xs : List Step). slice_get xs 4096) is ∙ behind_all steps s ms 4096 full
 
 -- LIMITS OF COMPLETED TEXTS
@@ -144,19 +140,19 @@ same_bytes text other t back (u ∷ ts) us a = go a.3 (λ b. same_bytes text oth
     go (inr b) f = f b
 
 -- a label begins with a name, in each text that has its bytes
-name_there : (text other : List ℕ) (t : Token) (back tail r : List Token) (n : Named) → HasSameBytes text other t → SpellsLabel other n (t ∷ tail) r → lead_at text (t ∷ back) ≡ lead_kind.Name
+pub name_there : (text other : List ℕ) (t : Token) (back tail r : List Token) (n : Named) → HasSameBytes text other t → SpellsLabel other n (t ∷ tail) r → lead_at text (t ∷ back) ≡ lead_kind.Name
 unfolding lead_at
 name_there text other t back tail r n same w = ap (λ x. lead_of t.kind (keyword_of x)) (same_name text other t same) ∙ label_lead other n (t ∷ tail) r w
 
-turn_is : (text : List ℕ) (t : Token) (back : List Token) → lead_at text (t ∷ back) ≡ lead_kind.Name → turn TooMany text (t ∷ back) ≡ back
+pub turn_is : (text : List ℕ) (t : Token) (back : List Token) → lead_at text (t ∷ back) ≡ lead_kind.Name → turn TooMany text (t ∷ back) ≡ back
 turn_is text t back is = ap (λ l. past_name l (t ∷ back)) is
 
 -- the colon behind the name of a label, and what follows
-label_rest : (text : List ℕ) (n : Named) (t x : Token) (tail r : List Token) → SpellsLabel text n (t ∷ x ∷ tail) r → (x.kind ≡ kind.Sign Colon) × (tail ≡ r)
+pub label_rest : (text : List ℕ) (n : Named) (t x : Token) (tail r : List Token) → SpellsLabel text n (t ∷ x ∷ tail) r → (x.kind ≡ kind.Sign Colon) × (tail ≡ r)
 label_rest text n t x tail r w = subst (λ (k : List Token). TheSign Colon k r) (sym w.1.2.1) w.2
 
 -- an instruction that begins with a name
-invoke_end : (text : List ℕ) (i : Instruction) (t x : Token) (tail m : List Token) → SpellsInstruction text i (t ∷ x ∷ tail) m → sort_of i ≡ invokes → IsEndOf m tail × ((depth : ℕ) → depth_after depth i ≤ depth)
+pub invoke_end : (text : List ℕ) (i : Instruction) (t x : Token) (tail m : List Token) → SpellsInstruction text i (t ∷ x ∷ tail) m → sort_of i ≡ invokes → IsEndOf m tail × ((depth : ℕ) → depth_after depth i ≤ depth)
 invoke_end text (instruction.Invoke f ops) t x tail m w is =
     let start = w.1.2.1 in
     let less = (operands_fill ops).takes.less text w.0 m w.2 in

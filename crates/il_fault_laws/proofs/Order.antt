@@ -1,10 +1,9 @@
 -- Of two faults none stands behind the other, where the first is an unexpected token or a parenthesis too deep.
 use Rattle.std.specs.Prelude.{◌⊎◌}
-use Rattle.std.proofs.Common.{◌≡◌, ◌<◌, ◌≤◌, ℕ, List, [], ◌∷◌, length, refl, sym, ◌∙◌, ap, subst, inl, inr, arith}
+use Rattle.std.proofs.Common.{◌≡◌, ℕ, List, [], ◌∷◌, length, sym, ◌∙◌, ap, subst, inl, inr, arith}
 use Rattle.il_spec.specs.declared.token.Token.{Token}
 use Rattle.il_spec.specs.declared.tree.Place.{Place}
-use Rattle.il_spec.specs.declared.tree.Config.{Config}
-use Rattle.il_grammar_laws.specs.Alike.{IsEndOf, AreAlike, HasSameBytes}
+use Rattle.il_grammar_laws.specs.Alike.{IsEndOf, AreAlike}
 use Rattle.il_grammar_laws.specs.GoesOn.{IsCut}
 use Rattle.il_grammar_laws.proofs.Alike.{end_self, end_length, alike_end}
 use Rattle.il_grammar_laws.proofs.GoesOn.{cut_here}

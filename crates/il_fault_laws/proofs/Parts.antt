@@ -1,18 +1,15 @@
 -- What a fault of the grammar says, of one error and of the tokens from its token on.
 use Rattle.std.specs.Prelude.{◌⊎◌}
-use Rattle.std.specs.List.{All}
 use Rattle.std.proofs.Common.{◌≡◌, ◌<◌, ◌≤◌, ℕ, List, [], ◌∷◌, length, drop, refl, sym, ◌∙◌, ap, subst, inl, inr, arith}
-use Rattle.std.proofs.lemmas.List.Elements.{All-head, All-tail}
 use Rattle.il_spec.specs.declared.fault.Refusal.{Refusal}
 use Rattle.il_spec.specs.declared.fault.Refusal.TheVariants.{Fault}
 use Rattle.il_spec.specs.declared.token.Token.{Token}
 use Rattle.il_spec.specs.declared.tree.Place.{Place}
 use Rattle.il_spec.specs.declared.tree.Config.{Config}
-use Rattle.il_spec.specs.Text.{IsBlank, AreBlanks, AreTokens}
+use Rattle.il_spec.specs.Text.{AreBlanks, AreTokens}
 use Rattle.il_spec.specs.Grammar.{AfterLines, SpellsConfig}
 use Rattle.il_text.proofs.Blanks.{blank_within}
 use Rattle.il_text.proofs.Lexemes.{lexeme_within}
-use Rattle.il_text.proofs.Steps.{tokens_within}
 use Rattle.il_grammar_laws.specs.Alike.{IsEndOf, AreAlike}
 use Rattle.il_grammar_laws.specs.GoesOn.{IsCut}
 use Rattle.il_grammar_laws.proofs.Alike.{end_of_end, alike_self}
@@ -26,7 +23,6 @@ use Rattle.il_read.proofs.Instructions.{next_gap}
 use Rattle.il_parse.specs.Refused.{IsSmall, Keeps, IsPlaceAt, IsBegun, KeepsBefore, GoesOnWith, GoesOnNowhere, GoesOnBefore}
 use Rattle.il_parse.specs.Late.{WhereUnexpected, AreLateUnits, NoneTooMany}
 use Rattle.il_parse.proofs.Cuts.{one_within}
-use Rattle.il_parse.proofs.UnitsByError.{keeps_each}
 use Rattle.il_fault_laws.specs.Faults.{IsFaultOfGrammar}
 
 -- THE PLACES OF TOKENS

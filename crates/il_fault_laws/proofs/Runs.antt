@@ -3,7 +3,6 @@ use Rattle.std.proofs.Common.{◌≡◌, ◌≤◌, ℕ, zero, suc, List, [], �
 use Rattle.std.specs.List.{slice_get}
 use Rattle.il_spec.specs.declared.token.Token.{Token}
 use Rattle.il_spec.specs.Grammar.{Front, loose, skip_line_ends, Nothing, Repeats}
-use Rattle.il_grammar_laws.specs.One.{IsDeterministic}
 use Rattle.il_grammar_laws.specs.Alike.{IsEndOf, AreAlike, IsLocal}
 use Rattle.il_grammar_laws.proofs.Alike.{end_same, end_length, end_of_end, loose_gap}
 

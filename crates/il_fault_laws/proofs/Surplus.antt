@@ -1,7 +1,7 @@
 -- A surplus is local: the token with which an instruction or a unit begins, behind as many others, begins one in each text that is alike up to it, or is a
 -- label there.
 use Rattle.std.specs.Prelude.{◌⊎◌}
-use Rattle.std.proofs.Common.{◌≡◌, ◌<◌, ◌≤◌, ℕ, List, [], ◌∷◌, ◌++◌, length, refl, sym, ◌∙◌, ap, subst, inl, inr, arith}
+use Rattle.std.proofs.Common.{◌≡◌, ◌≤◌, ℕ, List, [], ◌∷◌, ◌++◌, length, refl, sym, ◌∙◌, ap, subst, inl, inr, arith}
 use Rattle.il_spec.specs.declared.token.Token.{Token}
 use Rattle.il_spec.specs.declared.keyword.Keyword.{Keyword}
 use Rattle.il_spec.specs.declared.keyword.Keyword.TheVariants as word
@@ -12,12 +12,10 @@ use Rattle.il_spec.specs.declared.tree.Step.{Step}
 use Rattle.il_spec.specs.declared.tree.UnitKind.{UnitKind}
 use Rattle.il_spec.specs.declared.tree.UnitKind.TheVariants as unit
 use Rattle.il_spec.specs.declared.tree.Unit.{Unit as ProgramUnit}
-use Rattle.il_spec.specs.declared.tree.Config.{Config}
 use Rattle.il_spec.specs.Text.{AreTokens}
-use Rattle.il_spec.specs.Grammar.{Front, loose, skip_line_ends, ◌⋯◌, Nothing, At, Repeats, TheLineEnd, TheWord, SpellsInstruction, SpellsLabel, SpellsLabelled, SpellsStep, SpellsLabelLine, SpellsUnit, SpellsConfig, end_word, unit_word}
-use Rattle.il_grammar_laws.specs.One.{IsDeterministic}
+use Rattle.il_spec.specs.Grammar.{Front, skip_line_ends, ◌⋯◌, Nothing, At, Repeats, TheLineEnd, TheWord, SpellsInstruction, SpellsLabel, SpellsLabelled, SpellsStep, SpellsLabelLine, SpellsUnit, end_word, unit_word}
 use Rattle.il_grammar_laws.specs.Alike.{IsEndOf, AreAlike}
-use Rattle.il_grammar_laws.proofs.Alike.{end_same, end_self, end_length, end_of_end, loose_gap, gap_length}
+use Rattle.il_grammar_laws.proofs.Alike.{end_length, end_of_end, loose_gap, gap_length}
 use Rattle.il_grammar_laws.proofs.Leads.{reserved, word_lead, at_holds}
 use Rattle.il_grammar_laws.proofs.Instructions.{none, sort_at, instruction_no_label, instruction_no_word}
 use Rattle.il_grammar_laws.proofs.Bodies.{skip_one, label_one, label_lead, step_no_end}
@@ -28,7 +26,7 @@ use Rattle.il_read.specs.declared.lead.Lead.{Lead}
 use Rattle.il_read.specs.declared.lead.Lead.TheVariants as lead
 use Rattle.il_parse.specs.Refused.{IsItsPlace, StandsAmong}
 use Rattle.il_parse.proofs.OneUnit.{begins}
-use Rattle.il_parse.proofs.Behind.{at_among, labelled_among}
+use Rattle.il_parse.proofs.Behind.{labelled_among}
 use Rattle.il_fault_laws.proofs.Parts.{one_start}
 use Rattle.il_fault_laws.proofs.Runs.{split_run, run_end, carry_run, same_run}
 use Rattle.il_fault_laws.proofs.Headings.{Heading, heading_of, end_none, split_unit, heading_sure, heading_carries}
@@ -187,14 +185,14 @@ module _ (text other : List ℕ) (whole : List Token) (cut : AreTokens text 0 wh
       let l4 = ap length l3 in
       let h = (heading_carries u.kind (heading_of u)).over text other (t ∷ back) ts us bt a x.1 (omega (arith, l0, l1, l4)) in
       let sure = heading_sure other u.kind v.kind (heading_of u) (heading_of v) us h.0 y.0 h.1 y.1 in
-      let alike_bt = subst (λ (j : List Token). AreAlike text other (t ∷ back) bt j) sure.1 h.2 in
+      let alike_bt = subst (λ (j : List Token). AreAlike text other (t ∷ back) bt j) {x = h.0} sure.1 h.2 in
       let n = line_end_local.carries.over text other (t ∷ back) bt y.0 line alike_bt body.1.1 (omega (arith, l0, l1, l2)) in
       let same_line : n.0 ≡ y.2.1.0 = (line_end_local.one other).only y.0 n.0 y.2.1.0 n.1 y.2.1.1 in
       let alike_line = loose_gap.alike text other (t ∷ back) line n.0 n.2 (omega (arith, l0, l1)) in
-      let alike_here = subst (λ (j : List Token). AreAlike text other (t ∷ back) (skip_line_ends line) (skip_line_ends j)) same_line alike_line in
+      let alike_here = subst (λ (j : List Token). AreAlike text other (t ∷ back) (skip_line_ends line) (skip_line_ends j)) {x = n.0} same_line alike_line in
       let c = carry_run (loosely_local step_local) text other (t ∷ back) front (skip_line_ends line) (skip_line_ends y.2.1.0) k.0 alike_here k.1 l0 in
       let z = same_run (loosely_local step_local) other (TheEndOf other (end_word v.kind) (v.body.last_labels, v.body.end)) (λ b us r p f g. (step_no_end other (end_word v.kind) (end_none v.kind)).never b (v.body.last_labels, v.body.end) us r p f g)
-          front v.body.steps (skip_line_ends y.2.1.0) c.0 q c.1 y.2.1.2 in
+      front v.body.steps (skip_line_ends y.2.1.0) c.0 q c.1 y.2.1.2 in
       record {
         bt = y.0;
         heading = y.1;
@@ -219,25 +217,26 @@ pub record HasUnits (text other : List ℕ) (t : Token) (back : List Token) (fro
   pub behind : List Token
   pub spelled : SpellsUnit other unit from behind
 
+-- a unit begins with its word, and not with that of the configuration
+pub no_configuration : (k : UnitKind) (l : Lead) → l ≡ lead.Reserved (unit_word k) → l ≡ lead.Reserved word.Configuration → ⊥
+no_configuration (unit.Function result place) l p q = cc (p, q)
+no_configuration unit.FunctionBlock l p q = cc (p, q)
+no_configuration unit.Program l p q = cc (p, q)
+
+pub begins_unit : (text : List ℕ) (x : ProgramUnit) (ts r : List Token) → SpellsUnit text x ts r → lead_at text ts ≡ lead.Reserved (unit_word x.kind)
+begins_unit text x ts r w = let b = begins text x ts r w in word_begins text (unit_word x.kind) ts b.0 b.1
+
+pub unit_apart : (other : List ℕ) (E : Front) (x : ProgramUnit) (us r s : List Token) → SpellsUnit other x us r → (TheWord other word.Configuration ⋯ E) us s → ⊥
+unit_apart other E x us r s p q = no_configuration x.kind (lead_at other us) (begins_unit other x us r p) (word_begins other word.Configuration us q.0 q.1)
+
 module _ (text other : List ℕ) (t : Token) (back : List Token) where
   pub units_same : (front : List ProgramUnit) (u : ProgramUnit) (ys : List ProgramUnit) (E : Front) (ts us mid m s : List Token) → AreAlike text other (t ∷ back) ts us → Repeats (SpellsUnit text) front Nothing ts mid → SpellsUnit text u mid m
       → length (t ∷ back) ≤ length mid → Repeats (SpellsUnit other) ys (TheWord other word.Configuration ⋯ E) us s → HasUnits text other t back front mid us ys
   units_same front u ys E ts us mid m s a w here l v =
       let c = carry_run unit_local text other (t ∷ back) front ts us mid a w l in
-      let z = same_run unit_local other (TheWord other word.Configuration ⋯ E) apart front ys us c.0 s c.1 v in
+      let z = same_run unit_local other (TheWord other word.Configuration ⋯ E) (unit_apart other E) front ys us c.0 s c.1 v in
       go c.0 c.1 c.2 z.0 z.1 z.2
     where
-      no_configuration : (k : UnitKind) (l : Lead) → l ≡ lead.Reserved (unit_word k) → l ≡ lead.Reserved word.Configuration → ⊥
-      no_configuration (unit.Function result place) l p q = cc (p, q)
-      no_configuration unit.FunctionBlock l p q = cc (p, q)
-      no_configuration unit.Program l p q = cc (p, q)
-
-      begins_unit : (text : List ℕ) (x : ProgramUnit) (ts r : List Token) → SpellsUnit text x ts r → lead_at text ts ≡ lead.Reserved (unit_word x.kind)
-      begins_unit text x ts r w = let b = begins text x ts r w in word_begins text (unit_word x.kind) ts b.0 b.1
-
-      apart : (x : ProgramUnit) (us r s : List Token) → SpellsUnit other x us r → (TheWord other word.Configuration ⋯ E) us s → ⊥
-      apart x us r s p q = no_configuration x.kind (lead_at other us) (begins_unit other x us r p) (word_begins other word.Configuration us q.0 q.1)
-
       -- the word of a unit is carried
       carried : (n k : List Token) → AreAlike text other (t ∷ back) mid n → TheWord other word.Configuration n k → ⊥
       carried n k b w = no_configuration u.kind (lead_at other n) (lead_alike text other (t ∷ back) mid n b ∙ begins_unit text u mid m here) (word_begins other word.Configuration n k w)

@@ -1,10 +1,9 @@
 -- Cuts, one behind another.
-use Rattle.std.specs.Prelude.{◌⊎◌}
-use Rattle.std.proofs.Common.{◌≡◌, ◌<◌, ◌≤◌, ℕ, List, [], ◌∷◌, length, refl, sym, ◌∙◌, ap, subst, inl, inr, arith}
+use Rattle.std.proofs.Common.{◌≡◌, ℕ, List, [], ◌∷◌, length, refl, sym, ◌∙◌, ap, subst, inl, inr, arith}
 use Rattle.il_spec.specs.declared.token.Token.{Token}
 use Rattle.il_grammar_laws.specs.Alike.{IsEndOf, AreAlike}
 use Rattle.il_grammar_laws.specs.GoesOn.{IsCut}
-use Rattle.il_grammar_laws.proofs.Alike.{end_same, end_self, end_length, end_of_end}
+use Rattle.il_grammar_laws.proofs.Alike.{end_same, end_self, end_length}
 use Rattle.il_grammar_laws.proofs.Open.{cut_end}
 use Rattle.il_grammar_laws.proofs.GoesOn.{cut_here}
 use Rattle.il_parse.proofs.Cuts.{cut_back}
