@@ -8,10 +8,10 @@ use Rattle.il_parse.specs.Refused.{IsFault}
 use Rattle.il_machine.specs.Scanning.{Program}
 use Rattle.lift_run_laws.specs.Runs.{RunsWell}
 use Rattle.il_verify.specs.Costs.{cost_of}
-use Rattle.lift_load.specs.Loading.{IsSpelled, IsSpelledWith, IsAccepted, IsRefusedFor, IsExplained, ReportsFaultOfText}
+use Rattle.lift_load.specs.Loading.{IsSpelled, IsSpelledWith, IsAccepted, IsRefusedFor, IsExplained, ReportsFaultOfText, ReportsFaultOfGrammar}
 
 -- Either a program that the text spells, that breaks no rule and that runs well, or a refusal: from 1 to 6 the fault of the text's bytes, from 10
--- to 12 of a text that has tokens but spells no configuration, otherwise the first fault of the one that it spells. But for 10 to 12 it has no other.
+-- to 12 that of the grammar of a text that has tokens but spells no configuration, otherwise the first fault of the one that it spells. It has no other.
 pub record IsLoaded (text : List ℕ) (answer : Result Program Refusal) : Type 0 where
   pub found : IfOk answer (λ v. IsAccepted text v.config)
   pub costs : IfOk answer (λ v. v.costs ≡ map (cost_of v.config) v.config.units)
@@ -21,3 +21,4 @@ pub record IsLoaded (text : List ℕ) (answer : Result Program Refusal) : Type 0
   pub number : IfErr answer (IsExplained text)
   pub one : IsFault answer → (n : ℕ) (p : Place) → IsSpelledWith text (Fault n p) → IsErrAnd answer (λ e. e ≡ Fault n p)
   pub bytes : ReportsFaultOfText text answer
+  pub grammar : ReportsFaultOfGrammar text answer

@@ -17,24 +17,25 @@ use Rattle.lift_command.specs.declared.memory_trace.MemoryTrace.{MemoryTrace}
 use Rattle.lift_command.specs.declared.program.Outcome.{Outcome}
 use Rattle.il_reasons.specs.Reasons.{IsReason}
 use Rattle.lift_command.specs.Runs.{IsTextOutcome}
-use Rattle.lift_command.specs.Servings.{IsServeAnswer}
+use Rattle.lift_command.specs.Servings.{TraceHeld, held_trace, IsUntouched, IsServeAnswer}
+use Rattle.lift_serve.specs.Serving.{at_stop}
 
--- what the program reads and writes, before and after: what is left of the standard input, the two outputs, and the trace
+-- what the program reads and writes, before and after: what is left of the standard input, the two outputs, and the trace, and whether that failed
 pub record Streams : Type 0 where
   pub input : Option (List ℕ)
   pub left : Option (List ℕ)
   pub out : Held
   pub err : Held
-  pub before : Option (List ℕ)
-  pub after : Option (List ℕ)
+  pub trace : TraceHeld
+  pub trace_failed : Bool
 
-abbrev pub streams : Option (List ℕ) → Option (List ℕ) → Held → Held → Option (List ℕ) → Option (List ℕ) → Streams
-streams input left out err before after = record { input = input; left = left; out = out; err = err; before = before; after = after }
+abbrev pub streams : Option (List ℕ) → Option (List ℕ) → Held → Held → TraceHeld → Bool → Streams
+streams input left out err trace trace_failed = record { input = input; left = left; out = out; err = err; trace = trace; trace_failed = trace_failed }
 
--- nothing is taken of the input, and nothing traced
+-- nothing is taken of the input, no trace is made, and nothing traced
 pub record AreUntouched (s : Streams) : Type 0 where
   pub untaken : s.left ≡ s.input
-  pub untraced : s.after ≡ s.before
+  pub untraced : IsUntouched s.trace
 
 -- memory for the words is missing: this is told, and nothing else is written
 pub record IsUnread (out err : Held) (ends : Status) : Type 0 where
@@ -49,7 +50,7 @@ HasAnswered reads fails wanted words flags = HasPrinted (IsAnswer reads fails Is
 -- what serving gives, by its streams
 abbrev pub HasServed : (List ℕ → ℕ → List ℕ → Type 0) → (List ℕ → ℕ → ReadFault → Type 0) → Bool → Serving → Streams → Status → Type 0
 HasServed reads fails wanted serving s ends =
-    IsServeAnswer reads fails wanted serving (Consumes s.input s.left) s.out.before s.out.after s.out.failed s.before s.after (Writes s.err.before s.err.after s.err.failed) (s.err.after ≡ s.err.before) ends
+    IsServeAnswer reads fails wanted serving (at_stop s.left s.out.failed s.trace_failed) (Consumes s.input s.left) s.out.before s.out.after s.trace (Writes s.err.before s.err.after s.err.failed) (s.err.after ≡ s.err.before) ends
 
 -- Words as they are read ask to serve, and the group was served; or they don't, and the input and the trace are untouched.
 pub data IsPlainAnswer (reads : List ℕ → ℕ → List ℕ → Type 0) (fails : List ℕ → ℕ → ReadFault → Type 0) (wanted : Bool) (words : List (List ℕ)) (flags : Flags) (s : Streams) (ends : Status) : Type 0 where
@@ -70,10 +71,10 @@ pub data IsRunAnswer (reads : List ℕ → ℕ → List ℕ → Type 0) (fails :
 abbrev pub taken_by : Memory → Held
 taken_by memory = stream (Some []) (Some memory.bytes.items) memory.failed
 
--- what a trace in memory has, if it was created
+-- what a trace in memory that was not created before has, if it was created since
 abbrev pub traced_by : MemoryTrace → Option (List ℕ)
 traced_by trace = if trace.is_created then Some trace.bytes.items else None
 
 -- what a run over sinks in memory has left is the answer of its words: of a standard input that has these bytes, and where no trace was created before
 abbrev pub HasLeft : (List ℕ → ℕ → List ℕ → Type 0) → (List ℕ → ℕ → ReadFault → Type 0) → List (List ℕ) → List ℕ → Outcome → Type 0
-HasLeft reads fails words input left = (rest : Option (List ℕ)) × IsProgramAnswer reads fails false words (streams (Some input) rest (taken_by left.out) (taken_by left.err) None (traced_by left.trace)) left.status
+HasLeft reads fails words input left = (rest : Option (List ℕ)) × IsProgramAnswer reads fails false words (streams (Some input) rest (taken_by left.out) (taken_by left.err) (held_trace None (traced_by left.trace) (λ name sync. false) (λ name sync. left.trace.is_created)) left.trace.failed) left.status

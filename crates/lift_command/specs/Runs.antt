@@ -16,7 +16,7 @@ use Rattle.lift_json.specs.Lines.{json_text}
 use Rattle.lift_load.specs.Loading.{IsSpelled, IsUnbroken}
 use Rattle.lift_messages.specs.declared.output.Output.{Output}
 use Rattle.lift_messages.specs.Outputs.{Outcome, bytes_of, warnings_of}
-use Rattle.lift_output.specs.Outcomes.{IsProgramOutcome, HasWarnings, wanted_warnings}
+use Rattle.lift_output.specs.Outcomes.{IsProgramOutcome, AreWarned}
 use Rattle.lift_command.specs.Loaded.{IsLoaded}
 
 -- `ranges` shows something of a refused text as well, where that spells a configuration whose declarations, types and order are unbroken.
@@ -36,7 +36,7 @@ IsRefusedOutcome (request.Trace command traced) text why outcome = outcome ≡ E
 -- The text is refused with the fault that the verifier names, or the request is carried out over what it has verified; this is without `--json`.
 pub data IsPlainOutcome (request : Request) (text : List ℕ) (trace : Reading) (outcome : Outcome) : Type 0 where
   refused : (why : Refusal) → IsLoaded text (Err why) → IsRefusedOutcome request text why outcome → IsPlainOutcome request text trace outcome
-  accepted : (program : Program) → IsLoaded text (Ok program) → IsProgramOutcome request program text trace outcome → HasWarnings (wanted_warnings request program) outcome → IsPlainOutcome request text trace outcome
+  accepted : (program : Program) → IsLoaded text (Ok program) → IsProgramOutcome request program text trace outcome → AreWarned request program outcome → IsPlainOutcome request text trace outcome
 
 -- an output in a form of lines: its text as JSON, with the same warnings
 pub record IsFormed (f : Form) (plain formed : Output) : Type 0 where

@@ -1,5 +1,5 @@
 -- What `serve` gives (own rules).
-use Rattle.std.specs.Prelude.{◌≡◌, ◌++◌, ℕ, nat_lt, Bool, List, [], Option, Some, None, Ok, Err, if◌then◌else◌}
+use Rattle.std.specs.Prelude.{◌≡◌, ◌++◌, ℕ, nat_lt, Bool, true, List, [], Option, Some, None, Ok, Err, if◌then◌else◌}
 use Rattle.std.specs.Io.KnownBytes.{Appends}
 use Rattle.il_spec.specs.declared.fault.Refusal.{Refusal}
 use Rattle.il_spec.specs.declared.tree.Config.{Config}
@@ -28,6 +28,7 @@ use Rattle.lift_serve.specs.declared.serve.Stop.TheVariants as stop
 use Rattle.lift_serve.specs.declared.server.ServeFault.{ServeFault}
 use Rattle.lift_serve.specs.declared.server.ServeFault.TheVariants as fault
 use Rattle.lift_serve.specs.Ending.{IsEnded, IsHalted}
+use Rattle.lift_serve.specs.Serving.{AtStop}
 use Rattle.lift_command.specs.Loaded.{IsLoaded}
 
 -- HOW IT ENDS
@@ -69,24 +70,45 @@ fault_of_halt (halt.Stop s) = fault_of_stop s.stop (shown_line s.line)
 
 -- THE TRACE
 
+-- a trace before and after: its bytes, where it tells them, and as the file of which name it was made, whose pieces wait for the disk or don't
+pub record TraceHeld : Type 0 where
+  pub before : Option (List ℕ)
+  pub after : Option (List ℕ)
+  pub was : List ℕ → Bool → Bool
+  pub is : List ℕ → Bool → Bool
+
+abbrev pub held_trace : Option (List ℕ) → Option (List ℕ) → (List ℕ → Bool → Bool) → (List ℕ → Bool → Bool) → TraceHeld
+held_trace before after was is = record { before = before; after = after; was = was; is = is }
+
+-- no file was made, and nothing was written to it
+pub record IsUntouched (t : TraceHeld) : Type 0 where
+  pub unwritten : t.after ≡ t.before
+  pub unmade : t.is ≡ t.was
+
 -- nothing is in it
 abbrev pub IsNew : Option (List ℕ) → Type 0
 IsNew None = Unit {0}
 IsNew (Some bytes) = bytes ≡ []
 
--- a trace that is wanted is created; otherwise nothing is known of what is put there
-abbrev pub IsCreated : Option Tracing → Option (List ℕ) → Option (List ℕ) → Type 0
-IsCreated None before created = created ≡ before
-IsCreated (Some tracing) before created = IsNew created
+-- It was made as the file of this name, empty. One that tells its bytes at the end told them from there on.
+pub record IsMade (name : List ℕ) (sync : Bool) (t : TraceHeld) (created : Option (List ℕ)) : Type 0 where
+  pub named : t.is name sync ≡ true
+  pub empty : IsNew created
+  pub told : created ≡ None → t.after ≡ None
+
+-- a trace that is wanted is made as the file of its name; otherwise no file is made, and nothing is known of what is put there
+abbrev pub IsCreated : Option Tracing → TraceHeld → Option (List ℕ) → Type 0
+IsCreated None t created = (created ≡ t.before) × (t.is ≡ t.was)
+IsCreated (Some tracing) t created = IsMade tracing.name.now tracing.sync t created
 
 -- WHAT IT GIVES
 
--- Of a configuration: its trace could not be created; or its lines were answered and traced, to the end or up to a stop. The stop's fault is told.
-pub data IsLoadedAnswer (c : Config) (tracing : Option Tracing) (Taken : List ℕ → Type 0) (old new : Option (List ℕ)) (failed : Bool) (before after : Option (List ℕ)) (Told : List ℕ → Type 0) (Silent : Type 0) (status : Status) : Type 0 where
-  uncreated : Taken [] → new ≡ old → Told (message_of CannotWrite) → status ≡ with_status.CannotWrite → IsLoadedAnswer c tracing Taken old new failed before after Told Silent status
-  ended : (created : Option (List ℕ)) → IsCreated tracing before created → IsEnded c Taken (Appends old new) (Appends created after) → Silent → status ≡ with_status.Done → IsLoadedAnswer c tracing Taken old new failed before after Told Silent status
-  halted : (created : Option (List ℕ)) → IsCreated tracing before created → (halt : Halt) → IsHalted c Taken old new failed (Appends created after) (AppendsFront created after) halt → Told (message_of (fault_of_halt halt)) → status ≡ status_of (fault_of_halt halt)
-      → IsLoadedAnswer c tracing Taken old new failed before after Told Silent status
+-- Of a configuration: its trace was wanted and could not be created; or its lines were answered and traced, to the end or up to a stop. The stop's fault is told.
+pub data IsLoadedAnswer (c : Config) (tracing : Option Tracing) (at : AtStop) (Taken : List ℕ → Type 0) (old new : Option (List ℕ)) (t : TraceHeld) (Told : List ℕ → Type 0) (Silent : Type 0) (status : Status) : Type 0 where
+  uncreated : (wanted : Tracing) → tracing ≡ Some wanted → at.trace_failed ≡ true → IsUntouched t → Taken [] → new ≡ old → Told (message_of CannotWrite) → status ≡ with_status.CannotWrite → IsLoadedAnswer c tracing at Taken old new t Told Silent status
+  ended : (created : Option (List ℕ)) → IsCreated tracing t created → IsEnded c Taken (Appends old new) (Appends created t.after) → Silent → status ≡ with_status.Done → IsLoadedAnswer c tracing at Taken old new t Told Silent status
+  halted : (created : Option (List ℕ)) → IsCreated tracing t created → (halt : Halt) → IsHalted c at Taken old new (Appends created t.after) (AppendsFront created t.after) halt → Told (message_of (fault_of_halt halt)) → status ≡ status_of (fault_of_halt halt)
+      → IsLoadedAnswer c tracing at Taken old new t Told Silent status
 
 -- below a refusal of FILE its place, its line, and what is told of it
 abbrev pub IsRefusalBelow : List ℕ → List ℕ → Fault → List ℕ → Type 0
@@ -97,7 +119,7 @@ IsRefusalBelow name text (BadPress word) below = below ≡ []
 IsRefusalBelow name text TooManyPresses below = below ≡ []
 IsRefusalBelow name text (BadFire word) below = below ≡ []
 IsRefusalBelow name text (BadSpan word) below = below ≡ []
-IsRefusalBelow name text (BadScan word) below = below ≡ []
+IsRefusalBelow name text (BadScan why word) below = below ≡ []
 IsRefusalBelow name text (BadName word) below = below ≡ []
 IsRefusalBelow name text (CannotRead cause) below = below ≡ []
 IsRefusalBelow name text CannotWrite below = below ≡ []
@@ -119,12 +141,12 @@ IsRefusedAnswer wanted name text f = IsFaultTold wanted (IsRefusalBelow name tex
 abbrev pub IsUnreadAnswer : Bool → List ℕ → ReadFault → (List ℕ → Type 0) → Status → Type 0
 IsUnreadAnswer wanted name why = IsFaultTold wanted (IsUnreadBelow name why) (fault_of_reading why)
 
--- of what was read of FILE: it is refused, and no line was taken or written, or it is served
-pub data IsTextAnswer (wanted : Bool) (serving : Serving) (text : List ℕ) (Taken : List ℕ → Type 0) (old new : Option (List ℕ)) (failed : Bool) (before after : Option (List ℕ)) (Told : List ℕ → Type 0) (Silent : Type 0) (status : Status) : Type 0 where
-  refused : (why : Refusal) → IsLoaded text (Err why) → IsRefusedAnswer wanted serving.file.now text (fault_of why) Told status → Taken [] → new ≡ old → IsTextAnswer wanted serving text Taken old new failed before after Told Silent status
-  accepted : (program : Program) → IsLoaded text (Ok program) → IsLoadedAnswer program.config serving.trace Taken old new failed before after Told Silent status → IsTextAnswer wanted serving text Taken old new failed before after Told Silent status
+-- of what was read of FILE: it is refused, no line was taken or written and no trace was made, or it is served
+pub data IsTextAnswer (wanted : Bool) (serving : Serving) (text : List ℕ) (at : AtStop) (Taken : List ℕ → Type 0) (old new : Option (List ℕ)) (t : TraceHeld) (Told : List ℕ → Type 0) (Silent : Type 0) (status : Status) : Type 0 where
+  refused : (why : Refusal) → IsLoaded text (Err why) → IsRefusedAnswer wanted serving.file.now text (fault_of why) Told status → IsUntouched t → Taken [] → new ≡ old → IsTextAnswer wanted serving text at Taken old new t Told Silent status
+  accepted : (program : Program) → IsLoaded text (Ok program) → IsLoadedAnswer program.config serving.trace at Taken old new t Told Silent status → IsTextAnswer wanted serving text at Taken old new t Told Silent status
 
--- FILE can't be read, and no line was taken or written, or it is read
-pub data IsServeAnswer (reads : List ℕ → ℕ → List ℕ → Type 0) (fails : List ℕ → ℕ → ReadFault → Type 0) (wanted : Bool) (serving : Serving) (Taken : List ℕ → Type 0) (old new : Option (List ℕ)) (failed : Bool) (before after : Option (List ℕ)) (Told : List ℕ → Type 0) (Silent : Type 0) (status : Status) : Type 0 where
-  unread : (why : ReadFault) → fails serving.file.now most_bytes why → IsUnreadAnswer wanted serving.file.now why Told status → Taken [] → new ≡ old → IsServeAnswer reads fails wanted serving Taken old new failed before after Told Silent status
-  read : (text : List ℕ) → reads serving.file.now most_bytes text → IsTextAnswer wanted serving text Taken old new failed before after Told Silent status → IsServeAnswer reads fails wanted serving Taken old new failed before after Told Silent status
+-- FILE can't be read, no line was taken or written and no trace was made, or it is read
+pub data IsServeAnswer (reads : List ℕ → ℕ → List ℕ → Type 0) (fails : List ℕ → ℕ → ReadFault → Type 0) (wanted : Bool) (serving : Serving) (at : AtStop) (Taken : List ℕ → Type 0) (old new : Option (List ℕ)) (t : TraceHeld) (Told : List ℕ → Type 0) (Silent : Type 0) (status : Status) : Type 0 where
+  unread : (why : ReadFault) → fails serving.file.now most_bytes why → IsUnreadAnswer wanted serving.file.now why Told status → IsUntouched t → Taken [] → new ≡ old → IsServeAnswer reads fails wanted serving at Taken old new t Told Silent status
+  read : (text : List ℕ) → reads serving.file.now most_bytes text → IsTextAnswer wanted serving text at Taken old new t Told Silent status → IsServeAnswer reads fails wanted serving at Taken old new t Told Silent status

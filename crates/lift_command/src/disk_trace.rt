@@ -2,7 +2,8 @@
 
 use crate::serving::TraceSink;
 use lift_host::sink::{Sink, SinkFault};
-use std::fs::{Files, OpenFile, OpenOptions};
+use std::fs::{File, Files, OpenFile, OpenOptions};
+use std::io;
 use std::io::Write;
 
 /// A trace on disk, once it is created.
@@ -11,6 +12,7 @@ pub struct DiskTrace<'r, R: Files> {
     rt: &'r R,
     file: Option<R::File>,
     sync: bool,
+    is_created: bool,
     failed: bool,
 }
 
@@ -21,13 +23,18 @@ impl<'r, R: Files> DiskTrace<'r, R> {
             rt,
             file: None,
             sync: false,
+            is_created: false,
             failed: false,
         }
     }
 }
 
 impl<R: Files> Sink for DiskTrace<'_, R> {
+    ghost use Rattle.std.specs.Prelude.{◌&&◌, ◌==◌};
+
     ghost has_failed = { λ t. t.failed };
+
+    ghost made = { λ t name sync. t.is_created && (t.sync == sync) };
 
     fn put(&mut self, piece: &[u8]) -> Result<usize, SinkFault> {
         let Some(file) = &mut self.file else {
@@ -49,16 +56,38 @@ impl<R: Files> Sink for DiskTrace<'_, R> {
 
 impl<R: Files> TraceSink for DiskTrace<'_, R> {
     fn create(&mut self, name: &str, sync: bool) -> Result<(), SinkFault> {
-        let mut how = OpenOptions::new();
-        how.write(true);
-        how.create_new(true);
-        match how.open(self.rt, name) {
+        match created(self.rt, name, sync) {
             Ok(file) => {
                 self.file = Some(file);
                 self.sync = sync;
+                self.is_created = true;
                 Ok(())
             }
-            Err(_) => Err(SinkFault),
+            Err(_) => {
+                self.failed = true;
+                Err(SinkFault)
+            }
         }
+    }
+}
+
+// A new file. With `sync` its entry in its folder is on the disk.
+fn created<R: Files>(rt: &R, name: &str, sync: bool) -> io::Result<R::File> {
+    let mut how = OpenOptions::new();
+    how.write(true);
+    how.create_new(true);
+    let file = how.open(rt, name)?;
+    if sync {
+        File::open(rt, folder_of(name))?.sync_all()?;
+    }
+    Ok(file)
+}
+
+// The folder of a file.
+fn folder_of(name: &str) -> &str {
+    match name.rsplit_once('/') {
+        None => ".",
+        Some(("", _)) => "/",
+        Some((folder, _)) => folder,
     }
 }

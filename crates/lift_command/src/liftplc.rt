@@ -4,7 +4,7 @@ ghost use Rattle.std.specs.Prelude.{◌≡◌, ◌≢◌, ℕ, List, Some, Ok, E
 ghost use Rattle.il_reasons.specs.Reasons.{IsReason};
 ghost use Rattle.lift_command.specs.Loaded.{IsLoaded};
 ghost use Rattle.lift_command.specs.Runs.{IsInForm, IsKnown, IsPlainOutcome, IsRefusedOutcome, IsTextOutcome};
-ghost use Rattle.lift_output.specs.Outcomes.{HasWarnings, IsProgramOutcome, wanted_warnings};
+ghost use Rattle.lift_output.specs.Outcomes.{AreWarned, IsProgramOutcome};
 ghost use Rattle.lift_shell.specs.Runs.{runs};
 
 use il_machine::Verified;
@@ -112,7 +112,7 @@ fn formed(alloc: Global, form: Form, output: Output) -> Result<Output, Fault>
             let text = json_lines(alloc, form, &text)?;
             Ok(Output::Warned(Warned { text, warnings }))
         }
-        Output::Trace(_) => Err(Fault::NoMemory),
+        Output::Trace(_) | Output::Ran(_) => Err(Fault::NoMemory),
     }
 }
 
@@ -126,7 +126,7 @@ fn run_verified<R: Threads + Wait + Sync>(
 ) -> Result<Output, Fault>
     requires { runs request ≡ true }
     ensures is { (source : List ℕ) → IsProgramOutcome request.entry verified source calls.now result }
-    ensures warned { HasWarnings (wanted_warnings request.entry verified) result }
+    ensures warned { AreWarned request.entry verified result }
     ensures unwritten { result ≢ Err Fault.CannotWrite }
 {
     match request {

@@ -47,6 +47,8 @@ impl Sink for MemoryTrace {
 
     ghost has_failed = { λ t. t.failed };
 
+    ghost made = { λ t name sync. t.is_created };
+
     fn put(&mut self, piece: &[u8]) -> Result<usize, SinkFault> {
         if !self.is_created {
             return Ok(piece.len());

@@ -2,6 +2,7 @@
 
 ghost use Rattle.std.specs.Prelude.{◌≡◌, ◌||◌, IfSome, IsNone, false, map, string_bytes};
 ghost use Rattle.lift_command.specs.Programs.{HasLeft, IsPlainAnswer, IsProgramAnswer, IsRunAnswer, streams};
+ghost use Rattle.lift_command.specs.Servings.{held_trace};
 ghost use Rattle.lift_host.specs.Messages.{message_of, status_of};
 ghost use Rattle.lift_host.specs.Requests.{plain_words};
 ghost use Rattle.lift_shell.specs.Runs.{AskForRun, stream};
@@ -43,7 +44,8 @@ pub fn command<R: Threads + Wait + Sync, F: TextFiles, T: TraceSink, I: Read, O:
         (map string_bytes words.now) (streams (I.remaining input.old) (I.remaining input.new)
         (stream (O.contents out.old) (O.contents out.new) (O.has_failed out.new))
         (stream (E.contents err.old) (E.contents err.new) (E.has_failed err.new))
-        (T.contents trace.old) (T.contents trace.new)) result }
+        (held_trace (T.contents trace.old) (T.contents trace.new) (T.made trace.old)
+        (T.made trace.new)) (T.has_failed trace.new)) result }
 {
     match command_alone(alloc, words, explains, files, trace, input, out, err) {
         Some(status) => status,
@@ -68,7 +70,8 @@ pub fn command_alone<F: TextFiles, T: TraceSink, I: Read, O: Sink, E: Sink>(
         (streams (I.remaining input.old) (I.remaining input.new)
         (stream (O.contents out.old) (O.contents out.new) (O.has_failed out.new))
         (stream (E.contents err.old) (E.contents err.new) (E.has_failed err.new))
-        (T.contents trace.old) (T.contents trace.new))) }
+        (held_trace (T.contents trace.old) (T.contents trace.new) (T.made trace.old)
+        (T.made trace.new)) (T.has_failed trace.new))) }
     ensures run { IsNone result → AskForRun (plain_words (map string_bytes words.now)) }
     ensures unread { IsNone result → (input.new ≡ input.old) × (trace.new ≡ trace.old) }
     ensures unwritten { IsNone result → (out.new ≡ out.old) × (err.new ≡ err.old) }
@@ -96,7 +99,8 @@ fn plain_alone<F: TextFiles, T: TraceSink, I: Read, O: Sink, E: Sink>(
         (streams (I.remaining input.old) (I.remaining input.new)
         (stream (O.contents out.old) (O.contents out.new) (O.has_failed out.new))
         (stream (E.contents err.old) (E.contents err.new) (E.has_failed err.new))
-        (T.contents trace.old) (T.contents trace.new))) }
+        (held_trace (T.contents trace.old) (T.contents trace.new) (T.made trace.old)
+        (T.made trace.new)) (T.has_failed trace.new))) }
     ensures run { IsNone result → AskForRun (map string_bytes words.now.words.items) }
     ensures unread { IsNone result → (input.new ≡ input.old) × (trace.new ≡ trace.old) }
     ensures unwritten { IsNone result → (out.new ≡ out.old) × (err.new ≡ err.old) }

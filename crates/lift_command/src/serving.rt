@@ -1,11 +1,13 @@
 // `serve`: a configuration behind lines.
 
-ghost use Rattle.std.specs.Prelude.{◌≡◌, ◌++◌, IfOk, OnOk};
+ghost use Rattle.std.specs.Prelude.{◌≡◌, ◌++◌, Some, None, true, IfOk, OnOk, OnErr};
 ghost use Rattle.std.specs.Io.KnownBytes.{Consumes};
 ghost use Rattle.lift_host.specs.Messages.{message_of, status_of};
 ghost use Rattle.lift_shell.specs.Runs.{IsExplained};
 ghost use Rattle.lift_host.specs.Writes.{Writes};
-ghost use Rattle.lift_command.specs.Servings.{IsCreated, IsNew, IsServeAnswer, IsTextAnswer, IsLoadedAnswer, IsRefusalBelow, IsRefusedAnswer, IsUnreadAnswer, fault_of_halt, fault_of_input, fault_of_line, fault_of_stop, fault_of_wrong, shown_line};
+ghost use Rattle.lift_serve.specs.Serving.{at_stop};
+ghost use Rattle.lift_host.specs.declared.serving.Tracing.{Tracing as TracingOf};
+ghost use Rattle.lift_command.specs.Servings.{IsNew, IsUntouched, held_trace, IsServeAnswer, IsTextAnswer, IsLoadedAnswer, IsRefusalBelow, IsRefusedAnswer, IsUnreadAnswer, fault_of_halt, fault_of_input, fault_of_line, fault_of_stop, fault_of_wrong, shown_line};
 
 use crate::liftplc::loaded;
 use il_machine::Verified;
@@ -30,7 +32,11 @@ use std::io::Read;
 pub trait TraceSink: Sink {
     /// Creates the trace of a name, which must not be there. With `sync` each piece waits for the disk.
     fn create(&mut self, name: &str, sync: bool) -> Result<(), SinkFault>
-        ensures { OnOk result (IsNew (Self.contents self.new)) };
+        ensures made { OnOk result (Self.made self.new name.now sync ≡ true) }
+        ensures empty { OnOk result (IsNew (Self.contents self.new)) }
+        ensures failed { OnErr result (Self.has_failed self.new ≡ true) }
+        ensures unmade { OnErr result ((Self.contents self.new ≡ Self.contents self.old)
+            × (Self.made self.new ≡ Self.made self.old)) };
 }
 
 /// Serves the configuration of FILE: each line of the input is answered before the next is read, and its events are written to the trace, if one
@@ -47,8 +53,10 @@ pub fn serve<F: TextFiles, T: TraceSink, I: Read, O: Sink, E: Sink>(
     err: &mut E,
 ) -> Status
     ensures { IsServeAnswer (F.gives files.now) (F.fails files.now) explains serving.entry
+        (at_stop (I.remaining input.new) (O.has_failed out.new) (T.has_failed trace.new))
         (Consumes (I.remaining input.old) (I.remaining input.new)) (O.contents out.old)
-        (O.contents out.new) (O.has_failed out.new) (T.contents trace.old) (T.contents trace.new)
+        (O.contents out.new) (held_trace (T.contents trace.old) (T.contents trace.new)
+        (T.made trace.old) (T.made trace.new))
         (Writes (E.contents err.old) (E.contents err.new) (E.has_failed err.new))
         (E.contents err.new ≡ E.contents err.old) result }
 {
@@ -95,8 +103,10 @@ fn serve_text<T: TraceSink, I: Read, O: Sink, E: Sink>(
     err: &mut E,
 ) -> Status
     ensures { IsTextAnswer explains serving.entry text.now
+        (at_stop (I.remaining input.new) (O.has_failed out.new) (T.has_failed trace.new))
         (Consumes (I.remaining input.old) (I.remaining input.new)) (O.contents out.old)
-        (O.contents out.new) (O.has_failed out.new) (T.contents trace.old) (T.contents trace.new)
+        (O.contents out.new) (held_trace (T.contents trace.old) (T.contents trace.new)
+        (T.made trace.old) (T.made trace.new))
         (Writes (E.contents err.old) (E.contents err.new) (E.has_failed err.new))
         (E.contents err.new ≡ E.contents err.old) result }
 {
@@ -171,8 +181,10 @@ fn serve_loaded<T: TraceSink, I: Read, O: Sink, E: Sink>(
     err: &mut E,
 ) -> Status
     ensures { IsLoadedAnswer verified.config tracing.entry
+        (at_stop (I.remaining input.new) (O.has_failed out.new) (T.has_failed trace.new))
         (Consumes (I.remaining input.old) (I.remaining input.new)) (O.contents out.old)
-        (O.contents out.new) (O.has_failed out.new) (T.contents trace.old) (T.contents trace.new)
+        (O.contents out.new) (held_trace (T.contents trace.old) (T.contents trace.new)
+        (T.made trace.old) (T.made trace.new))
         (Writes (E.contents err.old) (E.contents err.new) (E.has_failed err.new))
         (E.contents err.new ≡ E.contents err.old) result }
 {
@@ -193,7 +205,14 @@ fn serve_loaded<T: TraceSink, I: Read, O: Sink, E: Sink>(
 
 // Creates the trace, if one is wanted.
 fn create<T: TraceSink>(tracing: Option<Tracing<'_>>, trace: &mut T) -> Result<(), SinkFault>
-    ensures { OnOk result (IsCreated tracing.entry (T.contents trace.old) (T.contents trace.new)) }
+    ensures none { OnOk result (tracing.entry ≡ None → trace.new ≡ trace.old) }
+    ensures made { OnOk result ((wanted : TracingOf) → tracing.entry ≡ Some wanted
+        → (T.made trace.new wanted.name.now wanted.sync ≡ true)
+        × IsNew (T.contents trace.new)) }
+    ensures wanted { OnErr result ((wanted : TracingOf) × (tracing.entry ≡ Some wanted)) }
+    ensures failed { OnErr result (T.has_failed trace.new ≡ true) }
+    ensures unmade { OnErr result (IsUntouched (held_trace (T.contents trace.old)
+        (T.contents trace.new) (T.made trace.old) (T.made trace.new))) }
 {
     match tracing {
         Some(tracing) => trace.create(tracing.name, tracing.sync),

@@ -2,7 +2,7 @@
 
 use clap::{Arg, ArgAction, Command};
 use lift_host::request::{
-    ALL, CALLS, CUT, FIRE, Following, JSON, LIMITS, Name, ROUND, ROUNDS, SUMMARY, Showing,
+    ALL, CALLS, CUT, FIRE, Following, JSON, LEFT, LIMITS, Name, ROUND, ROUNDS, SUMMARY, Showing,
     Simulating, TOGETHER, TRACE, UNTIL, WARN,
 };
 use lift_host::serving::SYNC;
@@ -126,6 +126,12 @@ const TOGETHER_FLAG: Argument = Argument {
     help: "A round ends for all tasks before the next begins",
 };
 
+const LEFT_FLAG: Argument = Argument {
+    name: LEFT,
+    standing: Standing::Alone,
+    help: "Also says on the standard error how many calls are left in the collector's hand and on the desk",
+};
+
 const ALL_FLAG: Argument = Argument {
     name: ALL,
     standing: Standing::Alone,
@@ -224,6 +230,7 @@ static COMMANDS: [Row; 13] = [
             FIRE_OPTION,
             CALLS_OPTION,
             TOGETHER_FLAG,
+            LEFT_FLAG,
         ],
     },
     Row {

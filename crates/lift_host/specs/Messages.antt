@@ -14,6 +14,8 @@ use Rattle.lift_host.specs.declared.press.PressFault.{PressFault}
 use Rattle.lift_host.specs.declared.press.PressFault.TheVariants as press
 use Rattle.lift_host.specs.declared.status.Status.{Status}
 use Rattle.lift_host.specs.declared.status.Status.TheVariants as status
+use Rattle.lift_host.specs.declared.status.ScanFault.{ScanFault}
+use Rattle.lift_host.specs.declared.status.ScanFault.TheVariants.{Task, Round, Line, Uncommitted, UncommittedInRound}
 use Rattle.lift_host.specs.declared.status.Fault.{Fault}
 use Rattle.lift_host.specs.declared.status.Fault.TheVariants.{Misuse, RefusedText, Refused, BadPress, TooManyPresses, BadFire, BadSpan, BadScan, BadName, CannotRead, CannotWrite, NoMemory}
 
@@ -34,7 +36,7 @@ status_of (BadPress word) = status.Refused
 status_of TooManyPresses = status.Refused
 status_of (BadFire word) = status.Refused
 status_of (BadSpan word) = status.Refused
-status_of (BadScan word) = status.Refused
+status_of (BadScan why word) = status.Refused
 status_of (BadName word) = status.Refused
 status_of (CannotRead cause) = status.CannotRead
 status_of CannotWrite = status.CannotWrite
@@ -53,7 +55,7 @@ message_of (BadPress word) = codes "bad press\n"
 message_of TooManyPresses = codes "bad press\n"
 message_of (BadFire word) = codes "bad fire\n"
 message_of (BadSpan word) = codes "bad rounds\n"
-message_of (BadScan word) = codes "bad scan\n"
+message_of (BadScan why word) = codes "bad scan\n"
 message_of (BadName word) = codes "bad name\n"
 message_of (CannotRead cause) = codes "cannot read\n"
 message_of CannotWrite = codes "cannot write\n"
@@ -70,6 +72,14 @@ cause_sentence Missing = codes "no file has this name"
 cause_sentence Folder = codes "this is a folder"
 cause_sentence Denied = codes "the file may not be read"
 cause_sentence Other = codes "the file can't be read"
+
+-- why there is no scan
+abbrev pub scan_sentence : ScanFault → List ℕ
+scan_sentence Task = codes "the group has no such task"
+scan_sentence Round = codes "no round: a number from 1 to 65535"
+scan_sentence Line = codes "no line: a number from 1 to 65535"
+scan_sentence Uncommitted = codes "the trace commits no scan of this task"
+scan_sentence UncommittedInRound = codes "the trace commits no scan of the task in this round"
 
 -- the fault of an error of the system
 abbrev pub fault_of_kind : ErrorKind → ReadFault

@@ -243,20 +243,21 @@ flag_of command =
     else if bytes_eq command (codes "calls") then Some (codes "--summary")
     else None
 
--- `--cut` of a command that is always over a trace
-abbrev pub cut_of : List ℕ → Option (List ℕ)
-cut_of command =
-    if bytes_eq command (codes "replay") || bytes_eq command (codes "draw") || bytes_eq command (codes "calls") || bytes_eq command (codes "scan") then Some (codes "--cut") else None
+-- a second flag: `--left` of `run`, `--cut` of a command that is always over a trace
+abbrev pub second_of : List ℕ → Option (List ℕ)
+second_of command =
+    if bytes_eq command (codes "run") then Some (codes "--left")
+    else if bytes_eq command (codes "replay") || bytes_eq command (codes "draw") || bytes_eq command (codes "calls") || bytes_eq command (codes "scan") then Some (codes "--cut") else None
 
 -- the flag of the command of words: this is the first word but `--explain`
 abbrev pub own_flag : List (List ℕ) → Option (List ℕ)
 own_flag [] = None
 own_flag (word ∷ words) = if bytes_eq word (codes "--explain") then own_flag words else flag_of word
 
--- its `--cut`
-abbrev pub own_cut : List (List ℕ) → Option (List ℕ)
-own_cut [] = None
-own_cut (word ∷ words) = if bytes_eq word (codes "--explain") then own_cut words else cut_of word
+-- its second flag
+abbrev pub own_second : List (List ℕ) → Option (List ℕ)
+own_second [] = None
+own_second (word ∷ words) = if bytes_eq word (codes "--explain") then own_second words else second_of word
 
 -- `--json` of a command that prints lines
 abbrev pub json_of : List ℕ → Option (List ℕ)
@@ -287,7 +288,7 @@ asked_json words = if names_flag (Some (codes "--summary")) words then None else
 
 -- which flags of their command are
 abbrev pub flags_of : List (List ℕ) → Flags
-flags_of words = record { own = names_flag (own_flag words) words; cut = names_flag (own_cut words) words; json = names_flag (asked_json words) words }
+flags_of words = record { own = names_flag (own_flag words) words; second = names_flag (own_second words) words; json = names_flag (asked_json words) words }
 
 -- a word, or for the options of `scan` two
 abbrev pub cut_scan_word : List ℕ → List (List ℕ)
@@ -307,15 +308,15 @@ cut_word word =
 
 -- the words in place of a word: none for `--explain`, and none for a flag of the command
 abbrev pub plain_word : Option (List ℕ) → Option (List ℕ) → Option (List ℕ) → List ℕ → List (List ℕ)
-plain_word own cut json word = if bytes_eq word (codes "--explain") || is_flag own word || is_flag cut word || is_flag json word then [] else cut_word word
+plain_word own second json word = if bytes_eq word (codes "--explain") || is_flag own word || is_flag second word || is_flag json word then [] else cut_word word
 
 -- the words as they are read
 abbrev pub plain_words : List (List ℕ) → List (List ℕ)
-plain_words words = flat_map (plain_word (own_flag words) (own_cut words) (asked_json words)) words
+plain_words words = flat_map (plain_word (own_flag words) (own_second words) (asked_json words)) words
 
 -- a request with the flags of its command that stand among the words
 abbrev pub with_flags : Flags → Request → Request
 with_flags flags (request.Check checked) = request.Check (record checked { limits = flags.own; json = flags.json })
 with_flags flags (request.Show command shown) = request.Show command (record shown { json = flags.json })
-with_flags flags (request.Rounds command rounds) = request.Rounds command (record rounds { flag = flags.own; json = flags.json })
-with_flags flags (request.Trace command traced) = request.Trace command (record traced { flag = flags.own; cut = flags.cut || traced.cut; json = flags.json })
+with_flags flags (request.Rounds command rounds) = request.Rounds command (record rounds { flag = flags.own; left = flags.second; json = flags.json })
+with_flags flags (request.Trace command traced) = request.Trace command (record traced { flag = flags.own; cut = flags.second || traced.cut; json = flags.json })

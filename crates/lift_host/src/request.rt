@@ -1,7 +1,7 @@
 // What the words ask for.
 
 ghost use Rattle.std.specs.Prelude.{◌≡◌, ◌≤◌, ◌<◌, ◌∷◌, ◌++◌, ◌↔◌, [], ℕ, Bool, List, Option, Some, true, false, IfSome, IfOk, IsNone, IsTrue, MatchOption, OnOk, codes, bytes_eq, flat_map, length, map, option_map, slice_get, string_bytes};
-ghost use Rattle.lift_host.specs.Requests.{IsNumberTo, IsDigits, IsOption, AreNoOptions, LeaveOut, IsApart, AreApart, IsBehind, IsFlagApart, IsFile, IsFileBeside, IsFileWith, AreFiles, GiveRounds, GiveTrace, GiveDrawing, GiveFollowed, GiveScan, AreNames, Takes, TakesTrace, Asks, BeginsWithDigit, BeginWithName, NeedsName, AreNamesFirst, plain_words, plain_word, cut_word, cut_scan_word, flag_of, cut_of, json_of, own_flag, own_cut, own_json, asked_json, is_flag, explains, names_flag, flags_of, with_flags, command_of, name_of, word_of, words_of};
+ghost use Rattle.lift_host.specs.Requests.{IsNumberTo, IsDigits, IsOption, AreNoOptions, LeaveOut, IsApart, AreApart, IsBehind, IsFlagApart, IsFile, IsFileBeside, IsFileWith, AreFiles, GiveRounds, GiveTrace, GiveDrawing, GiveFollowed, GiveScan, AreNames, Takes, TakesTrace, Asks, BeginsWithDigit, BeginWithName, NeedsName, AreNamesFirst, plain_words, plain_word, cut_word, cut_scan_word, flag_of, second_of, json_of, own_flag, own_second, own_json, asked_json, is_flag, explains, names_flag, flags_of, with_flags, command_of, name_of, word_of, words_of};
 ghost use Rattle.lift_host.specs.declared.request.Name.{Name};
 ghost use Rattle.lift_host.specs.declared.request.Request.{Request};
 ghost use Rattle.lift_host.specs.declared.request.Rounds.{Rounds};
@@ -53,6 +53,9 @@ pub const ALL: &str = "--all";
 
 /// The flag of `run` that has a round end for all before the next begins.
 pub const TOGETHER: &str = "--together";
+
+/// The flag of `run` that has it print how many calls are left.
+pub const LEFT: &str = "--left";
 
 /// The flag of `calls` that has it print a summary.
 pub const SUMMARY: &str = "--summary";
@@ -166,6 +169,8 @@ pub struct Rounds<'w> {
     /// Whether the command's own flag stands among the words: `denials` is to show all, also the stops at the ends of the shaft; a round of `run` is to end for
     /// all before the next begins.
     pub flag: bool,
+    /// Whether `run` is to print how many calls are left.
+    pub left: bool,
     /// Whether JSON is to be printed.
     pub json: bool,
 }
@@ -329,7 +334,7 @@ impl<'w> Words<'w> {
 
 impl<'w> Request<'w> {
     /// The same, with the flags of its command or without: `check` is to print limits, `denials` is to show all, the rounds of `run` are to be together,
-    /// `calls` is to print a summary; a trace may be cut off; JSON is to be printed.
+    /// `calls` is to print a summary; a trace may be cut off, `run` is to print how many calls are left; JSON is to be printed.
     pub fn with_flags(self, flags: Flags) -> Request<'w>
         ensures { result ≡ with_flags flags self.entry }
     {
@@ -348,6 +353,7 @@ impl<'w> Request<'w> {
                     command,
                     Rounds {
                         flag: flags.own,
+                        left: flags.second,
                         json,
                         ..rounds
                     },
@@ -358,7 +364,7 @@ impl<'w> Request<'w> {
                     command,
                     Traced {
                         flag: flags.own,
-                        cut: flags.cut || traced.cut,
+                        cut: flags.second || traced.cut,
                         json,
                         ..traced
                     },
@@ -761,6 +767,7 @@ fn rounds_given(rest: &[String]) -> Option<Rounds<'_>>
         fire: first,
         calls: second,
         flag: false,
+        left: false,
         json: false,
     })
 }
@@ -1041,8 +1048,8 @@ fn is_explain(word: &str) -> bool
 pub struct Flags {
     /// That of the command's own: `--limits` of `check`, `--all` of `denials`, `--together` of `run`, `--summary` of `calls`.
     pub own: bool,
-    /// `--cut` of `replay`, `draw`, `calls` and `scan`; that of `denials` and `watch` over a trace is one of the words.
-    pub cut: bool,
+    /// A second one: `--left` of `run`, `--cut` of `replay`, `draw`, `calls` and `scan`; that of `denials` and `watch` over a trace is one of the words.
+    pub second: bool,
     /// `--json` of `check`, `ranges`, `xref`, `calls` and `denials`. Beside `--summary` it stays one of the words.
     pub json: bool,
 }
@@ -1068,14 +1075,14 @@ pub fn read_words(alloc: Global, words: &[String]) -> Result<Plain, AllocError>
     ensures flags { IfOk result (λ plain. plain.flags ≡ flags_of (map string_bytes words.now)) }
 {
     let own = own_flag(words);
-    let cut = own_cut(words);
+    let second = own_second(words);
     let json = asked_json(words);
     Ok(Plain {
-        words: plain_words(alloc, words, own, cut, json)?,
+        words: plain_words(alloc, words, own, second, json)?,
         explains: explains(words),
         flags: Flags {
             own: names_flag(own, words),
-            cut: names_flag(cut, words),
+            second: names_flag(second, words),
             json: names_flag(json, words),
         },
     })
@@ -1093,13 +1100,13 @@ fn own_flag(words: &[String]) -> Option<&'static str>
     None
 }
 
-// `--cut`, where the words' command takes it.
-fn own_cut(words: &[String]) -> Option<&'static str>
-    ensures { option_map (λ flag. flag.now) result ≡ own_cut (map string_bytes words.now) }
+// The second flag of the words' command.
+fn own_second(words: &[String]) -> Option<&'static str>
+    ensures { option_map (λ flag. flag.now) result ≡ own_second (map string_bytes words.now) }
 {
     'words: for word in words {
         if !is_explain(word) {
-            return cut_of(word);
+            return second_of(word);
         }
     }
     None
@@ -1141,11 +1148,12 @@ fn flag_of(command: &str) -> Option<&'static str>
     }
 }
 
-// `--cut`, where a command takes it that is always over a trace.
-fn cut_of(command: &str) -> Option<&'static str>
-    ensures { option_map (λ flag. flag.now) result ≡ cut_of command.now }
+// The second flag of a command: `--left` of `run`, `--cut` of one that is always over a trace.
+fn second_of(command: &str) -> Option<&'static str>
+    ensures { option_map (λ flag. flag.now) result ≡ second_of command.now }
 {
     match command {
+        "run" => Some(LEFT),
         "replay" | "draw" | "calls" | "scan" => Some(CUT),
         _ => None,
     }
@@ -1201,17 +1209,17 @@ fn plain_words(
     alloc: Global,
     words: &[String],
     own: Option<&str>,
-    cut: Option<&str>,
+    second: Option<&str>,
     json: Option<&str>,
 ) -> Result<Vec<String>, AllocError>
     ensures { IfOk result (λ plain. map string_bytes plain.items
         ≡ flat_map (plain_word (option_map (λ flag. flag.now) own.entry)
-        (option_map (λ flag. flag.now) cut.entry) (option_map (λ flag. flag.now) json.entry))
+        (option_map (λ flag. flag.now) second.entry) (option_map (λ flag. flag.now) json.entry))
         (map string_bytes words.now)) }
 {
     let mut plain = Vec::new(alloc);
     'words: for word in words {
-        add_plain(alloc, &mut plain, word, own, cut, json)?;
+        add_plain(alloc, &mut plain, word, own, second, json)?;
     }
     Ok(plain)
 }
@@ -1222,15 +1230,15 @@ fn add_plain(
     plain: &mut Vec<String>,
     word: &str,
     own: Option<&str>,
-    cut: Option<&str>,
+    second: Option<&str>,
     json: Option<&str>,
 ) -> Result<(), AllocError>
     ensures { OnOk result (map string_bytes plain.new.items ≡ map string_bytes plain.old.items
         ++ plain_word (option_map (λ flag. flag.now) own.entry)
-        (option_map (λ flag. flag.now) cut.entry)
+        (option_map (λ flag. flag.now) second.entry)
         (option_map (λ flag. flag.now) json.entry) word.now) }
 {
-    if is_explain(word) || is_flag(own, word) || is_flag(cut, word) || is_flag(json, word) {
+    if is_explain(word) || is_flag(own, word) || is_flag(second, word) || is_flag(json, word) {
         return Ok(());
     }
     add_word(alloc, plain, word)

@@ -3,7 +3,7 @@
 ghost use Rattle.std.specs.Prelude.{◌≡◌, ◌++◌, true, OnOk, OnErr, decimal};
 ghost use Rattle.std.specs.Io.KnownBytes.{Appends};
 ghost use Rattle.lift_host.specs.Writes.{AppendsFront};
-ghost use Rattle.lift_host.specs.Messages.{message_of, status_of, code_of};
+ghost use Rattle.lift_host.specs.Messages.{message_of, scan_sentence, status_of, code_of};
 
 use crate::files::{Cause, ReadFault};
 use crate::press::PressFault;
@@ -28,6 +28,36 @@ pub enum Status {
     NoMemory,
 }
 
+/// Why `scan` shows no scan, and of which word.
+#[derive(Clone, Copy)]
+pub enum ScanFault {
+    /// TASK is no task of the group.
+    Task,
+    /// The word behind `--round` is no number from 1 to 65535.
+    Round,
+    /// The word behind `--until` is no number from 1 to 65535.
+    Line,
+    /// The trace commits no scan of TASK.
+    Uncommitted,
+    /// It commits none in the round behind `--round`.
+    UncommittedInRound,
+}
+
+impl ScanFault {
+    /// What it says of its word.
+    pub fn sentence(self) -> &'static str
+        ensures { result.now ≡ scan_sentence self }
+    {
+        match self {
+            ScanFault::Task => "the group has no such task",
+            ScanFault::Round => "no round: a number from 1 to 65535",
+            ScanFault::Line => "no line: a number from 1 to 65535",
+            ScanFault::Uncommitted => "the trace commits no scan of this task",
+            ScanFault::UncommittedInRound => "the trace commits no scan of the task in this round",
+        }
+    }
+}
+
 /// Why a program has no output.
 #[derive(Drop)]
 pub enum Fault {
@@ -45,8 +75,8 @@ pub enum Fault {
     BadFire(String),
     /// This word behind `--rounds` says no rounds.
     BadSpan(String),
-    /// This TASK, or this word behind `--round` or `--until`, is of no scan that the trace commits.
-    BadScan(String),
+    /// There is no such scan, for what this word says.
+    BadScan(ScanFault, String),
     /// This NAME of `watch` names nothing that has a value.
     BadName(String),
     CannotRead(Cause),
@@ -133,7 +163,7 @@ impl Fault {
             Fault::TooManyPresses => Status::Refused,
             Fault::BadFire(_) => Status::Refused,
             Fault::BadSpan(_) => Status::Refused,
-            Fault::BadScan(_) => Status::Refused,
+            Fault::BadScan(_, _) => Status::Refused,
             Fault::BadName(_) => Status::Refused,
             Fault::CannotRead(_) => Status::CannotRead,
             Fault::CannotWrite => Status::CannotWrite,
@@ -157,7 +187,7 @@ impl Fault {
             Fault::TooManyPresses => put_all(sink, b"bad press\n"),
             Fault::BadFire(_) => put_all(sink, b"bad fire\n"),
             Fault::BadSpan(_) => put_all(sink, b"bad rounds\n"),
-            Fault::BadScan(_) => put_all(sink, b"bad scan\n"),
+            Fault::BadScan(_, _) => put_all(sink, b"bad scan\n"),
             Fault::BadName(_) => put_all(sink, b"bad name\n"),
             Fault::CannotRead(_) => put_all(sink, b"cannot read\n"),
             Fault::CannotWrite => put_all(sink, b"cannot write\n"),

@@ -1,5 +1,5 @@
 -- What each phase's refusal says of the text.
-use Rattle.std.proofs.Common.{◌≡◌, ◌⊎◌, ◌∙◌, ℕ, ◌<◌, ◌≤◌, List, length, arith, sym, subst, ap, inl, inr, Result, Ok, Err}
+use Rattle.std.proofs.Common.{◌≡◌, ◌⊎◌, ◌∙◌, ℕ, ◌<◌, ◌≤◌, List, [], length, arith, refl, sym, subst, ap, inl, inr, Result, Ok, Err}
 use Rattle.std.specs.Prelude.{IsErrAnd, IfOk, IfErr}
 use Rattle.std.proofs.lemmas.Bool.{cases_lt}
 use Rattle.il_spec.specs.declared.fault.Refusal.{Refusal}
@@ -11,9 +11,11 @@ use Rattle.il_spec.specs.Text.{AreTokens, HasNoTokens}
 use Rattle.il_text.specs.Refused.{IsMemoryOrFaultOfBytes}
 use Rattle.il_text.specs.LexicalErrors.{IsFaultOfText, the_start}
 use Rattle.il_text.proofs.FirstError.{one_fault, no_first}
-use Rattle.il_parse.specs.Refused.{IsFault, IsOfParser, GoesOnNowhere, GoesOnBefore}
+use Rattle.il_spec.specs.Grammar.{AfterLines, SpellsConfig}
+use Rattle.il_fault_laws.specs.Faults.{IsFaultOfGrammar}
+use Rattle.il_parse.specs.Refused.{IsFault, IsOfParser, IsSmall, GoesOnNowhere, GoesOnBefore}
 use Rattle.il_parse.specs.Late.{NoneTooMany}
-use Rattle.lift_load.specs.Loading.{IsSpelled, IsRefusedFor, SpellsNone, HasTokens, IsNumberOfBytes, of_bytes, of_grammar, of_tree, IsExplained, ReportsFaultOfText, NamesTurn, IsNamedFirst, NamesNoneEarly}
+use Rattle.lift_load.specs.Loading.{IsSpelled, IsRefusedFor, SpellsNone, HasFaultOfGrammar, IsNumberOfBytes, of_bytes, of_grammar, of_tree, IsExplained, ReportsFaultOfText, ReportsFaultOfGrammar}
 use Rattle.lift_load.proofs.TreeNumbers.{late_fault}
 
 -- a refusal that is handed on is of the same kind
@@ -36,10 +38,10 @@ explained_by_tree text c (Fault number place) spelled refused = of_tree (late_fa
 explained_by_tree text c Memory spelled refused = tt
 
 -- a fault of the parser
-pub explained_by_parser : (text : List ℕ) (e : Refusal) → IsOfParser e → HasTokens text → (IsFault {A = Config} (Err e) → SpellsNone text) → IsExplained text e
-explained_by_parser text (Fault number place) (inl is) has none = of_grammar (omega (arith, is), omega (arith, is)) has (none tt)
-explained_by_parser text (Fault number place) (inr (inl is)) has none = of_grammar (omega (arith, is), omega (arith, is)) has (none tt)
-explained_by_parser text (Fault number place) (inr (inr is)) has none = of_grammar (omega (arith, is), omega (arith, is)) has (none tt)
+pub explained_by_parser : (text : List ℕ) (e : Refusal) → IsOfParser e → (IsFault {A = Config} (Err e) → HasFaultOfGrammar text e) → (IsFault {A = Config} (Err e) → SpellsNone text) → IsExplained text e
+explained_by_parser text (Fault number place) (inl is) has none = of_grammar (omega (arith, is), omega (arith, is)) (has tt) (none tt)
+explained_by_parser text (Fault number place) (inr (inl is)) has none = of_grammar (omega (arith, is), omega (arith, is)) (has tt) (none tt)
+explained_by_parser text (Fault number place) (inr (inr is)) has none = of_grammar (omega (arith, is), omega (arith, is)) (has tt) (none tt)
 explained_by_parser text Memory is has none = tt
 
 -- a fault of the bytes, or a text that is too long
@@ -86,40 +88,41 @@ pub handed_report : {X : Type 0} (text : List ℕ) (e : Refusal) (r : Result X R
 handed_report {X} text e (Ok x) same reports n p fault = absurd same
 handed_report {X} text e (Err d) same reports n p fault = subst (λ b. (b ≡ Fault n p) ⊎ (b ≡ Memory)) (sym same) (reports n p fault)
 
--- a text that has no tokens, or too many bytes, names no token
-pub nowhere_by_tokens : (text : List ℕ) (e : Refusal) → (IsFault {A = Config} (Err e) → length text ≤ 262144 → HasNoTokens text) → NamesTurn text e
-nowhere_by_tokens text Memory none = λ out short ts cut. tt
-nowhere_by_tokens text (Fault number place) none = λ out short ts cut. absurd (none tt short ts cut)
+-- THE FAULT OF THE GRAMMAR
 
--- what the parser says of the tokens that it was given holds of the text's tokens
-pub nowhere_by_parser : (text : List ℕ) (e : Refusal) (tokens : List Token) → ((ts : List Token) → AreTokens text 0 ts → ts ≡ tokens) → GoesOnNowhere text tokens e → NamesTurn text e
-nowhere_by_parser text e tokens only nowhere = λ out short ts cut. subst (λ xs. GoesOnNowhere text xs e) (sym (only ts cut)) nowhere
+-- what the parser says of its tokens
+pub fault_of_parser : (text : List ℕ) (e : Refusal) (tokens : List Token) → length text ≤ 262144 → AreTokens text 0 tokens → IsFault {A = Config} (Err e) → GoesOnNowhere text tokens e → GoesOnBefore text tokens e → NoneTooMany text tokens e → HasFaultOfGrammar text e
+fault_of_parser text Memory tokens short cut fault nowhere before early = absurd fault
+fault_of_parser text (Fault number place) tokens short cut fault nowhere before early =
+    record { short = short; tokens = tokens; cut = cut; is = record { fault = (number, (place, refl)); nowhere = nowhere; before = before; early = early } }
 
--- a text that spells a configuration names no token
-pub nowhere_of_spelled : {X : Type 0} (text : List ℕ) (c : Config) → IsSpelled text c → (r : Result X Refusal) → IfErr r (NamesTurn text)
-nowhere_of_spelled text c is (Ok x) = tt
-nowhere_of_spelled text c is (Err e) = λ out short ts cut. absurd (out c is)
+-- the law of these faults
+abbrev pub IsOneFault : Type 0
+IsOneFault = (text : List ℕ) (ts : List Token) (e f : Refusal) → AreTokens text 0 ts → length text ≤ 262144 → IsFaultOfGrammar text ts e → IsFaultOfGrammar text ts f → e ≡ f
 
--- the same of the tokens before it
-pub before_by_tokens : (text : List ℕ) (e : Refusal) → (IsFault {A = Config} (Err e) → length text ≤ 262144 → HasNoTokens text) → IsNamedFirst text e
-before_by_tokens text Memory none = λ out short ts cut. tt
-before_by_tokens text (Fault number place) none = λ out short ts cut. absurd (none tt short ts cut)
+abbrev pub IsNoFault : Type 0
+IsNoFault = (text : List ℕ) (ts : List Token) (c : Config) (e : Refusal) → AreTokens text 0 ts → AfterLines (SpellsConfig text c) ts [] → IsSmall c → IsFaultOfGrammar text ts e → ⊥
 
-pub before_by_parser : (text : List ℕ) (e : Refusal) (tokens : List Token) → ((ts : List Token) → AreTokens text 0 ts → ts ≡ tokens) → GoesOnBefore text tokens e → IsNamedFirst text e
-before_by_parser text e tokens only before = λ out short ts cut. subst (λ xs. GoesOnBefore text xs e) (sym (only ts cut)) before
+-- a text that has no tokens has none
+pub no_grammar_by_tokens : {X : Type 0} (text : List ℕ) (e : Refusal) (r : Result X Refusal) → IsErrAnd r (λ d. d ≡ e) → (IsFault {A = Config} (Err e) → length text ≤ 262144 → HasNoTokens text) → ReportsFaultOfGrammar text r
+no_grammar_by_tokens {X} text e (Ok x) same none n p fault = absurd same
+no_grammar_by_tokens {X} text Memory (Err d) same none n p fault = inr same
+no_grammar_by_tokens {X} text (Fault m q) (Err d) same none n p fault = absurd (none tt fault.short fault.tokens fault.cut)
 
-pub before_of_spelled : {X : Type 0} (text : List ℕ) (c : Config) → IsSpelled text c → (r : Result X Refusal) → IfErr r (IsNamedFirst text)
-before_of_spelled text c is (Ok x) = tt
-before_of_spelled text c is (Err e) = λ out short ts cut. absurd (out c is)
+-- what the parser answers
+pub reported_by_parser : {X : Type 0} → IsOneFault → (text : List ℕ) (e : Refusal) (r : Result X Refusal) → IsErrAnd r (λ d. d ≡ e) → ((ts us : List Token) → AreTokens text 0 ts → AreTokens text 0 us → ts ≡ us) → (IsFault {A = Config} (Err e) → HasFaultOfGrammar text e) → ReportsFaultOfGrammar text r
+reported_by_parser {X} law text e (Ok x) same cut has n p fault = absurd same
+reported_by_parser {X} law text Memory (Err d) same cut has n p fault = inr same
+reported_by_parser {X} law text (Fault m q) (Err d) same cut has n p fault =
+    let mine = has tt in
+    inl (same ∙ law text fault.tokens (Fault m q) (Fault n p) fault.cut fault.short (subst (λ ts. IsFaultOfGrammar text ts (Fault m q)) (cut mine.tokens fault.tokens mine.cut fault.cut) mine.is) fault.is)
 
--- and of what may be too many
-pub early_by_tokens : (text : List ℕ) (e : Refusal) → (IsFault {A = Config} (Err e) → length text ≤ 262144 → HasNoTokens text) → NamesNoneEarly text e
-early_by_tokens text Memory none = λ out short ts cut. tt
-early_by_tokens text (Fault number place) none = λ out short ts cut. absurd (none tt short ts cut)
+-- a text that spells a configuration has none
+pub no_grammar_of_spelled : IsNoFault → (text : List ℕ) (tokens : List Token) (c : Config) → ((ts : List Token) → AreTokens text 0 ts → ts ≡ tokens) → AfterLines (SpellsConfig text c) tokens [] → IsSmall c → (e : Refusal) → HasFaultOfGrammar text e → ⊥
+no_grammar_of_spelled law text tokens c only spelled small e fault =
+    law text fault.tokens c e fault.cut (subst (λ ts. AfterLines (SpellsConfig text c) ts []) (sym (only fault.tokens fault.cut)) spelled) small fault.is
 
-pub early_by_parser : (text : List ℕ) (e : Refusal) (tokens : List Token) → ((ts : List Token) → AreTokens text 0 ts → ts ≡ tokens) → NoneTooMany text tokens e → NamesNoneEarly text e
-early_by_parser text e tokens only early = λ out short ts cut. subst (λ xs. NoneTooMany text xs e) (sym (only ts cut)) early
-
-pub early_of_spelled : {X : Type 0} (text : List ℕ) (c : Config) → IsSpelled text c → (r : Result X Refusal) → IfErr r (NamesNoneEarly text)
-early_of_spelled text c is (Ok x) = tt
-early_of_spelled text c is (Err e) = λ out short ts cut. absurd (out c is)
+-- what is handed on
+pub handed_grammar : {X : Type 0} (text : List ℕ) (e : Refusal) (r : Result X Refusal) → IsErrAnd r (λ d. d ≡ e) → ((n : ℕ) (p : Place) → HasFaultOfGrammar text (Fault n p) → (e ≡ Fault n p) ⊎ (e ≡ Memory)) → ReportsFaultOfGrammar text r
+handed_grammar {X} text e (Ok x) same reports n p fault = absurd same
+handed_grammar {X} text e (Err d) same reports n p fault = subst (λ b. (b ≡ Fault n p) ⊎ (b ≡ Memory)) (sym same) (reports n p fault)

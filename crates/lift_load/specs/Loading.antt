@@ -8,8 +8,7 @@ use Rattle.il_spec.specs.declared.token.Token.{Token}
 use Rattle.il_spec.specs.Text.{AreTokens}
 use Rattle.il_spec.specs.Grammar.{Spells, IsWithinLimits}
 use Rattle.il_text.specs.LexicalErrors.{IsFaultOfText}
-use Rattle.il_parse.specs.Refused.{GoesOnNowhere, GoesOnBefore}
-use Rattle.il_parse.specs.Late.{NoneTooMany}
+use Rattle.il_fault_laws.specs.Faults.{IsFaultOfGrammar}
 use Rattle.il_rules.specs.Faults.{IsRefusedBy, BreaksDeclarations, Typing, Ordering, HasNoFault, Broken}
 use Rattle.il_run.specs.Annotation.{Annotated}
 use Rattle.il_ranges.specs.Lacking.{BreaksRanges}
@@ -69,11 +68,19 @@ IsNumberOfBytes number = (1 ≤ number) × (number ≤ 6)
 abbrev pub IsNumberOfGrammar : ℕ → Type 0
 IsNumberOfGrammar number = (10 ≤ number) × (number ≤ 12)
 
--- What a fault says of the text: from 1 to 6 that it is the fault of the text's bytes, by its number and its place; from 10 to 12 that the
--- text has tokens, but spells no configuration within the limits; and otherwise, from 12 on, that it spells one whose fault this is.
+-- The text is not too long and has tokens, and this is their fault of the grammar and its limits: with the token that it names no text goes on, and with
+-- those before it some text does. There is one at most.
+pub record HasFaultOfGrammar (text : List ℕ) (refusal : Refusal) : Type 0 where
+  pub short : length text ≤ 262144
+  pub tokens : List Token
+  pub cut : AreTokens text 0 tokens
+  pub is : IsFaultOfGrammar text tokens refusal
+
+-- What a fault says of the text: from 1 to 6 that it is the fault of the text's bytes, from 10 to 12 that it is the fault of the grammar of a text that
+-- spells no configuration within the limits, both by number and place; and otherwise, from 12 on, that the text spells one whose fault this is.
 pub data Explains (text : List ℕ) (number : ℕ) (place : Place) : Type 0 where
   of_bytes : IsNumberOfBytes number → IsFaultOfText text (Fault number place) → SpellsNone text → Explains text number place
-  of_grammar : IsNumberOfGrammar number → HasTokens text → SpellsNone text → Explains text number place
+  of_grammar : IsNumberOfGrammar number → HasFaultOfGrammar text (Fault number place) → SpellsNone text → Explains text number place
   of_tree : 12 ≤ number → IsSpelledWith text (Fault number place) → Explains text number place
 
 -- the same of a refusal; out of memory says nothing
@@ -85,16 +92,6 @@ IsExplained text Memory = Unit {0}
 abbrev pub ReportsFaultOfText : {X : Type 0} → List ℕ → Result X Refusal → Type 0
 ReportsFaultOfText text answer = (number : ℕ) (place : Place) → IsFaultOfText text (Fault number place) → IsErrAnd answer (λ e. (e ≡ Fault number place) ⊎ (e ≡ Memory))
 
--- Where a text that is not too long has tokens and spells no configuration, no text goes on with the token that the fault names: none with
--- the same tokens up to this one, whatever stands behind, spells a configuration that keeps the limit which the fault is about.
-abbrev pub NamesTurn : List ℕ → Refusal → Type 0
-NamesTurn text refusal = SpellsNone text → length text ≤ 262144 → (ts : List Token) → AreTokens text 0 ts → GoesOnNowhere text ts refusal
-
--- And with the tokens before it some text does: one has these tokens, of the same bytes, and others behind, and is of the language, and nothing
--- before the fault is beyond a limit.
-abbrev pub IsNamedFirst : List ℕ → Refusal → Type 0
-IsNamedFirst text refusal = SpellsNone text → length text ≤ 262144 → (ts : List Token) → AreTokens text 0 ts → GoesOnBefore text ts refusal
-
--- And before a token with which no text goes on nothing is too many, whatever text has the tokens before it.
-abbrev pub NamesNoneEarly : List ℕ → Refusal → Type 0
-NamesNoneEarly text refusal = SpellsNone text → length text ≤ 262144 → (ts : List Token) → AreTokens text 0 ts → NoneTooMany text ts refusal
+-- where the text has a fault of the grammar, the answer is this fault, or memory ran out
+abbrev pub ReportsFaultOfGrammar : {X : Type 0} → List ℕ → Result X Refusal → Type 0
+ReportsFaultOfGrammar text answer = (number : ℕ) (place : Place) → HasFaultOfGrammar text (Fault number place) → IsErrAnd answer (λ e. (e ≡ Fault number place) ⊎ (e ≡ Memory))

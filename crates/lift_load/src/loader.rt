@@ -15,10 +15,11 @@ ghost use Rattle.il_layout.specs.Whole.{unit_code};
 ghost use Rattle.il_exec.specs.Windows.{AreAllQuick};
 ghost use Rattle.il_machine.specs.Sharing.{ArePlans};
 ghost use Rattle.lift_run_laws.specs.Runs.{RunsWell};
-ghost use Rattle.lift_load.specs.Loading.{IsSpelled, SpellsOnly, SpellsNone, IsUnbroken, IsAccepted, IsRefusedFor, IsSpelledWith, IsExplained, ReportsFaultOfText, NamesTurn, IsNamedFirst, NamesNoneEarly};
+ghost use Rattle.lift_load.specs.Loading.{IsSpelled, SpellsOnly, SpellsNone, IsUnbroken, IsAccepted, IsRefusedFor, IsSpelledWith, IsExplained, ReportsFaultOfText, ReportsFaultOfGrammar};
 
 use il_code::{Code, code};
 use il_declare::declare;
+use il_fault_laws::one_fault_of_grammar;
 use il_machine::{Tables, Verified, tables_of};
 use il_order::{Ordered, ordered};
 use il_parse::{Written, parse};
@@ -46,14 +47,8 @@ pub fn load(alloc: Global, text: &[u8]) -> Result<Verified, Refusal>
     // A text whose bytes have a fault is refused with this fault and no other.
     ensures bytes { ReportsFaultOfText text.now result }
 
-    // Of a text that has tokens and spells none, no text goes on with the token that the fault names.
-    ensures nowhere { IfErr result (NamesTurn text.now) }
-
-    // With the tokens before it, some text does, in which nothing before it is beyond a limit.
-    ensures before { IfErr result (IsNamedFirst text.now) }
-
-    // Where it is 10, in no such text is anything before it too many.
-    ensures early { IfErr result (NamesNoneEarly text.now) }
+    // One that has tokens and spells no configuration within the limits is refused with its fault of the grammar and no other.
+    ensures grammar { ReportsFaultOfGrammar text.now result }
 
     // A text that spells a configuration has no other fault.
     ensures one { IsFault result → (n : ℕ) (p : Place) → IsSpelledWith text.now (Fault n p)
@@ -83,10 +78,9 @@ fn parsed(alloc: Global, text: &[u8]) -> Result<Written, Refusal>
     ensures none { IsFault result → SpellsNone text.now }
     ensures number { IfErr result (IsExplained text.now) }
     ensures bytes { ReportsFaultOfText text.now result }
-    ensures nowhere { IfErr result (NamesTurn text.now) }
-    ensures before { IfErr result (IsNamedFirst text.now) }
-    ensures early { IfErr result (NamesNoneEarly text.now) }
+    ensures grammar { ReportsFaultOfGrammar text.now result }
 {
+    one_fault_of_grammar();
     let tokens = tokens(alloc, text)?;
     let config = parse(alloc, text, &tokens)?;
     Ok(config)

@@ -3,7 +3,7 @@ use Rattle.std.specs.Prelude.{ℕ, List, Bool, Result, Option, Some, None, strin
 use Rattle.std.specs.Io.KnownBytes.{Keeps}
 use Rattle.lift_host.specs.declared.status.Fault.{Fault}
 use Rattle.lift_messages.specs.declared.output.Output.{Output}
-use Rattle.lift_messages.specs.declared.output.Output.TheVariants.{Text, Warned, Trace}
+use Rattle.lift_messages.specs.declared.output.Output.TheVariants.{Text, Warned, Trace, Ran}
 use Rattle.lift_host.specs.Writes.{Writes}
 use Rattle.lift_trace.specs.Written.{text_of_entries}
 
@@ -12,12 +12,14 @@ abbrev pub bytes_of : Output → List ℕ
 bytes_of (Text text) = string_bytes text
 bytes_of (Warned warned) = string_bytes warned.text
 bytes_of (Trace entries) = text_of_entries entries.items
+bytes_of (Ran ran) = text_of_entries ran.entries.items
 
--- the warnings of an output that may have some
+-- what an output has for the standard error, if it may have something: warnings, or what is left of a run
 abbrev pub warnings_of : Output → Option (List ℕ)
 warnings_of (Warned warned) = Some (string_bytes warned.warnings)
 warnings_of (Text text) = None
 warnings_of (Trace entries) = None
+warnings_of (Ran ran) = Some (string_bytes ran.left)
 
 -- the standard error has the warnings, or nothing
 abbrev pub WarnsOf : Option (List ℕ) → Option (List ℕ) → Option (List ℕ) → Bool → Type 0

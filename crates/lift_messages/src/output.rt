@@ -9,12 +9,14 @@ use lift_host::sink::{Sink, put_all};
 use lift_spec::journal::Entry;
 use lift_trace::write::write_trace;
 
-/// What a program prints: a text, a text with warnings for the standard error, or the trace of a journal.
+/// What a program prints: a text, a text with warnings for the standard error, the trace of a journal, or that with what is left of a run, for the
+/// standard error.
 #[derive(Drop)]
 pub enum Output {
     Text(String),
     Warned(Warned),
     Trace(Vec<Entry>),
+    Ran(Ran),
 }
 
 /// A text, and what is told beside it.
@@ -23,6 +25,13 @@ pub struct Warned {
     pub text: String,
     /// One line each.
     pub warnings: String,
+}
+
+/// A journal, and a line on what is left of its run.
+#[derive(Drop)]
+pub struct Ran {
+    pub entries: Vec<Entry>,
+    pub left: String,
 }
 
 impl Output {
@@ -39,16 +48,23 @@ impl Output {
             Output::Text(text) => put_all(sink, text.as_bytes()).is_ok(),
             Output::Warned(warned) => put_all(sink, warned.text.as_bytes()).is_ok(),
             Output::Trace(entries) => write_trace(entries, sink).is_ok(),
+            Output::Ran(ran) => write_trace(&ran.entries, sink).is_ok(),
         }
     }
 
-    /// Writes its warnings, if it may have some. A sink that fails changes nothing.
+    /// Writes what it has for the standard error, if it may have something. A sink that fails changes nothing.
     pub fn warn<S: Sink>(&self, sink: &mut S)
         ensures { Warns self.now (S.contents sink.old) (S.contents sink.new)
             (S.has_failed sink.new) }
     {
-        if let Output::Warned(warned) = self {
-            let _ = put_all(sink, warned.warnings.as_bytes());
+        match self {
+            Output::Text(_) | Output::Trace(_) => {}
+            Output::Warned(warned) => {
+                let _ = put_all(sink, warned.warnings.as_bytes());
+            }
+            Output::Ran(ran) => {
+                let _ = put_all(sink, ran.left.as_bytes());
+            }
         }
     }
 }

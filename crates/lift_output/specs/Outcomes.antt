@@ -1,5 +1,5 @@
 -- What a request gives of a verified configuration (own rules).
-use Rattle.std.specs.Prelude.{◌≡◌, ◌<◌, ◌⊎◌, ℕ, ◌+◌, ◌++◌, Bool, true, false, List, [], ◌∷◌, length, map, Option, Some, None, option_map, Ok, Err, IfOk, IfErr, string_bytes}
+use Rattle.std.specs.Prelude.{◌≡◌, ◌<◌, ◌⊎◌, ℕ, ◌+◌, ◌++◌, Bool, true, false, List, [], ◌∷◌, length, map, Option, Some, None, option_map, Ok, Err, IfOk, IfErr, codes, decimal, string_bytes}
 use Rattle.il_spec.specs.declared.tree.Config.{Config}
 use Rattle.il_reports.specs.RangeTexts.{AreRangesShown}
 use Rattle.il_machine.specs.Scanning.{Program}
@@ -82,15 +82,23 @@ abbrev pub asked_warnings : Bool → Program → Option (List ℕ)
 asked_warnings true program = Some (warnings_text program.config)
 asked_warnings false program = None
 
-abbrev pub wanted_warnings : Request → Program → Option (List ℕ)
-wanted_warnings (request.Check checked) program = asked_warnings checked.warns program
-wanted_warnings (request.Show command shown) program = None
-wanted_warnings (request.Rounds command asked) program = None
-wanted_warnings (request.Trace command traced) program = None
-
 -- an output has these warnings
 abbrev pub HasWarnings : Option (List ℕ) → Outcome → Type 0
 HasWarnings warnings outcome = IfOk outcome (λ output. warnings_of output ≡ warnings)
+
+-- what a simulation in one thread has none of; what `run` has for the standard error is what it says of the calls that are left
+abbrev pub AreRoundsWarned : Simulating → Outcome → Type 0
+AreRoundsWarned simulating.Sim outcome = HasWarnings None outcome
+AreRoundsWarned simulating.Run outcome = Unit {0}
+AreRoundsWarned simulating.Denials outcome = HasWarnings None outcome
+AreRoundsWarned simulating.Watch outcome = HasWarnings None outcome
+
+-- an output has the warnings that its request asks for
+abbrev pub AreWarned : Request → Program → Outcome → Type 0
+AreWarned (request.Check checked) program outcome = HasWarnings (asked_warnings checked.warns program) outcome
+AreWarned (request.Show command shown) program outcome = HasWarnings None outcome
+AreWarned (request.Rounds command asked) program outcome = AreRoundsWarned command outcome
+AreWarned (request.Trace command traced) program outcome = HasWarnings None outcome
 
 -- WHAT A TEXT SHOWS
 
@@ -204,11 +212,20 @@ IsSimOutcome program asked calls (Err why) = IsUndriven (sizes_of program.config
 
 -- RUN
 
+-- `left in hand N, on desk M`
+abbrev pub left_line : Left → List ℕ
+left_line left = codes "left in hand " ++ (decimal (length left.hand) ++ (codes ", on desk " ++ (decimal (length left.desk) ++ codes "\n")))
+
+-- what is told of the calls that are left, where that is asked for
+abbrev pub told_left : Bool → Left → Option (List ℕ)
+told_left true left = Some (left_line left)
+told_left false left = None
+
 -- The trace is that of a journal of the program, a run from its opening in whatever order the threads came: each task was started and
 -- committed in each of so many rounds, and the image was refreshed by the plant in each, under the settings of the words and of the file and safe
 -- for those in the cars. Their calls are kept: none is lost and none is doubled, and what the trace doesn't enter is left in the collector's hand
--- or on the desk.
-pub record IsTraceOfRun (program : Program) (asked : Rounds) (calls : Reading) (text : List ℕ) : Type 0 where
+-- or on the desk. How many are left there is told, where that is asked for.
+pub record IsTraceOfRun (program : Program) (asked : Rounds) (calls : Reading) (text : List ℕ) (told : Option (List ℕ)) : Type 0 where
   pub presses : List Press
   pub settings : List Setting
   pub driven : AreDriven (sizes_of program.config) asked calls presses settings
@@ -216,10 +233,11 @@ pub record IsTraceOfRun (program : Program) (asked : Rounds) (calls : Reading) (
   pub left : Left
   pub ran : IsRun program.config (switches_in (sizes_of program.config).cars settings) asked.rounds presses entries left
   pub trace : text ≡ text_of_entries entries
+  pub said : told ≡ told_left asked.left left
 
 -- `run` prints its trace, where the words and the file are good.
 abbrev pub IsRunOutcome : Program → Rounds → Reading → Outcome → Type 0
-IsRunOutcome program asked calls (Ok output) = IsTraceOfRun program asked calls (bytes_of output)
+IsRunOutcome program asked calls (Ok output) = IsTraceOfRun program asked calls (bytes_of output) (warnings_of output)
 IsRunOutcome program asked calls (Err why) = IsUndriven (sizes_of program.config) asked calls why
 
 -- DENIALS

@@ -4,7 +4,7 @@ ghost use Rattle.std.specs.Prelude.{◌≡◌, ◌≢◌, ◌≤◌, ◌+◌, �
 ghost use Rattle.lift_spec.specs.Image.{sizes_of};
 ghost use Rattle.lift_spec.specs.World.{opening};
 ghost use Rattle.lift_trace.specs.Reading.{Reads, greatest_trace};
-ghost use Rattle.lift_output.specs.Outcomes.{IsCheckOutcome, check_shown, IsShowOutcome, HasWarnings, asked_warnings, wanted_warnings, IsFire, IsNoFire, calls_word, fire_settings, AreOfFile, AreOfReading, HasBadCalls, IsBadReading, AreDriven, IsUndriven, IsSimOutcome, IsRunOutcome, IsDenialsOutcome, IsWatchOutcome, IsRoundsOutcome, IsCallsText, IsFollowed, IsTraceOutcome, IsToldOutcome, IsProgramOutcome};
+ghost use Rattle.lift_output.specs.Outcomes.{IsCheckOutcome, check_shown, IsShowOutcome, HasWarnings, asked_warnings, AreWarned, AreRoundsWarned, left_line, told_left, IsFire, IsNoFire, calls_word, fire_settings, AreOfFile, AreOfReading, HasBadCalls, IsBadReading, AreDriven, IsUndriven, IsSimOutcome, IsRunOutcome, IsDenialsOutcome, IsWatchOutcome, IsRoundsOutcome, IsCallsText, IsFollowed, IsTraceOutcome, IsToldOutcome, IsProgramOutcome};
 ghost use Rattle.lift_output.specs.Tellings.{telling_of};
 ghost use Rattle.lift_output.specs.Parts.{fault_of_trace, fault_of_calls, IsTraceUnread, IsBadText, AreFollowed, AreValued, IsWatched};
 ghost use Rattle.lift_runs.specs.Driven.{ArePressed, AreSettings, switches_in};
@@ -14,6 +14,8 @@ ghost use Rattle.lift_watch.specs.Names.{upper_case};
 ghost use Rattle.lift_spec.specs.EventFaults.{event_fault_number};
 ghost use Rattle.lift_workers.specs.Panels.{IsPressAt};
 ghost use Rattle.lift_workers.specs.Ran.{IsRun};
+ghost use Rattle.lift_messages.specs.Outputs.{bytes_of, warnings_of};
+ghost use Rattle.lift_trace.specs.Written.{text_of_entries};
 
 use crate::check::check_text;
 use crate::image::image_text;
@@ -23,6 +25,7 @@ use crate::span::span_of;
 use crate::telling::Telling;
 use il_machine::Verified;
 use il_reports::{ranges_text, warnings_text, xref_text};
+use lift_desk::DeskClosed;
 use lift_draw::{Stop, drawing};
 use lift_host::calls::{CallsFault, CallsFile, read_calls};
 use lift_host::files::Reading;
@@ -34,6 +37,7 @@ use lift_host::status::Fault;
 use lift_journeys::lines::lines_text;
 use lift_journeys::log::Log;
 use lift_journeys::summary::summary_text;
+use lift_messages::output;
 use lift_messages::output::{Output, Warned};
 use lift_runs::along;
 use lift_runs::replay::{Refused, replay};
@@ -67,7 +71,7 @@ pub fn outcome(
 ) -> Result<Output, Fault>
     requires { command_of request ≢ Name.Rounds Simulating.Run }
     ensures is { IsProgramOutcome request.entry verified source.now other.now result }
-    ensures warned { HasWarnings (wanted_warnings request.entry verified) result }
+    ensures warned { AreWarned request.entry verified result }
     ensures unwritten { result ≢ Err Fault.CannotWrite }
 {
     match request {
@@ -111,7 +115,7 @@ fn rounds_outcome(
     requires { command ≢ Simulating.Run }
     ensures is { IsRoundsOutcome command verified asked.entry calls.now result }
     ensures unwritten { result ≢ Err Fault.CannotWrite }
-    ensures warned { HasWarnings None result }
+    ensures warned { AreRoundsWarned command result }
 {
     match command {
         Simulating::Sim => simulated(alloc, verified, asked, calls),
@@ -468,6 +472,31 @@ fn run_in_threads<R: Threads + Wait + Sync>(
     }
 }
 
+// How many calls a run left.
+fn left_text(alloc: Global, left: &DeskClosed) -> Result<String, AllocError>
+    ensures { IfOk result (λ text. string_bytes text ≡ left_line left.now) }
+{
+    let in_hand = left.hand().len();
+    let on_desk = left.desk().len();
+    format!(in alloc; "left in hand {}, on desk {}\n", in_hand, on_desk)
+}
+
+// What is printed of a run, and of the calls that it left, where that is asked for.
+fn ran_output(alloc: Global, ran: Ran, left: bool) -> Result<Output, Fault>
+    ensures trace { IfOk result (λ output. bytes_of output ≡ text_of_entries ran.journal.items) }
+    ensures left { IfOk result (λ output. warnings_of output ≡ told_left left ran.left) }
+    ensures memory { IfErr result (λ why. why ≡ Fault.NoMemory) }
+{
+    if !left {
+        return Ok(Output::Trace(ran.journal));
+    }
+    let Ran { journal, left } = ran;
+    Ok(Output::Ran(output::Ran {
+        entries: journal,
+        left: left_text(alloc, &left)?,
+    }))
+}
+
 /// What `run` prints over a verified configuration, with what was read of its file behind `--calls`, or why it prints nothing. It starts
 /// threads and waits for them.
 pub fn ran<R: Threads + Wait + Sync>(
@@ -479,7 +508,6 @@ pub fn ran<R: Threads + Wait + Sync>(
 ) -> Result<Output, Fault>
     ensures is { IsRunOutcome verified asked.entry calls.now result }
     ensures unwritten { result ≢ Err Fault.CannotWrite }
-    ensures warned { HasWarnings None result }
 {
     match drive_of(alloc, asked, verified.sizes(), calls) {
         Ok(driven) => {
@@ -489,7 +517,7 @@ pub fn ran<R: Threads + Wait + Sync>(
                 settings: driven.settings.as_slice(),
             };
             match run_in_threads(rt, alloc, verified, plan, asked.flag) {
-                Ok(ran) => Ok(Output::Trace(ran.journal)),
+                Ok(ran) => ran_output(alloc, ran, asked.left),
                 // No memory, or no room.
                 Err(_) => Err(Fault::NoMemory),
             }

@@ -97,6 +97,9 @@ pub record AtStop : Type 0 where
   pub out_failed : Bool
   pub trace_failed : Bool
 
+abbrev pub at_stop : Option (List ℕ) → Bool → Bool → AtStop
+at_stop left out_failed trace_failed = record { left = left; out_failed = out_failed; trace_failed = trace_failed }
+
 -- so many lines can be counted, and the number of the one behind them
 abbrev pub most_lines : ℕ
 most_lines = 18446744073709551614

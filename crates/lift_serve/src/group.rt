@@ -4,6 +4,7 @@ ghost use Rattle.std.specs.Prelude.{◌≡◌, None, OnOk, IfErr};
 ghost use Rattle.std.specs.Io.KnownBytes.{Appends, Consumes};
 ghost use Rattle.lift_host.specs.Writes.{AppendsFront};
 ghost use Rattle.lift_serve.specs.Ending.{Ends, IsEnded, IsHalted, IsHaltWritten};
+ghost use Rattle.lift_serve.specs.Serving.{at_stop};
 
 use crate::serve::{Stop, Stopped, serve};
 use crate::server::{ServeFault, Server};
@@ -11,15 +12,18 @@ use il_machine::Verified;
 use lift_host::sink::{Sink, put_all};
 use std::alloc::Global;
 use std::io::Read;
+use thiserror::Error;
 
 /// Why a group didn't come to its end.
-#[derive(Clone, Copy)]
+#[derive(Clone, Copy, Debug, Error)]
 pub enum Halt {
     /// Memory is missing for it to open.
+    #[error("out of memory")]
     Memory,
-    /// The head of the trace can't be written.
+    #[error("the head of the trace can't be written")]
     Head,
     /// A line was not answered, or none came.
+    #[error(transparent)]
     Stop(Stopped),
 }
 
@@ -35,11 +39,8 @@ pub fn serve_group<R: Read, O: Sink, T: Sink>(
         (Consumes (R.remaining reader.old) (R.remaining reader.new))
         (Appends (O.contents out.old) (O.contents out.new))
         (Appends (T.contents trace.old) (T.contents trace.new))) }
-    ensures halted { IfErr result (λ halt. IsHalted verified.config (record {
-      left = R.remaining reader.new;
-      out_failed = O.has_failed out.new;
-      trace_failed = T.has_failed trace.new;
-    }) (Consumes (R.remaining reader.old) (R.remaining reader.new)) (O.contents out.old)
+    ensures halted { IfErr result (λ halt. IsHalted verified.config (at_stop (R.remaining reader.new)
+        (O.has_failed out.new) (T.has_failed trace.new)) (Consumes (R.remaining reader.old) (R.remaining reader.new)) (O.contents out.old)
         (O.contents out.new)
         (Appends (T.contents trace.old) (T.contents trace.new))
         (AppendsFront (T.contents trace.old) (T.contents trace.new)) halt) }

@@ -14,7 +14,7 @@ enum NextByte {
 }
 
 /// How a line came: with its line feed; the input ended first; it is longer than a line may be; or the reader failed.
-#[derive(Clone, Copy)]
+#[derive(Clone, Copy, Debug)]
 pub enum Came {
     Whole,
     Ended,

@@ -21,7 +21,7 @@ pub enum Said {
 }
 
 /// Why a line says nothing to the group.
-#[derive(Clone, Copy)]
+#[derive(Clone, Copy, Debug)]
 pub enum WrongLine {
     /// It is none of the three.
     NoLine,

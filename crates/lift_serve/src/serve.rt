@@ -3,26 +3,29 @@
 ghost use Rattle.std.specs.Prelude.{◌≡◌, ◌≤◌, None, OnOk, IfErr, vec_capacity};
 ghost use Rattle.std.specs.Io.KnownBytes.{Appends, Consumes};
 ghost use Rattle.lift_host.specs.Writes.{AppendsFront};
-ghost use Rattle.lift_serve.specs.Serving.{IsServer, IsServed, IsStopped};
+ghost use Rattle.lift_serve.specs.Serving.{IsServer, IsServed, IsStopped, at_stop};
 
 use crate::input::{Came, next_line};
 use crate::server::{ServeFault, Server};
 use lift_host::sink::Sink;
 use std::io::Read;
+use thiserror::Error;
 
 /// Why serving ends before the end was said.
-#[derive(Clone, Copy)]
+#[derive(Clone, Copy, Debug, Error)]
 pub enum Stop {
     /// A whole line was not answered.
+    #[error(transparent)]
     Line(ServeFault),
-    /// No whole line came.
+    #[error("no whole line came")]
     Input(Came),
-    /// There are as many lines as can be counted.
+    #[error("no more lines can be counted")]
     Lines,
 }
 
 /// Why serving ends before the end was said, and at which line; they count from 1.
-#[derive(Clone, Copy)]
+#[derive(Clone, Copy, Debug, Error)]
+#[error("line {line}: {stop}")]
 pub struct Stopped {
     pub stop: Stop,
     pub line: u64,
@@ -47,11 +50,8 @@ pub fn serve<R: Read, O: Sink, T: Sink>(
         (Appends (O.contents out.old) (O.contents out.new))
         (Appends (T.contents trace.old) (T.contents trace.new))) }
     ensures stopped { IfErr result (λ s. IsStopped server.old.world.program.config
-        server.old.world.world server.old.count (record {
-          left = R.remaining reader.new;
-          out_failed = O.has_failed out.new;
-          trace_failed = T.has_failed trace.new;
-        }) (Consumes (R.remaining reader.old) (R.remaining reader.new))
+        server.old.world.world server.old.count (at_stop (R.remaining reader.new)
+        (O.has_failed out.new) (T.has_failed trace.new)) (Consumes (R.remaining reader.old) (R.remaining reader.new))
         (Appends (O.contents out.old) (O.contents out.new))
         (AppendsFront (O.contents out.old) (O.contents out.new))
         (Appends (T.contents trace.old) (T.contents trace.new))

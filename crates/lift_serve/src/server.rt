@@ -27,19 +27,21 @@ use lift_spec::report::Report;
 use lift_spec::{Bounded, Sizes, TASK_PLACES};
 use lift_world::World;
 use std::alloc::{AllocError, Global};
+use thiserror::Error;
 
-/// Why serving stops.
-#[derive(Clone, Copy)]
+/// Why a line isn't answered.
+#[derive(Clone, Copy, Debug, Error)]
 pub enum ServeFault {
-    /// The line says nothing to the group.
+    #[error("the line says nothing to the group")]
     WrongLine(WrongLine),
-    /// The trace can't be written.
+    #[error("the trace can't be written")]
     Trace,
-    /// The answer can't be written.
+    #[error("the answer can't be written")]
     Output,
     /// An allocation failed.
+    #[error("out of memory")]
     Memory,
-    /// There are as many events as can be counted.
+    #[error("the events of the line can't be counted any more")]
     Full,
 }
 

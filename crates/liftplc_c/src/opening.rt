@@ -6,7 +6,7 @@ ghost use Rattle.il_spec.specs.declared.fault.Refusal.TheVariants.{Fault};
 ghost use Rattle.il_spec.specs.declared.tree.Config.{Config as ConfigOf};
 ghost use Rattle.il_spec.specs.declared.tree.Place.{Place};
 ghost use Rattle.il_text.specs.LexicalErrors.{IsFaultOfText};
-ghost use Rattle.lift_load.specs.Loading.{IsAccepted, IsExplained, IsRefusedFor, IsSpelled, IsSpelledWith, ReportsFaultOfText};
+ghost use Rattle.lift_load.specs.Loading.{IsAccepted, IsExplained, IsRefusedFor, IsSpelled, IsSpelledWith, HasFaultOfGrammar, ReportsFaultOfText, ReportsFaultOfGrammar};
 ghost use Rattle.lift_run_laws.specs.Runs.{RunsWell};
 ghost use Rattle.lift_spec.specs.World.{opening};
 ghost use Rattle.lift_world.specs.Worlds.{WorldOf};
@@ -43,6 +43,7 @@ fn opened(alloc: Global, text: &[u8]) -> Result<Box<Rounds, Global>, Refusal>
         → IsErrAnd result (IsRefusedFor c) }
     ensures number { IfErr result (IsExplained text.now) }
     ensures bytes { ReportsFaultOfText text.now result }
+    ensures grammar { ReportsFaultOfGrammar text.now result }
     ensures one { IsFault result → (n : ℕ) (p : Place) → IsSpelledWith text.now (Fault n p)
         → IsErrAnd result (λ e. e ≡ Fault n p) }
 {
@@ -72,6 +73,8 @@ pub extern "C" fn liftplc_open(
         → IsRefusedFor c (fault_in refusal.new) }
     ensures number { result ≡ 1 → IsExplained text.now (fault_in refusal.new) }
     ensures bytes { (n : ℕ) (p : Place) → IsFaultOfText text.now (Fault n p) → (result ≡ 2)
+        ⊎ (result ≡ 3) ⊎ ((result ≡ 1) × (fault_in refusal.new ≡ Fault n p)) }
+    ensures grammar { (n : ℕ) (p : Place) → HasFaultOfGrammar text.now (Fault n p) → (result ≡ 2)
         ⊎ (result ≡ 3) ⊎ ((result ≡ 1) × (fault_in refusal.new ≡ Fault n p)) }
     ensures one { result ≡ 1 → (n : ℕ) (p : Place) → IsSpelledWith text.now (Fault n p)
         → fault_in refusal.new ≡ Fault n p }

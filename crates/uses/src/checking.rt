@@ -6,7 +6,7 @@ ghost use Rattle.il_parse.specs.Refused.{IsFault};
 ghost use Rattle.il_spec.specs.declared.fault.Refusal.TheVariants.{Fault};
 ghost use Rattle.il_spec.specs.declared.tree.Config.{Config};
 ghost use Rattle.il_spec.specs.declared.tree.Place.{Place};
-ghost use Rattle.lift_load.specs.Loading.{IsAccepted, IsExplained, IsRefusedFor, IsSpelled, IsSpelledWith, ReportsFaultOfText};
+ghost use Rattle.lift_load.specs.Loading.{IsAccepted, IsExplained, IsRefusedFor, IsSpelled, IsSpelledWith, ReportsFaultOfText, ReportsFaultOfGrammar};
 ghost use Rattle.uses.specs.Budgets.{AreBudgets};
 
 use il_machine::Verified;
@@ -28,6 +28,7 @@ pub fn budgets(alloc: Global, text: &[u8]) -> Result<Vec<u32>, Refusal>
     ensures one { IsFault result → (n : ℕ) (p : Place) → IsSpelledWith text.now (Fault n p)
         → IsErrAnd result (λ e. e ≡ Fault n p) }
     ensures bytes { ReportsFaultOfText text.now result }
+    ensures grammar { ReportsFaultOfGrammar text.now result }
 {
     let verified = load(alloc, text)?;
     let budgets = listed(alloc, &verified);

@@ -10,4 +10,5 @@ returns c = record {
   number = c.load.ensures.number;
   one = c.load.ensures.one;
   bytes = c.load.ensures.bytes;
+  grammar = c.load.ensures.grammar;
 }

@@ -1,6 +1,6 @@
 use Rattle.il_spec.specs.declared.tree.Config.{Config}
-use Rattle.lift_load.specs.Loading.{IsExplained, NamesTurn, IsNamedFirst, NamesNoneEarly}
-use Rattle.lift_load.proofs.Explaining.{handed_as, nowhere_of_spelled, before_of_spelled, early_of_spelled, handed_report, no_fault_of_spelled}
+use Rattle.lift_load.specs.Loading.{IsExplained}
+use Rattle.lift_load.proofs.Explaining.{handed_as, handed_report, handed_grammar, no_fault_of_spelled}
 use Rattle.lift_load.proofs.Accepting.{handed_on}
 use Rattle.lift_load.proofs.Phases.{found_by, runs_by, refused_by, named_by, explained_by}
 use Rattle.lift_load.proofs.OneFault.{one_by}
@@ -23,11 +23,8 @@ returns-in_err-config-clause-one c = λ fault n l w. absurd (c.in_err-config.ens
 pub returns-in_err-config-clause-bytes : goal.returns-in_err-config-clause-bytes
 returns-in_err-config-clause-bytes c = handed_report c.args.text.now _ _ c.from_residual.ensures.1 c.in_err-config.ensures.bytes
 
-pub returns-in_err-config-clause-nowhere : goal.returns-in_err-config-clause-nowhere
-returns-in_err-config-clause-nowhere c = handed_as (NamesTurn c.args.text.now) _ _ c.from_residual.ensures.1 c.in_err-config.ensures.nowhere
-
-pub returns-in_err-config-clause-before : goal.returns-in_err-config-clause-before
-returns-in_err-config-clause-before c = handed_as (IsNamedFirst c.args.text.now) _ _ c.from_residual.ensures.1 c.in_err-config.ensures.before
+pub returns-in_err-config-clause-grammar : goal.returns-in_err-config-clause-grammar
+returns-in_err-config-clause-grammar c = handed_grammar c.args.text.now _ _ c.from_residual.ensures.1 c.in_err-config.ensures.grammar
 
 -- THE CONFIGURATION
 
@@ -52,14 +49,5 @@ returns-clause-one c = one_by c.args.text.now c.in_ok-config.config c.in_ok-conf
 pub returns-clause-bytes : goal.returns-clause-bytes
 returns-clause-bytes c = λ n l fault. absurd (no_fault_of_spelled c.args.text.now c.in_ok-config.config n l c.in_ok-config.ensures.only.spelled fault)
 
-pub returns-clause-nowhere : goal.returns-clause-nowhere
-returns-clause-nowhere c = nowhere_of_spelled c.args.text.now c.in_ok-config.config c.in_ok-config.ensures.only.spelled c.verified.result
-
-pub returns-in_err-config-clause-early : goal.returns-in_err-config-clause-early
-returns-in_err-config-clause-early c = handed_as (NamesNoneEarly c.args.text.now) _ _ c.from_residual.ensures.1 c.in_err-config.ensures.early
-
-pub returns-clause-early : goal.returns-clause-early
-returns-clause-early c = early_of_spelled c.args.text.now c.in_ok-config.config c.in_ok-config.ensures.only.spelled c.verified.result
-
-pub returns-clause-before : goal.returns-clause-before
-returns-clause-before c = before_of_spelled c.args.text.now c.in_ok-config.config c.in_ok-config.ensures.only.spelled c.verified.result
+pub returns-clause-grammar : goal.returns-clause-grammar
+returns-clause-grammar c = λ n p fault. absurd (c.in_ok-config.ensures.grammar n p fault)

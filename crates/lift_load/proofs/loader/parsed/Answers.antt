@@ -1,8 +1,10 @@
-use Rattle.std.proofs.Common.{sym, ◌∙◌}
+use Rattle.std.proofs.Common.{sym, ◌∙◌, subst}
+use Rattle.il_spec.specs.Text.{AreTokens}
 use Rattle.il_spec.specs.declared.tree.Config.{Config}
 use Rattle.il_grammar_laws.proofs.Spelled.{spelled_written}
-use Rattle.lift_load.specs.Loading.{IsExplained, NamesTurn, IsNamedFirst, NamesNoneEarly}
-use Rattle.lift_load.proofs.Explaining.{handed_as, nowhere_by_tokens, nowhere_by_parser, before_by_tokens, before_by_parser, early_by_tokens, early_by_parser, explained_by_tokens, explained_by_parser, reported_by_tokens, no_fault_of_bytes}
+use Rattle.il_text.proofs.Cut.{cut}
+use Rattle.lift_load.specs.Loading.{IsExplained}
+use Rattle.lift_load.proofs.Explaining.{handed_as, explained_by_tokens, explained_by_parser, reported_by_tokens, no_fault_of_bytes, fault_of_parser, no_grammar_by_tokens, reported_by_parser, no_grammar_of_spelled}
 use Rattle.lift_load.proofs.Accepting.{handed_on, none_spelled}
 use Rattle.lift_load.proofs.Phases.{spells_only}
 use Rattle.lift_load.proofs.loader.parsed.Goals as goal
@@ -18,16 +20,15 @@ returns-in_err-tokens-clause-number c = handed_as (IsExplained c.args.text.now) 
 pub returns-in_err-tokens-clause-bytes : goal.returns-in_err-tokens-clause-bytes
 returns-in_err-tokens-clause-bytes c = reported_by_tokens c.args.text.now _ _ c.from_residual.ensures.1 c.in_err-tokens.ensures.fault
 
-pub returns-in_err-tokens-clause-nowhere : goal.returns-in_err-tokens-clause-nowhere
-returns-in_err-tokens-clause-nowhere c = handed_as (NamesTurn c.args.text.now) _ _ c.from_residual.ensures.1 (nowhere_by_tokens c.args.text.now _ c.in_err-tokens.ensures.refused)
-
-pub returns-in_err-tokens-clause-early : goal.returns-in_err-tokens-clause-early
-returns-in_err-tokens-clause-early c = handed_as (NamesNoneEarly c.args.text.now) _ _ c.from_residual.ensures.1 (early_by_tokens c.args.text.now _ c.in_err-tokens.ensures.refused)
-
-pub returns-in_err-tokens-clause-before : goal.returns-in_err-tokens-clause-before
-returns-in_err-tokens-clause-before c = handed_as (IsNamedFirst c.args.text.now) _ _ c.from_residual.ensures.1 (before_by_tokens c.args.text.now _ c.in_err-tokens.ensures.refused)
+pub returns-in_err-tokens-clause-grammar : goal.returns-in_err-tokens-clause-grammar
+returns-in_err-tokens-clause-grammar c = no_grammar_by_tokens c.args.text.now _ _ c.from_residual.ensures.1 c.in_err-tokens.ensures.refused
 
 -- NO TREE
+
+pub returns-in_err-config-clause-grammar : goal.returns-in_err-config-clause-grammar
+returns-in_err-config-clause-grammar c =
+    reported_by_parser c.one_fault_of_grammar.ensures.once c.args.text.now _ _ c.from_residual-in_err-config.ensures.1 (cut c.args.text.now)
+    (λ fault. fault_of_parser c.args.text.now _ c.deref.result.now c.in_ok-tokens.ensures.short (subst (AreTokens c.args.text.now 0) (sym c.deref.ensures.value) c.in_ok-tokens.ensures.found) fault c.in_err-config.ensures.nowhere c.in_err-config.ensures.before c.in_err-config.ensures.early)
 
 pub returns-in_err-config-clause-bytes : goal.returns-in_err-config-clause-bytes
 returns-in_err-config-clause-bytes c = λ n l fault. absurd (no_fault_of_bytes c.args.text.now _ n l c.in_ok-tokens.ensures.short c.in_ok-tokens.ensures.found fault)
@@ -39,22 +40,7 @@ returns-in_err-config-clause-none c = λ fault.
 pub returns-in_err-config-clause-number : goal.returns-in_err-config-clause-number
 returns-in_err-config-clause-number c =
     handed_as (IsExplained c.args.text.now) _ _ c.from_residual-in_err-config.ensures.1
-    (explained_by_parser c.args.text.now _ c.in_err-config.ensures.number (c.in_ok-tokens.ensures.short, (_, c.in_ok-tokens.ensures.found)) (λ fault. none_spelled c.args.text.now c.deref.result.now (λ ts cut. c.in_ok-tokens.ensures.only ts cut ∙ sym c.deref.ensures.value) (c.in_err-config.ensures.refused fault)))
-
-pub returns-in_err-config-clause-nowhere : goal.returns-in_err-config-clause-nowhere
-returns-in_err-config-clause-nowhere c =
-    handed_as (NamesTurn c.args.text.now) _ _ c.from_residual-in_err-config.ensures.1
-    (nowhere_by_parser c.args.text.now _ c.deref.result.now (λ ts cut. c.in_ok-tokens.ensures.only ts cut ∙ sym c.deref.ensures.value) c.in_err-config.ensures.nowhere)
-
-pub returns-in_err-config-clause-early : goal.returns-in_err-config-clause-early
-returns-in_err-config-clause-early c =
-    handed_as (NamesNoneEarly c.args.text.now) _ _ c.from_residual-in_err-config.ensures.1
-    (early_by_parser c.args.text.now _ c.deref.result.now (λ ts cut. c.in_ok-tokens.ensures.only ts cut ∙ sym c.deref.ensures.value) c.in_err-config.ensures.early)
-
-pub returns-in_err-config-clause-before : goal.returns-in_err-config-clause-before
-returns-in_err-config-clause-before c =
-    handed_as (IsNamedFirst c.args.text.now) _ _ c.from_residual-in_err-config.ensures.1
-    (before_by_parser c.args.text.now _ c.deref.result.now (λ ts cut. c.in_ok-tokens.ensures.only ts cut ∙ sym c.deref.ensures.value) c.in_err-config.ensures.before)
+    (explained_by_parser c.args.text.now _ c.in_err-config.ensures.number (λ fault. fault_of_parser c.args.text.now _ c.deref.result.now c.in_ok-tokens.ensures.short (subst (AreTokens c.args.text.now 0) (sym c.deref.ensures.value) c.in_ok-tokens.ensures.found) fault c.in_err-config.ensures.nowhere c.in_err-config.ensures.before c.in_err-config.ensures.early) (λ fault. none_spelled c.args.text.now c.deref.result.now (λ ts cut. c.in_ok-tokens.ensures.only ts cut ∙ sym c.deref.ensures.value) (c.in_err-config.ensures.refused fault)))
 
 -- THE CONFIGURATION
 
@@ -70,3 +56,7 @@ returns-clause-nested c = c.in_ok-config.ensures.small.nesting
 
 pub returns-clause-bytes : goal.returns-clause-bytes
 returns-clause-bytes c = λ n l fault. no_fault_of_bytes c.args.text.now _ n l c.in_ok-tokens.ensures.short c.in_ok-tokens.ensures.found fault
+
+pub returns-clause-grammar : goal.returns-clause-grammar
+returns-clause-grammar c = λ n p fault.
+    no_grammar_of_spelled c.one_fault_of_grammar.ensures.none c.args.text.now c.in_ok-config.ensures.spelled.0 c.in_ok-config.config (λ ts is. cut c.args.text.now ts c.in_ok-config.ensures.spelled.0 is c.in_ok-config.ensures.spelled.1) c.in_ok-config.ensures.spelled.2 c.in_ok-config.ensures.small _ fault

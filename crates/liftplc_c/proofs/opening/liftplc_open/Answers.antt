@@ -15,3 +15,10 @@ returns-in-Err-Fault-clause-bytes c number place is =
 
 pub returns-in-Err-Fault-clause-one : goal.returns-in-Err-Fault-clause-one
 returns-in-Err-Fault-clause-one c _ number place spelled = one_at c.in-Err-Fault.field-0 c.in-Err-Fault.number c.in-Err-Fault.place (Fault number place) c.in-Err-Fault.field-0-is (λ yes. c.in-Err-Fault.ensures.one yes number place spelled)
+
+pub returns-in-Ok-clause-grammar : goal.returns-in-Ok-clause-grammar
+returns-in-Ok-clause-grammar c number place is = absurd (c.in-Ok.ensures.grammar number place is)
+
+pub returns-in-Err-Fault-clause-grammar : goal.returns-in-Err-Fault-clause-grammar
+returns-in-Err-Fault-clause-grammar c number place is =
+    inr (inr (refl, bytes_at c.in-Err-Fault.field-0 c.in-Err-Fault.number c.in-Err-Fault.place (Fault number place) c.in-Err-Fault.field-0-is (c.in-Err-Fault.ensures.grammar number place is)))

@@ -31,3 +31,6 @@ pub returns-clause-led : goal.returns-clause-led
 returns-clause-led c =
     let of = ap (λ (r : Rounds). r.world) c.in_ok-new.ensures.ok ∙ c.of.ensures in
     subst (λ (w : WorldOf). IsLed w) (sym of) c.led.ensures
+
+pub returns-in_err-new-clause-grammar : goal.returns-in_err-new-clause-grammar
+returns-in_err-new-clause-grammar c number place is = memory_at c.from_residual-in_err-new.result (Fault number place) c.from_residual-in_err-new.ensures.1

@@ -1,0 +1,13 @@
+pub mod Parts
+pub mod Order
+pub mod Runs
+pub mod Headings
+pub mod Surplus
+pub mod Completed
+pub mod Through
+pub mod Found
+pub mod Ends
+pub mod Many
+pub mod Behind
+pub mod Before
+pub mod Once
