@@ -1,6 +1,6 @@
 -- An event that is refused in the front of a trace.
-use Rattle.std.proofs.Common.{ℕ, List, ◌∷◌, ◌++◌, take, drop, sym, ap, ◌∙◌}
-use Rattle.std.proofs.lemmas.List.{take-append-drop, append_assoc}
+use Rattle.std.proofs.Common.{◌<◌, ℕ, List, ◌∷◌, ◌++◌, length, take, drop, sym, ap, ◌∙◌, arith, length-append}
+use Rattle.std.proofs.lemmas.List.{take-append-drop, append_assoc, length-take}
 use Rattle.il_spec.specs.declared.tree.Config.{Config}
 use Rattle.lift_spec.specs.declared.event.EventFault.{EventFault}
 use Rattle.lift_spec.specs.declared.trace.TraceEvent.{TraceEvent}
@@ -19,3 +19,12 @@ refused_in_front c w n events index fault r = record {
   taken = r.taken;
   refused = r.refused;
 }
+
+-- and stands in front of what is behind
+pub early_in_front : (c : Config) (w : World) (n : ℕ) (events : List TraceEvent) (index : ℕ) (fault : EventFault) → IsRefusedAt c w (take n events) index fault → index < n
+early_in_front c w n events index fault r =
+    let long = ap (λ (es : List TraceEvent). length es) r.are in
+    let parts = length-append r.first (r.event ∷ r.rest) in
+    let front = length-take n events in
+    let at = r.behind in
+    omega (arith, long, parts, front, at)

@@ -1,8 +1,9 @@
 -- What `scan` prints (own rules).
-use Rattle.std.specs.Prelude.{◌≡◌, ℕ, zero, suc, ◌==◌, Bool, true, false, not, List, [], ◌++◌, take, Option, Some, None, Ok, codes, decimal}
+use Rattle.std.specs.Prelude.{◌≡◌, ℕ, zero, suc, ◌<◌, ◌==◌, Bool, true, false, not, List, [], ◌++◌, take, Option, Some, None, Ok, codes, decimal}
 use Rattle.il_spec.specs.declared.tree.Config.{Config}
 use Rattle.il_run.specs.State.{State}
 use Rattle.lift_spec.specs.declared.event.Event.TheVariants.{Instruction}
+use Rattle.lift_spec.specs.declared.event.EventFault.{EventFault}
 use Rattle.lift_spec.specs.declared.trace.TraceEvent.{TraceEvent}
 use Rattle.lift_spec.specs.Replies.{More, End}
 use Rattle.lift_spec.specs.Snapshot.{task_name}
@@ -66,8 +67,15 @@ pub record IsScanShown (c : Config) (opening : World) (asked : Asked) (events : 
   pub takes : TakesAll c opening (take it.front events) started
   pub text_is : text ≡ heading asked it ++ lines_text c asked.task asked.until source 1000000 started
 
+-- an event of a trace is refused, the first one, and it stands in front of the scan that is asked for, or is its start
+pub record IsRefusedInFront (c : Config) (opening : World) (asked : Asked) (events : List TraceEvent) (index : ℕ) (why : EventFault) : Type 0 where
+  pub it : Chosen
+  pub is : chosen asked events ≡ Some it
+  pub early : index < it.front
+  pub refused : IsRefusedAt c opening events index why
+
 -- why nothing is shown
 abbrev pub IsScanStopped : Config → World → Asked → List TraceEvent → ScanStop → Type 0
-IsScanStopped c opening asked events (Refused r) = IsRefusedAt c opening events r.index r.fault
+IsScanStopped c opening asked events (Refused r) = IsRefusedInFront c opening asked events r.index r.fault
 IsScanStopped c opening asked events NoScan = chosen asked events ≡ None
 IsScanStopped c opening asked events Memory = Unit {0}

@@ -1,7 +1,7 @@
 // Which scan of a trace is shown.
 
 ghost use Rattle.std.specs.Prelude.{◌≡◌};
-ghost use Rattle.lift_scan.specs.Chosen.{is_asked, committed, noted, chosen};
+ghost use Rattle.lift_scan.specs.Chosen.{is_asked, committed, found_behind, noted, chosen};
 
 use lift_spec::trace::TraceEvent;
 
@@ -43,13 +43,24 @@ fn is_asked(wanted: Option<u32>, round: u32) -> bool
     }
 }
 
-// A scan that was committed, by how many events stand up to its start.
-fn committed(started: Option<usize>, round: u32) -> Option<Chosen>
-    ensures { result ≡ committed started round }
+// The scan that a commit ends, by how many events stand up to its start; without one that has started since the last commit it ends none.
+fn committed(started: Option<usize>, round: u32, found: Option<Chosen>) -> Option<Chosen>
+    ensures { result ≡ committed started round found }
 {
     match started {
-        None => None,
+        None => found,
         Some(front) => Some(Chosen { front, round }),
+    }
+}
+
+// The last scan that is asked for, behind a commit of its task.
+fn found_behind(wanted: Option<u32>, search: Search) -> Option<Chosen>
+    ensures { result ≡ found_behind wanted search }
+{
+    if is_asked(wanted, search.round) {
+        committed(search.started, search.round, search.found)
+    } else {
+        search.found
     }
 }
 
@@ -69,9 +80,10 @@ fn noted(asked: Asked, count: usize, event: &TraceEvent, search: Search) -> Sear
             }
         }
         TraceEvent::Commit(task) => {
-            if *task == asked.task && is_asked(asked.round, search.round) {
+            if *task == asked.task {
                 Search {
-                    found: committed(search.started, search.round),
+                    started: None,
+                    found: found_behind(asked.round, search),
                     ..search
                 }
             } else {

@@ -1,14 +1,23 @@
-use Rattle.std.proofs.Common.{◌++◌, sym, ap, ◌∙◌, subst}
+use Rattle.std.proofs.Common.{◌++◌, take, sym, ap, ◌∙◌, subst}
 use Rattle.il_machine.specs.Scanning.{Program}
 use Rattle.lift_journal.specs.Rounds.{TakesAll, IsRefusedAt}
 use Rattle.lift_scan.specs.Shown.{heading, lines_text}
-use Rattle.lift_scan.proofs.Fronts.{refused_in_front}
+use Rattle.lift_scan.proofs.Fronts.{refused_in_front, early_in_front}
 use Rattle.lift_scan.proofs.shown.scan_text.Goals as goal
 
 pub returns-in-Err-clause-stopped : goal.returns-in-Err-clause-stopped
 returns-in-Err-clause-stopped c =
-    refused_in_front c.args.world.now.program.config c.args.world.now.world c.in-Some.it.front c.args.events.now c.in-Err.refused.index c.in-Err.refused.fault
-    (subst (λ es. IsRefusedAt c.args.world.now.program.config c.args.world.now.world es c.in-Err.refused.index c.in-Err.refused.fault) c.front_of.ensures c.in-Err.ensures.refused)
+    let config = c.args.world.now.program.config in
+    let opening = c.args.world.now.world in
+    let index = c.in-Err.refused.index in
+    let why = c.in-Err.refused.fault in
+    let refused : IsRefusedAt config opening (take c.in-Some.it.front c.args.events.now) index why = subst (λ es. IsRefusedAt config opening es index why) c.front_of.ensures c.in-Err.ensures.refused in
+    record {
+      it = c.in-Some.it;
+      is = sym c.choose.ensures ∙ c.in-Some.is;
+      early = early_in_front config opening c.in-Some.it.front c.args.events.now index why refused;
+      refused = refused_in_front config opening c.in-Some.it.front c.args.events.now index why refused;
+    }
 
 pub returns-clause-shown : goal.returns-clause-shown
 returns-clause-shown c = record {
