@@ -13,7 +13,7 @@ use Rattle.lift_serve.specs.declared.server.ServeFault.TheVariants as fault
 use Rattle.lift_world.specs.Worlds.{WorldOf}
 use Rattle.lift_serve.specs.Saying.{Says}
 use Rattle.lift_serve.specs.Answers.{Acts}
-use Rattle.lift_serve.specs.Serving.{is_end, Hears, Serves, Unheard, IsUntraced, traced_text}
+use Rattle.lift_serve.specs.Serving.{is_end, Hears, Serves, Unheard, traced_text}
 
 pub if_err : {X E : Type 0} {P : Type 0} (r : Result X E) → is_err r ≡ true → OnErr r P → P
 if_err (Ok x) is p = absurd (cc)
@@ -70,15 +70,6 @@ unheard_behind c line w count of tf fault.Full o p q t u v text events out trace
 
 front_all : (a b : Option (List ℕ)) (x : List ℕ) → Appends a b x → AppendsFront a b x
 front_all a b x grown = (x, [], grown, append-nil x)
-
--- a line that was not traced
-pub unheard_trace : (line : List ℕ) (said : Said) (old : WorldOf) (count : ℕ) (of tf : Bool) (f : ServeFault) (o t u : Option (List ℕ)) → Says old.program.config line said → Appends o o [] → IsUntraced old.program.config said count t u tf f
-    → Unheard old.program.config line old.world count of tf (Appends o o) (AppendsFront o o) (Appends t u) (AppendsFront t u) f
-unheard_trace line said old count of tf (fault.WrongLine why) o t u says none untraced = absurd untraced
-unheard_trace line said old count of tf fault.Trace o t u says none (failed, front) = (said, says, failed, none, front)
-unheard_trace line said old count of tf fault.Output o t u says none untraced = absurd untraced
-unheard_trace line said old count of tf fault.Memory o t u says none front = (said, says, none, front)
-unheard_trace line said old count of tf fault.Full o t u says none (many, nothing) = (said, says, many, none, nothing)
 
 -- a line whose answer failed, behind all that is traced of it
 pub unheard_answer : (line : List ℕ) (said : Said) (old mid : WorldOf) (v : World) (count : ℕ) (of tf : Bool) (f : ServeFault) (o q t u : Option (List ℕ)) → mid ≡ old → Says old.program.config line said → Appends t u (traced_text old.program.config said count)

@@ -1,4 +1,4 @@
-use Rattle.std.proofs.Common.{rules, ◌≡◌, refl, subst, inr, string_bytes, ◌∙◌}
+use Rattle.std.proofs.Common.{rules, ◌≡◌, true, subst, string_bytes, ◌∙◌}
 use Rattle.lift_host.specs.Writes.{AppendsFront}
 use Rattle.lift_serve.specs.Serving.{record_text}
 use Rattle.lift_serve.proofs.Tracing.{record_is}
@@ -11,4 +11,5 @@ returns-then-is_err-2-clause-fault g c =
     let new = g.T.Sink.contents c.put_all.new.sink in
     let front : AppendsFront old new c.deref.result.now = search rules in
     let text : c.deref.result.now ≡ record_text (string_bytes s.gathers) (string_bytes s.scans) c.args.line.now s.count c.sizes-sizes.result c.args.said.now = search rules in
-    inr (inr refl, subst (AppendsFront old new) (text ∙ record_is s.world.program.config c.args.line.now (string_bytes s.gathers) (string_bytes s.scans) s.count c.sizes-sizes.result c.args.said.now c.sizes-sizes.ensures c.requires.says c.requires.server.gathers c.requires.server.scans) front)
+    let failed : g.T.Sink.has_failed c.put_all.new.sink ≡ true = search rules in
+    (failed, subst (AppendsFront old new) (text ∙ record_is s.world.program.config c.args.line.now (string_bytes s.gathers) (string_bytes s.scans) s.count c.sizes-sizes.result c.args.said.now c.sizes-sizes.ensures c.requires.says c.requires.server.gathers c.requires.server.scans) front)
