@@ -16,7 +16,7 @@ use Rattle.lift_host.specs.declared.status.Fault.{Fault}
 use Rattle.lift_host.specs.declared.status.Fault.TheVariants as fault
 use Rattle.lift_host.specs.declared.status.Status.{Status}
 use Rattle.lift_host.specs.declared.status.Status.TheVariants as status
-use Rattle.lift_host.specs.Messages.{fault_of_reading, message_of, status_of, text_of, cause_sentence}
+use Rattle.lift_host.specs.Messages.{fault_of_reading, message_of, status_of, text_of, cause_sentence, scan_sentence}
 use Rattle.lift_host.specs.Requests.{Asks, BeginsWithDigit, name_of, with_flags}
 use Rattle.lift_help.specs.Helps.{ask_for_help}
 use Rattle.lift_messages.specs.declared.output.Output.{Output}
@@ -106,9 +106,6 @@ press_sentence false = codes "no press: ROUND:FROM:TO or ROUND:FROM:TO:PANEL, a 
 abbrev pub fire_sentence : List ℕ
 fire_sentence = codes "no round of the run"
 
-abbrev pub scan_sentence : List ℕ
-scan_sentence = codes "the trace commits no such scan"
-
 abbrev pub span_sentence : List ℕ
 span_sentence = codes "no rounds: A:B, A: or :B, a first and a last round from 1 to 65535"
 
@@ -128,7 +125,7 @@ IsFaultBelow reasons request text trace (fault.BadPress word) below = (late : Bo
 IsFaultBelow reasons request text trace fault.TooManyPresses below = below ≡ plain_notice too_many_sentence
 IsFaultBelow reasons request text trace (fault.BadFire word) below = below ≡ word_notice (string_bytes word) fire_sentence
 IsFaultBelow reasons request text trace (fault.BadSpan word) below = below ≡ word_notice (string_bytes word) span_sentence
-IsFaultBelow reasons request text trace (fault.BadScan word) below = below ≡ word_notice (string_bytes word) scan_sentence
+IsFaultBelow reasons request text trace (fault.BadScan why word) below = below ≡ word_notice (string_bytes word) (scan_sentence why)
 IsFaultBelow reasons request text trace (fault.BadName word) below = below ≡ word_notice (string_bytes word) name_sentence
 IsFaultBelow reasons request text trace (fault.CannotRead cause) below = below ≡ file_notice (other_name request) (cause_sentence cause)
 IsFaultBelow reasons request text trace fault.CannotWrite below = below ≡ []

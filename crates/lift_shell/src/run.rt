@@ -371,7 +371,7 @@ fn fault_below<C: Commands>(
         Fault::TooManyPresses => plain_notice(alloc, TOO_MANY),
         Fault::BadFire(word) => word_notice(alloc, word, NO_ROUND),
         Fault::BadSpan(word) => word_notice(alloc, word, NO_SPAN),
-        Fault::BadScan(word) => word_notice(alloc, word, NO_SCAN),
+        Fault::BadScan(why, word) => word_notice(alloc, word, why.sentence()),
         Fault::BadName(word) => word_notice(alloc, word, NO_NAME),
         Fault::CannotRead(cause) => file_notice(alloc, other_name(request), cause.sentence()),
         Fault::CannotWrite => Ok(Vec::new(alloc)),
@@ -382,8 +382,6 @@ fn fault_below<C: Commands>(
 const TOO_MANY: &str = "there are more than 1000 presses";
 
 const NO_ROUND: &str = "no round of the run";
-
-const NO_SCAN: &str = "the trace commits no such scan";
 
 const NO_SPAN: &str = "no rounds: A:B, A: or :B, a first and a last round from 1 to 65535";
 
