@@ -1,5 +1,5 @@
 -- What is followed of a trace that was read.
-use Rattle.std.proofs.Common.{◌≡◌, ℕ, List, Option, Ok, Err, map}
+use Rattle.std.proofs.Common.{◌≡◌, ℕ, List, Option, Ok, Err, map, inl, inr}
 use Rattle.std.specs.Borrow.{Bor}
 use Rattle.std.specs.Prelude.{option_map}
 use Rattle.il_machine.specs.Scanning.{Program}
@@ -9,8 +9,8 @@ use Rattle.lift_host.specs.declared.status.Fault.TheVariants as fault
 use Rattle.lift_host.specs.Requests.{words_of}
 use Rattle.lift_output.specs.declared.telling.Telling.{Telling}
 use Rattle.lift_output.specs.declared.telling.Telling.TheVariants.{Picture, Values}
-use Rattle.lift_output.specs.Outcomes.{IsFollowed, event}
-use Rattle.lift_output.specs.Parts.{AreFollowed, AreValued}
+use Rattle.lift_output.specs.Outcomes.{IsFollowed}
+use Rattle.lift_output.specs.Parts.{AreFollowed, AreValued, IsTraceUnread}
 use Rattle.lift_output.specs.Spans.{IsNoSpan}
 use Rattle.lift_messages.specs.Outputs.{Outcome}
 use Rattle.lift_spec.specs.declared.trace.TraceEvent.{TraceEvent}
@@ -20,14 +20,14 @@ use Rattle.lift_watch.specs.Names.{upper_case}
 
 pub followed_is : (telling : Telling) (p : Program) (text : List ℕ) (events : List TraceEvent) (outcome : Outcome) → Reads (sizes_of p.config).cars text (Ok events) → AreFollowed telling p events outcome → IsFollowed telling p text outcome
 followed_is telling p text events (Ok output) reads is = record { events = events; reads = reads; after = is.0; taken = is.1; is = is.2 }
-followed_is telling p text events (Err (fault.Refused number line)) reads is = event (record { events = events; reads = reads; index = is.0; why = is.1; refused = is.2; numbered = is.3; lined = is.4 })
+followed_is telling p text events (Err (fault.Refused number line)) reads is = inr (is.0, record { events = events; reads = reads; index = is.1; why = is.2; refused = is.3; numbered = is.4; lined = is.5 })
 followed_is telling p text events (Err (fault.BadSpan word)) reads is = ((events, reads), is)
 followed_is telling p text events (Err (fault.BadName word)) reads is = ((events, reads), is)
 followed_is telling p text events (Err fault.NoMemory) reads is = tt
 followed_is telling p text events (Err (fault.Misuse words)) reads is = absurd is
 followed_is telling p text events (Err (fault.RefusedText number place)) reads is = absurd is
 followed_is telling p text events (Err (fault.BadPress word)) reads is = absurd is
-followed_is telling p text events (Err (fault.BadScan word)) reads is = absurd is
+followed_is telling p text events (Err (fault.BadScan kind word)) reads is = absurd is
 followed_is telling p text events (Err fault.TooManyPresses) reads is = absurd is
 followed_is telling p text events (Err (fault.BadFire word)) reads is = absurd is
 followed_is telling p text events (Err (fault.CannotRead cause)) reads is = absurd is
@@ -38,7 +38,7 @@ pub valued_is : (names : Words) (p : Program) (events : List TraceEvent) (outcom
 valued_is names p events (Ok output) is = is
 valued_is names p events (Err (fault.Refused number line)) is = is
 valued_is names p events (Err (fault.BadSpan word)) is = absurd is
-valued_is names p events (Err (fault.BadScan word)) is = absurd is
+valued_is names p events (Err (fault.BadScan kind word)) is = absurd is
 valued_is names p events (Err (fault.BadName word)) is = is
 valued_is names p events (Err fault.NoMemory) is = tt
 valued_is names p events (Err (fault.Misuse words)) is = absurd is
@@ -58,8 +58,23 @@ unpictured_is span p events (fault.BadName word) is = absurd is
 unpictured_is span p events (fault.Misuse words) is = absurd is
 unpictured_is span p events (fault.RefusedText number place) is = absurd is
 unpictured_is span p events (fault.BadPress word) is = absurd is
-unpictured_is span p events (fault.BadScan word) is = absurd is
+unpictured_is span p events (fault.BadScan kind word) is = absurd is
 unpictured_is span p events fault.TooManyPresses is = absurd is
 unpictured_is span p events (fault.BadFire word) is = absurd is
 unpictured_is span p events (fault.CannotRead cause) is = absurd is
 unpictured_is span p events fault.CannotWrite is = absurd is
+
+-- a text that is no trace
+pub unread_is : (telling : Telling) (p : Program) (text : List ℕ) (why : Fault) → IsTraceUnread (sizes_of p.config).cars text why → IsFollowed telling p text (Err why)
+unread_is telling p text (fault.Refused number line) is = inl is
+unread_is telling p text fault.NoMemory is = tt
+unread_is telling p text (fault.BadSpan word) is = absurd is
+unread_is telling p text (fault.BadName word) is = absurd is
+unread_is telling p text (fault.Misuse words) is = absurd is
+unread_is telling p text (fault.RefusedText number place) is = absurd is
+unread_is telling p text (fault.BadPress word) is = absurd is
+unread_is telling p text (fault.BadScan kind word) is = absurd is
+unread_is telling p text fault.TooManyPresses is = absurd is
+unread_is telling p text (fault.BadFire word) is = absurd is
+unread_is telling p text (fault.CannotRead cause) is = absurd is
+unread_is telling p text fault.CannotWrite is = absurd is

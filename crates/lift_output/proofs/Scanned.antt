@@ -1,25 +1,38 @@
 -- A scan of a trace that was read, and words that ask for none.
-use Rattle.std.proofs.Common.{◌≡◌, ◌≢◌, ℕ, List, None, Ok, Err, inl, inr}
+use Rattle.std.proofs.Common.{◌≡◌, ◌≢◌, ℕ, List, None, Ok, Err, inl, inr, sym, ap, ◌∙◌, subst, true, false}
+use Rattle.std.specs.Prelude.{string_bytes, is_some}
 use Rattle.il_machine.specs.Scanning.{Program}
+use Rattle.il_run.specs.Scan.{task_program}
 use Rattle.lift_host.specs.declared.files.Reading.{Reading}
 use Rattle.lift_host.specs.declared.files.Reading.TheVariants.{Text, Failed}
 use Rattle.lift_host.specs.declared.request.Traced.{Traced}
 use Rattle.lift_host.specs.declared.status.Fault.{Fault}
 use Rattle.lift_host.specs.declared.status.Fault.TheVariants as fault
+use Rattle.lift_host.specs.declared.status.ScanFault.{ScanFault}
+use Rattle.lift_host.specs.declared.status.ScanFault.TheVariants.{Round, Line}
 use Rattle.lift_messages.specs.Outputs.{Outcome}
-use Rattle.lift_output.specs.Outcomes.{IsScanned, IsScanOutcome, event}
-use Rattle.lift_output.specs.Parts.{AreScanned}
-use Rattle.lift_output.specs.Scans.{IsAsked, IsUnasked, IsUnaskedBy, IsBadNumber, round_word, until_word, of_round, of_until}
+use Rattle.lift_output.specs.Outcomes.{IsScanned, IsScanOutcome}
+use Rattle.lift_output.specs.Parts.{AreScanned, IsTraceUnread}
+use Rattle.lift_output.specs.Scans.{HasTask, HasRound, IsAsked, IsTaskWord, IsUnasked, IsUnaskedBy, IsBadNumber, round_word, until_word}
 use Rattle.lift_scan.specs.declared.chosen.Asked.{Asked}
 use Rattle.lift_spec.specs.declared.trace.TraceEvent.{TraceEvent}
 use Rattle.lift_spec.specs.Image.{sizes_of}
+use Rattle.lift_spec.specs.Snapshot.{has_task, task_name}
 use Rattle.lift_trace.specs.Reading.{Reads}
+use Rattle.lift_watch.specs.Names.{upper_case}
 
-pub scanned_is : (traced : Traced) (p : Program) (asked : Asked) (source text : List ℕ) (events : List TraceEvent) (outcome : Outcome) → Reads (sizes_of p.config).cars text (Ok events) → IsAsked traced asked → AreScanned traced p asked source events outcome
-    → IsScanned traced p source text outcome
+-- a name of no task of the group is none of another
+pub names_none : (p : Program) (word : List ℕ) (task other : ℕ) → upper_case word ≡ task_name task → has_task p.config task ≡ false → IsTaskWord p word other → ⊥
+names_none p word task other named lacks is =
+    let same : task_name task ≡ task_name other = sym named ∙ is.named in
+    let no : false ≡ true = sym lacks ∙ ap (λ (n : List ℕ). is_some (task_program p.config n)) same ∙ is.has in
+    cc
+
+pub scanned_is : (traced : Traced) (p : Program) (asked : Asked) (source text : List ℕ) (events : List TraceEvent) (outcome : Outcome) → Reads (sizes_of p.config).cars text (Ok events) → IsAsked traced p asked
+    → AreScanned traced p asked source events outcome → IsScanned traced p source text outcome
 scanned_is traced p asked source text events (Ok output) reads of is = record { events = events; reads = reads; asked = asked; is = of; shown = is }
-scanned_is traced p asked source text events (Err (fault.Refused number line)) reads of is = event (record { events = events; reads = reads; index = is.0; why = is.1; refused = is.2; numbered = is.3; lined = is.4 })
-scanned_is traced p asked source text events (Err (fault.BadScan word)) reads of is = inr (record { events = events; reads = reads; asked = asked; is = of; none = is.0; word = is.1 })
+scanned_is traced p asked source text events (Err (fault.Refused number line)) reads of is = (asked, of, inr (record { events = events; reads = reads; index = is.0; why = is.1; refused = is.2; numbered = is.3; lined = is.4 }))
+scanned_is traced p asked source text events (Err (fault.BadScan kind word)) reads of is = inr (record { events = events; reads = reads; asked = asked; is = of; none = is.0; word = is.1 })
 scanned_is traced p asked source text events (Err fault.NoMemory) reads of is = tt
 scanned_is traced p asked source text events (Err (fault.BadSpan word)) reads of is = absurd is
 scanned_is traced p asked source text events (Err (fault.BadName word)) reads of is = absurd is
@@ -31,10 +44,25 @@ scanned_is traced p asked source text events (Err (fault.BadFire word)) reads of
 scanned_is traced p asked source text events (Err (fault.CannotRead cause)) reads of is = absurd is
 scanned_is traced p asked source text events (Err fault.CannotWrite) reads of is = absurd is
 
+-- a text that is no trace, behind words that ask for a scan
+pub unscanned_is : (traced : Traced) (p : Program) (asked : Asked) (source text : List ℕ) (why : Fault) → IsAsked traced p asked → IsTraceUnread (sizes_of p.config).cars text why → IsScanned traced p source text (Err why)
+unscanned_is traced p asked source text (fault.Refused number line) of is = (asked, of, inl is)
+unscanned_is traced p asked source text fault.NoMemory of is = tt
+unscanned_is traced p asked source text (fault.BadScan kind word) of is = absurd is
+unscanned_is traced p asked source text (fault.BadSpan word) of is = absurd is
+unscanned_is traced p asked source text (fault.BadName word) of is = absurd is
+unscanned_is traced p asked source text (fault.Misuse words) of is = absurd is
+unscanned_is traced p asked source text (fault.RefusedText number place) of is = absurd is
+unscanned_is traced p asked source text (fault.BadPress word) of is = absurd is
+unscanned_is traced p asked source text fault.TooManyPresses of is = absurd is
+unscanned_is traced p asked source text (fault.BadFire word) of is = absurd is
+unscanned_is traced p asked source text (fault.CannotRead cause) of is = absurd is
+unscanned_is traced p asked source text fault.CannotWrite of is = absurd is
+
 -- words that ask for no scan
-pub unasked_is : (traced : Traced) (p : Program) (source : List ℕ) (trace : Reading) (why : Fault) → IsUnasked traced why → IsScanOutcome traced p source trace (Err why)
+pub unasked_is : (traced : Traced) (p : Program) (source : List ℕ) (trace : Reading) (why : Fault) → IsUnasked traced p why → IsScanOutcome traced p source trace (Err why)
 unasked_is traced p source (Failed reading) why is = inr is
-unasked_is traced p source (Text text) (fault.BadScan word) is = inl is
+unasked_is traced p source (Text text) (fault.BadScan kind word) is = inl is
 unasked_is traced p source (Text text) fault.NoMemory is = tt
 unasked_is traced p source (Text text) (fault.Refused number line) is = absurd is
 unasked_is traced p source (Text text) (fault.BadSpan word) is = absurd is
@@ -47,44 +75,44 @@ unasked_is traced p source (Text text) (fault.BadFire word) is = absurd is
 unasked_is traced p source (Text text) (fault.CannotRead cause) is = absurd is
 unasked_is traced p source (Text text) fault.CannotWrite is = absurd is
 
-pub unasked_unwritten : (traced : Traced) (why : Fault) → IsUnasked traced why → why ≢ fault.CannotWrite
-unasked_unwritten traced (fault.BadScan word) is e = cc
-unasked_unwritten traced fault.NoMemory is e = cc
-unasked_unwritten traced (fault.Refused number line) is e = absurd is
-unasked_unwritten traced (fault.BadSpan word) is e = absurd is
-unasked_unwritten traced (fault.BadName word) is e = absurd is
-unasked_unwritten traced (fault.Misuse words) is e = absurd is
-unasked_unwritten traced (fault.RefusedText number place) is e = absurd is
-unasked_unwritten traced (fault.BadPress word) is e = absurd is
-unasked_unwritten traced fault.TooManyPresses is e = absurd is
-unasked_unwritten traced (fault.BadFire word) is e = absurd is
-unasked_unwritten traced (fault.CannotRead cause) is e = absurd is
-unasked_unwritten traced fault.CannotWrite is e = absurd is
+pub unasked_unwritten : (traced : Traced) (p : Program) (why : Fault) → IsUnasked traced p why → why ≢ fault.CannotWrite
+unasked_unwritten traced p (fault.BadScan kind word) is e = cc
+unasked_unwritten traced p fault.NoMemory is e = cc
+unasked_unwritten traced p (fault.Refused number line) is e = absurd is
+unasked_unwritten traced p (fault.BadSpan word) is e = absurd is
+unasked_unwritten traced p (fault.BadName word) is e = absurd is
+unasked_unwritten traced p (fault.Misuse words) is e = absurd is
+unasked_unwritten traced p (fault.RefusedText number place) is e = absurd is
+unasked_unwritten traced p (fault.BadPress word) is e = absurd is
+unasked_unwritten traced p fault.TooManyPresses is e = absurd is
+unasked_unwritten traced p (fault.BadFire word) is e = absurd is
+unasked_unwritten traced p (fault.CannotRead cause) is e = absurd is
+unasked_unwritten traced p fault.CannotWrite is e = absurd is
 
-pub no_round : (traced : Traced) (why : Fault) → IsBadNumber (round_word traced) why → IsUnasked traced why
-no_round traced (fault.BadScan word) is = of_round is
-no_round traced fault.NoMemory is = tt
-no_round traced (fault.Refused number line) is = absurd is
-no_round traced (fault.BadSpan word) is = absurd is
-no_round traced (fault.BadName word) is = absurd is
-no_round traced (fault.Misuse words) is = absurd is
-no_round traced (fault.RefusedText number place) is = absurd is
-no_round traced (fault.BadPress word) is = absurd is
-no_round traced fault.TooManyPresses is = absurd is
-no_round traced (fault.BadFire word) is = absurd is
-no_round traced (fault.CannotRead cause) is = absurd is
-no_round traced fault.CannotWrite is = absurd is
+pub no_round : (traced : Traced) (p : Program) (why : Fault) → HasTask traced p → IsBadNumber Round (round_word traced) why → IsUnasked traced p why
+no_round traced p (fault.BadScan kind word) has is = subst (λ (k : ScanFault). IsUnaskedBy traced p k (string_bytes word)) (sym is.0) (has, is.1)
+no_round traced p fault.NoMemory has is = tt
+no_round traced p (fault.Refused number line) has is = absurd is
+no_round traced p (fault.BadSpan word) has is = absurd is
+no_round traced p (fault.BadName word) has is = absurd is
+no_round traced p (fault.Misuse words) has is = absurd is
+no_round traced p (fault.RefusedText number place) has is = absurd is
+no_round traced p (fault.BadPress word) has is = absurd is
+no_round traced p fault.TooManyPresses has is = absurd is
+no_round traced p (fault.BadFire word) has is = absurd is
+no_round traced p (fault.CannotRead cause) has is = absurd is
+no_round traced p fault.CannotWrite has is = absurd is
 
-pub no_line : (traced : Traced) (why : Fault) → IsBadNumber (until_word traced) why → IsUnasked traced why
-no_line traced (fault.BadScan word) is = of_until is
-no_line traced fault.NoMemory is = tt
-no_line traced (fault.Refused number line) is = absurd is
-no_line traced (fault.BadSpan word) is = absurd is
-no_line traced (fault.BadName word) is = absurd is
-no_line traced (fault.Misuse words) is = absurd is
-no_line traced (fault.RefusedText number place) is = absurd is
-no_line traced (fault.BadPress word) is = absurd is
-no_line traced fault.TooManyPresses is = absurd is
-no_line traced (fault.BadFire word) is = absurd is
-no_line traced (fault.CannotRead cause) is = absurd is
-no_line traced fault.CannotWrite is = absurd is
+pub no_line : (traced : Traced) (p : Program) (why : Fault) → HasTask traced p → HasRound traced → IsBadNumber Line (until_word traced) why → IsUnasked traced p why
+no_line traced p (fault.BadScan kind word) has round is = subst (λ (k : ScanFault). IsUnaskedBy traced p k (string_bytes word)) (sym is.0) (has, round, is.1)
+no_line traced p fault.NoMemory has round is = tt
+no_line traced p (fault.Refused number line) has round is = absurd is
+no_line traced p (fault.BadSpan word) has round is = absurd is
+no_line traced p (fault.BadName word) has round is = absurd is
+no_line traced p (fault.Misuse words) has round is = absurd is
+no_line traced p (fault.RefusedText number place) has round is = absurd is
+no_line traced p (fault.BadPress word) has round is = absurd is
+no_line traced p fault.TooManyPresses has round is = absurd is
+no_line traced p (fault.BadFire word) has round is = absurd is
+no_line traced p (fault.CannotRead cause) has round is = absurd is
+no_line traced p fault.CannotWrite has round is = absurd is

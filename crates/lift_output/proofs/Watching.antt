@@ -42,7 +42,7 @@ module _ (program : Program) (asked : Rounds) (calls : Reading) (names : List (L
   watched_is presses settings driven (Err fault.TooManyPresses) is = absurd is
   watched_is presses settings driven (Err (fault.BadFire word)) is = absurd is
   watched_is presses settings driven (Err (fault.BadSpan word)) is = absurd is
-  watched_is presses settings driven (Err (fault.BadScan word)) is = absurd is
+  watched_is presses settings driven (Err (fault.BadScan kind word)) is = absurd is
   watched_is presses settings driven (Err (fault.CannotRead cause)) is = absurd is
   watched_is presses settings driven (Err fault.CannotWrite) is = absurd is
 
@@ -52,7 +52,7 @@ module _ (program : Program) (asked : Rounds) (calls : Reading) (names : List (L
   unwatched_is (fault.Misuse words) is = absurd is
   unwatched_is (fault.RefusedText number place) is = absurd is
   unwatched_is (fault.BadSpan word) is = absurd is
-  unwatched_is (fault.BadScan word) is = absurd is
+  unwatched_is (fault.BadScan kind word) is = absurd is
   unwatched_is (fault.Refused number line) is = record { names = names; behind = behind; split = split; undriven = is }
   unwatched_is (fault.BadPress word) is = record { names = names; behind = behind; split = split; undriven = is }
   unwatched_is fault.TooManyPresses is = record { names = names; behind = behind; split = split; undriven = is }

@@ -1,9 +1,11 @@
 -- What a request gives of a verified configuration (own rules).
-use Rattle.std.specs.Prelude.{◌≡◌, ◌<◌, ◌⊎◌, ℕ, ◌+◌, ◌++◌, Bool, true, false, List, [], ◌∷◌, length, map, Option, Some, None, option_map, Ok, Err, IfOk, IfErr, string_bytes}
+use Rattle.std.specs.Prelude.{◌≡◌, ◌<◌, ◌⊎◌, ℕ, ◌+◌, ◌++◌, Bool, true, false, List, [], ◌∷◌, length, map, Option, Some, None, option_map, Ok, Err, IfOk, IsErrAnd, string_bytes}
 use Rattle.il_spec.specs.declared.tree.Config.{Config}
 use Rattle.il_reports.specs.RangeTexts.{AreRangesShown}
 use Rattle.il_machine.specs.Scanning.{Program}
 use Rattle.lift_desk.specs.Passes.{Left}
+use Rattle.lift_draw.specs.declared.span.Span.{Span}
+use Rattle.lift_host.specs.declared.files.ReadFault.{ReadFault}
 use Rattle.lift_host.specs.declared.files.Reading.{Reading}
 use Rattle.lift_host.specs.declared.files.Reading.TheVariants.{Text, Failed}
 use Rattle.lift_host.specs.declared.press.Press.{Press}
@@ -32,14 +34,15 @@ use Rattle.lift_journeys.specs.Summaries.{IsSummaryOf}
 use Rattle.lift_output.specs.ImageText.{image_text}
 use Rattle.lift_output.specs.Limits.{limits_text}
 use Rattle.lift_output.specs.Listing.{listing}
-use Rattle.lift_output.specs.Scans.{IsScanOf, IsUnasked, IsUnaskedBy, HasNoScan}
-use Rattle.lift_output.specs.Spans.{IsNoSpan}
+use Rattle.lift_output.specs.Scans.{IsAsked, IsEarlyRefused, IsScanOf, IsUnasked, IsUnaskedBy, HasNoScan}
+use Rattle.lift_output.specs.Spans.{IsSpanWord, IsNoSpan}
 use Rattle.lift_output.specs.Tellings.{telling_of}
 use Rattle.lift_output.specs.declared.telling.Telling.{Telling}
 use Rattle.lift_output.specs.declared.telling.Telling.TheVariants.{Image, Picture, Calls, Denials, Values}
 use Rattle.lift_runs.specs.Driven.{IsSimulated, switches_in}
 use Rattle.lift_runs.specs.Shown.{IsShown}
 use Rattle.lift_messages.specs.Outputs.{Outcome, bytes_of, warnings_of}
+use Rattle.lift_scan.specs.declared.chosen.Asked.{Asked}
 use Rattle.lift_spec.specs.declared.event.EventFault.{EventFault}
 use Rattle.lift_spec.specs.declared.image.Sizes.{Sizes}
 use Rattle.lift_spec.specs.declared.journal.Entry.{Entry}
@@ -341,17 +344,31 @@ pub record IsEventRefused (program : Program) (trace : List ℕ) (number line : 
   pub numbered : number ≡ event_fault_number why
   pub lined : line ≡ index + 2
 
--- a line of the trace is wrong, 80, or the text ends too early in it, 81; or an event is refused
-pub data IsTraceRefused (program : Program) (trace : List ℕ) (number line : ℕ) : Type 0 where
-  bad_line : number ≡ 80 → Reads (sizes_of program.config).cars trace (Err (BadLine line)) → IsTraceRefused program trace number line
-  truncated : number ≡ 81 → Reads (sizes_of program.config).cars trace (Err (Truncated line)) → IsTraceRefused program trace number line
-  event : IsEventRefused program trace number line → IsTraceRefused program trace number line
+-- a line of the trace is wrong, 80, or the text ends too early in it, 81
+abbrev pub IsLineRefused : Program → List ℕ → ℕ → ℕ → Type 0
+IsLineRefused program trace number line = ((number ≡ 80) × Reads (sizes_of program.config).cars trace (Err (BadLine line))) ⊎ ((number ≡ 81) × Reads (sizes_of program.config).cars trace (Err (Truncated line)))
+
+-- names, in upper case, have values as the program opens
+abbrev pub HaveValues : Program → List (List ℕ) → Type 0
+HaveValues program names = (watched : List Watched) × AreWatched (opening program.config) names watched
+
+-- the words beside TRACE are good: the word behind `--rounds` says rounds, the names to watch have values
+abbrev pub HasGoodWords : Telling → Program → Type 0
+HasGoodWords Image program = Unit {0}
+HasGoodWords (Picture span) program = (rounds : Span) × IsSpanWord (option_map (λ word. word.now) span) rounds
+HasGoodWords (Calls summary) program = Unit {0}
+HasGoodWords (Denials all) program = Unit {0}
+HasGoodWords (Values names) program = HaveValues program (map upper_case (words_of names))
+
+-- a trace is refused: for a line of it, before the words beside it are judged, or behind them for an event
+abbrev pub IsTraceRefused : Telling → Program → List ℕ → ℕ → ℕ → Type 0
+IsTraceRefused telling program trace number line = IsLineRefused program trace number line ⊎ (HasGoodWords telling program × IsEventRefused program trace number line)
 
 -- A command over a trace tells what is along its events and behind them, or what is wrong with it, with the rounds to draw or the names to watch.
 -- Memory may be missing.
 abbrev pub IsFollowed : Telling → Program → List ℕ → Outcome → Type 0
 IsFollowed telling program trace (Ok output) = IsSaidAfter telling program trace (bytes_of output)
-IsFollowed telling program trace (Err (fault.Refused number line)) = IsTraceRefused program trace number line
+IsFollowed telling program trace (Err (fault.Refused number line)) = IsTraceRefused telling program trace number line
 IsFollowed telling program trace (Err (fault.BadSpan word)) = IsRead program trace × IsBadSpan telling (fault.BadSpan word)
 IsFollowed telling program trace (Err (fault.BadName word)) = IsRead program trace × IsBadName telling program (string_bytes word)
 IsFollowed telling program trace (Err fault.NoMemory) = Unit {0}
@@ -364,18 +381,26 @@ IsTraceOutcome telling program (Failed why) outcome = outcome ≡ Err (fault_of_
 
 -- SCANS
 
+-- The words ask for a scan, and the trace is refused: for a line of it, or for an event up to the start of that scan.
+abbrev pub IsScanRefused : Traced → Program → List ℕ → ℕ → ℕ → Type 0
+IsScanRefused traced program trace number line = (asked : Asked) × IsAsked traced program asked × (IsLineRefused program trace number line ⊎ IsEarlyRefused program asked trace number line)
+
 -- `scan` shows a scan of the trace, or says what is wrong with it or with the words. Memory may be missing.
 abbrev pub IsScanned : Traced → Program → List ℕ → List ℕ → Outcome → Type 0
 IsScanned traced program source trace (Ok output) = IsScanOf traced program source trace (bytes_of output)
-IsScanned traced program source trace (Err (fault.Refused number line)) = IsTraceRefused program trace number line
-IsScanned traced program source trace (Err (fault.BadScan word)) = IsUnaskedBy traced (string_bytes word) ⊎ HasNoScan traced program trace (string_bytes word)
+IsScanned traced program source trace (Err (fault.Refused number line)) = IsScanRefused traced program trace number line
+IsScanned traced program source trace (Err (fault.BadScan why word)) = IsUnaskedBy traced program why (string_bytes word) ⊎ HasNoScan traced program trace why (string_bytes word)
 IsScanned traced program source trace (Err fault.NoMemory) = Unit {0}
 IsScanned traced program source trace (Err _) = ⊥
 
--- what was read of a trace has it, or reading failed; the words are read before
+-- The words ask for a scan, and reading failed.
+abbrev pub IsScanUnread : Traced → Program → ReadFault → Outcome → Type 0
+IsScanUnread traced program why outcome = ((asked : Asked) × IsAsked traced program asked) × (outcome ≡ Err (fault_of_reading why))
+
+-- what was read of a trace has it, or reading failed; the words are judged before
 abbrev pub IsScanOutcome : Traced → Program → List ℕ → Reading → Outcome → Type 0
 IsScanOutcome traced program source (Text text) outcome = IsScanned traced program source text.items outcome
-IsScanOutcome traced program source (Failed why) outcome = (outcome ≡ Err (fault_of_reading why)) ⊎ IfErr outcome (IsUnasked traced)
+IsScanOutcome traced program source (Failed why) outcome = IsScanUnread traced program why outcome ⊎ IsErrAnd outcome (IsUnasked traced program)
 
 -- REQUESTS
 

@@ -11,12 +11,12 @@ use Rattle.lift_watch.specs.Values.{AreWatched, IsUnknown, header_text, watching
 use Rattle.lift_host.specs.declared.status.Fault.{Fault}
 use Rattle.lift_host.specs.declared.status.Fault.TheVariants as fault
 use Rattle.lift_journal.specs.Rounds.{TakesAll, IsRefusedAt}
-use Rattle.lift_output.specs.Outcomes.{Says, IsBadSpan, IsBadName, IsTextOfValues}
+use Rattle.lift_output.specs.Outcomes.{Says, HasGoodWords, HaveValues, IsBadSpan, IsBadName, IsTextOfValues}
 use Rattle.lift_host.specs.declared.request.Traced.{Traced}
 use Rattle.lift_scan.specs.declared.chosen.Asked.{Asked}
 use Rattle.lift_scan.specs.Chosen.{chosen}
-use Rattle.lift_scan.specs.Shown.{IsScanShown}
-use Rattle.lift_output.specs.Scans.{task_word}
+use Rattle.lift_scan.specs.Shown.{IsScanShown, IsRefusedInFront}
+use Rattle.lift_output.specs.Scans.{IsUncommittedBy}
 use Rattle.lift_output.specs.declared.telling.Telling.{Telling}
 use Rattle.lift_messages.specs.Outputs.{Outcome, bytes_of}
 use Rattle.lift_spec.specs.declared.event.EventFault.{EventFault}
@@ -60,7 +60,7 @@ IsTraceUnread cars text _ = ⊥
 -- events are followed from the opening
 abbrev pub AreFollowed : Telling → Program → List TraceEvent → Outcome → Type 0
 AreFollowed telling program events (Ok output) = (after : World) × TakesAll program.config (opening program.config) events after × Says telling program events after (bytes_of output)
-AreFollowed telling program events (Err (fault.Refused number line)) = (index : ℕ) × (why : EventFault) × IsRefusedAt program.config (opening program.config) events index why × (number ≡ event_fault_number why) × (line ≡ index + 2)
+AreFollowed telling program events (Err (fault.Refused number line)) = HasGoodWords telling program × (index : ℕ) × (why : EventFault) × IsRefusedAt program.config (opening program.config) events index why × (number ≡ event_fault_number why) × (line ≡ index + 2)
 AreFollowed telling program events (Err (fault.BadSpan word)) = IsBadSpan telling (fault.BadSpan word)
 AreFollowed telling program events (Err (fault.BadName word)) = IsBadName telling program (string_bytes word)
 AreFollowed telling program events (Err fault.NoMemory) = Unit {0}
@@ -69,15 +69,15 @@ AreFollowed telling program events (Err _) = ⊥
 -- a scan of events is shown, from the opening
 abbrev pub AreScanned : Traced → Program → Asked → List ℕ → List TraceEvent → Outcome → Type 0
 AreScanned traced program asked source events (Ok output) = IsScanShown program.config (opening program.config) asked events source (bytes_of output)
-AreScanned traced program asked source events (Err (fault.Refused number line)) = (index : ℕ) × (why : EventFault) × IsRefusedAt program.config (opening program.config) events index why × (number ≡ event_fault_number why) × (line ≡ index + 2)
-AreScanned traced program asked source events (Err (fault.BadScan word)) = (chosen asked events ≡ None) × (string_bytes word ≡ task_word traced)
+AreScanned traced program asked source events (Err (fault.Refused number line)) = (index : ℕ) × (why : EventFault) × IsRefusedInFront program.config (opening program.config) asked events index why × (number ≡ event_fault_number why) × (line ≡ index + 2)
+AreScanned traced program asked source events (Err (fault.BadScan why word)) = (chosen asked events ≡ None) × IsUncommittedBy traced why (string_bytes word)
 AreScanned traced program asked source events (Err fault.NoMemory) = Unit {0}
 AreScanned traced program asked source events (Err _) = ⊥
 
 -- the values of names along events are told from the opening, or one of the names has no value
 abbrev pub AreValued : List (List ℕ) → Program → List TraceEvent → Outcome → Type 0
 AreValued names program events (Ok output) = (after : World) × TakesAll program.config (opening program.config) events after × IsTextOfValues program.config names events after (bytes_of output)
-AreValued names program events (Err (fault.Refused number line)) = (index : ℕ) × (why : EventFault) × IsRefusedAt program.config (opening program.config) events index why × (number ≡ event_fault_number why) × (line ≡ index + 2)
+AreValued names program events (Err (fault.Refused number line)) = HaveValues program names × (index : ℕ) × (why : EventFault) × IsRefusedAt program.config (opening program.config) events index why × (number ≡ event_fault_number why) × (line ≡ index + 2)
 AreValued names program events (Err (fault.BadName word)) = IsUnknown (opening program.config) names (string_bytes word)
 AreValued names program events (Err fault.NoMemory) = Unit {0}
 AreValued names program events (Err _) = ⊥
