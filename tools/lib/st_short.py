@@ -1,0 +1,126 @@
+"""Makes the steps of a body fewer, for tools/st, without a change of what they do or of which ranges they narrow."""
+from lib.st_code import Label, Step
+
+CONDITIONAL = {"JMPC": "JMPCN", "JMPCN": "JMPC"}
+RETURNS = {"JMP": "RET", "JMPC": "RETC", "JMPCN": "RETCN"}
+KEEPS = {"JMPC", "JMPCN", "RETC", "RETCN"}  # the current result stays behind them
+
+
+def shortened(steps: list[Step]) -> list[Step]:
+    while True:
+        before = [(it, it.text, it.goes_to) for it in steps]
+        for one in (threaded, turned, without_next, without_unreached, without_last_return, without_labels, without_loads):
+            steps = one(steps)
+        if before == [(it, it.text, it.goes_to) for it in steps]:
+            return steps
+
+
+def is_code(step: Step) -> bool:
+    return bool(step.operator) or step.label is not None
+
+
+def behind(steps: list[Step], at: int) -> int | None:
+    """The next instruction from here on, comments and labels left out."""
+    return next((it for it in range(at, len(steps)) if steps[it].operator), None)
+
+
+def place_of(steps: list[Step], label: Label) -> int:
+    return next(at for at, it in enumerate(steps) if it.label is label)
+
+
+def threaded(steps: list[Step]) -> list[Step]:
+    """A jump to a jump goes where that one goes, and one to a return is one; but for a test that narrows, which stays a jump."""
+    for it in steps:
+        if it.goes_to is None:
+            continue
+        target = behind(steps, place_of(steps, it.goes_to))
+        if target is not None and steps[target].operator == "JMP":
+            it.goes_to = steps[target].goes_to
+        elif (target is None or steps[target].operator == "RET") and not (it.is_pinned and it.operator != "JMP"):
+            it.operator, it.goes_to = RETURNS[it.operator], None
+    return steps
+
+
+def follows(steps: list[Step], at: int, label: Label) -> bool:
+    """Whether nothing but labels and comments lies between a place and a label."""
+    for it in steps[at + 1:]:
+        if it.label is label:
+            return True
+        if it.operator:
+            return False
+    return False
+
+
+def turned(steps: list[Step]) -> list[Step]:
+    """A conditional jump over a jump or a return is that one, on the other condition."""
+    for at, it in enumerate(steps):
+        other = behind(steps, at + 1)
+        if it.operator not in CONDITIONAL or other is None or any(between.label for between in steps[at + 1:other]) or not follows(steps, other, it.goes_to):
+            continue
+        over = steps[other]
+        if over.operator == "JMP":
+            it.operator, it.goes_to = CONDITIONAL[it.operator], over.goes_to
+        elif over.operator == "RET" and not it.is_pinned:
+            it.operator, it.goes_to = RETURNS[CONDITIONAL[it.operator]], None
+        else:
+            continue
+        it.behind += over.behind
+        return [one for one in steps if one is not over]
+    return steps
+
+
+def without_next(steps: list[Step]) -> list[Step]:
+    """A jump to what follows does nothing."""
+    return [it for at, it in enumerate(steps) if it.goes_to is None or not follows(steps, at, it.goes_to)]
+
+
+def without_unreached(steps: list[Step]) -> list[Step]:
+    made, is_reached = [], True
+    for it in steps:
+        is_reached = is_reached or it.label is not None
+        if is_reached or not it.operator:
+            made.append(it)
+        if it.operator in ("JMP", "RET"):
+            is_reached = False
+    return made
+
+
+def without_last_return(steps: list[Step]) -> list[Step]:
+    """Behind the last instruction stands a return anyway."""
+    last = next((it for it in reversed(steps) if is_code(it)), None)
+    return [it for it in steps if it is not last] if last is not None and last.operator in ("RET", "RETC", "RETCN") else steps
+
+
+def without_labels(steps: list[Step]) -> list[Step]:
+    used = {id(it.goes_to) for it in steps if it.goes_to}
+    return [it for it in steps if it.label is None or id(it.label) in used]
+
+
+def base(operand: str) -> str:
+    return operand.split("[")[0].split(".")[0].upper()
+
+
+def without_loads(steps: list[Step]) -> list[Step]:
+    """A load of what is the current result anyway is left out, but for that of a test that narrows."""
+    made: list[Step] = []
+    same: set[str] = set()  # the operands whose value is the current result
+    for it in steps:
+        if it.operator == "LD" and not it.is_pinned and it.operand.upper() in same:
+            made += [Step("", comment=comment) for comment in it.behind]
+            continue
+        made.append(it)
+        same = still_same(it, same)
+    return made
+
+
+def still_same(step: Step, same: set[str]) -> set[str]:
+    """The operands whose value is the current result behind a step."""
+    operand = step.operand.upper()
+    if not step.operator and step.label is None or step.operator in KEEPS:
+        return same
+    if step.operator == "LD":
+        return {operand}
+    if step.operator in ("ST", "STN", "S", "R"):
+        kept = {it for it in same if base(operand) not in (base(it), it.partition("[")[2].rstrip("]"))}
+        return kept | {operand} if step.operator == "ST" and "." not in operand else kept
+    return set()
