@@ -165,11 +165,10 @@ class Maker:
 
     def declaration(self, it: Declaration, symbols: dict[str, Symbol], left_out: set[str], names: Names):
         above, behind = self.comments.of(it)
-        self.put_comments(above)
         kept = [str(token) for token in it.names if token.upper() not in left_out and token.upper() in symbols]
         if not kept:
-            self.put_comments(behind)
             return
+        self.put_comments(above)
         symbol = symbols[kept[0].upper()]
         initial = f" := {Body.literal(symbol.initial, True)}" if symbol.initial is not None else ""
         self.put(f"  {', '.join(kept)} : {symbol.type}{initial};", it.place, behind)
