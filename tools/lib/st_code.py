@@ -3,7 +3,7 @@
 A condition is jumped over in the forms by which the verifier narrows ranges (docs/LANGUAGE.md, Ranges), wherever the tested variable's range may count behind
 it. Operands in the middle of an expression are parenthesised; only an index, an argument of a function and what is deeper than 16 parentheses take a variable.
 """
-import dataclasses
+import dataclasses, functools
 from dataclasses import dataclass, field
 
 from lib.st_names import COMPARISONS, IMAGE, MIRRORED, OUTPUTS, RESERVED, Array, Instance, Scalar, Scope, Symbol
@@ -42,14 +42,21 @@ class Step:
         return f"{self.operator} {target}" if target else self.operator
 
 
+@functools.cache
+def fields_of(kind: type) -> tuple[str, ...]:
+    """The fields of a kind of node that may hold nodes."""
+    return tuple(it.name for it in dataclasses.fields(kind) if it.name not in ("place", "span", "name", "type", "operator", "word", "member", "is_output", "is_negated"))
+
+
 def parts(node):
     """The nodes below a node, in the order of the text."""
-    if isinstance(node, (list, tuple)):
-        for it in node:
-            yield from (it,) if isinstance(it, Node) else parts(it)
-    elif isinstance(node, Node):
-        for it in dataclasses.fields(node):
-            yield from parts([getattr(node, it.name)])
+    if isinstance(node, Node):
+        node = [getattr(node, it) for it in fields_of(type(node))]
+    for it in node:
+        if isinstance(it, Node):
+            yield it
+        elif isinstance(it, (list, tuple)):
+            yield from parts(it)
 
 
 def ranges_that_count(node, skipped: bool = False):
@@ -363,11 +370,12 @@ class Body:
     def invoke_statement(self, node: Invoke):
         before, steps, after = self.invocation(node.call)
         self.flush([*before, *steps])
-        for it in after:
-            self.flush(it)
+        for it, member in after:
+            text, _ = self.target(it.value)
+            self.flush([self.step("LDN" if it.is_negated else "LD", member, it.place), self.step("ST", text, it.place)])
 
     def invocation(self, call: Call):
-        """A call of a block: what comes before it, the call, and what comes behind."""
+        """A call of a block: what comes before it, the call, and the outputs that are taken behind it, in their order."""
         block, interface = self.block_of(call)
         given, before, after, seen = [], [], [], set()
         for position, it in enumerate(call.arguments):
@@ -400,15 +408,14 @@ class Body:
         else:
             before += [*self.value(value), self.step("ST", member, it.place)]
 
-    def output(self, it: Argument, type: Scalar, member: str, given: list[str], after: list[list[Step]]):
+    def output(self, it: Argument, type: Scalar, member: str, given: list[str], after: list[tuple[Argument, str]]):
         target_type = self.target_type(it.value)
         if target_type != type.base:
             raise Refusal(it.place, self.scope.clash(type.base, target_type, it))
-        text, typed = self.target(it.value)
-        if typed.index is None and typed.member is None and not it.is_negated:
-            given.append(f"{it.name} => {text}")
+        if after or it.is_negated or it.value.index is not None or it.value.member is not None:
+            after.append((it, member))
         else:
-            after.append([self.step("LDN" if it.is_negated else "LD", member, it.place), self.step("ST", text, it.place)])
+            given.append(f"{it.name} => {self.operand(it.value)}")
 
     def leave(self, node: Leave):
         if node.word == "RETURN":
@@ -539,7 +546,7 @@ class Body:
         selector = self.scope.typed(node.selector, "INT")
         if selector.type not in WHOLE and selector.type is not None:
             raise Refusal(node.selector.place, f"CASE takes a number, and this is {selector.type}")
-        choices = [(it, self.labels(it, selector.type, node)) for it in node.choices]
+        choices = self.choices(node, selector.type)
         if isinstance(selector, Literal):
             return self.known_case(node, selector.value, choices)
         text = self.argument(selector)
@@ -554,12 +561,15 @@ class Body:
             behind = self.label("CASE", choice.place)
             left = self.choose(text, labels, left, behind, choice.place, is_needed)
             self.statements(choice.body)
-            if at + 1 < len(choices) or (node.otherwise and behind.uses):
+            if not behind.uses:  # the selector has one of these labels anyway
+                break
+            if at + 1 < len(choices) or node.otherwise:
                 self.jump_to(end, choice.place)
             self.place_label(behind)
-        if node.otherwise:
-            self.branch_comments(node.otherwise)
-            self.statements(node.otherwise.body)
+        else:
+            if node.otherwise:
+                self.branch_comments(node.otherwise)
+                self.statements(node.otherwise.body)
         self.place_label(end)
 
     def range_of(self, node: Node) -> tuple[int, int]:
@@ -569,7 +579,7 @@ class Body:
             return (type.element if isinstance(type, Array) else type).range
         return WHOLE[node.type]
 
-    def labels(self, choice: Choice, type: str, node: Case) -> list[tuple[int, int]]:
+    def labels(self, choice: Choice, type: str) -> list[tuple[int, int]]:
         """The labels of a branch, as ranges in the order of the text; neighbours are one."""
         found: list[tuple[int, int]] = []
         for one, other in choice.labels:
@@ -582,9 +592,16 @@ class Body:
                 found[-1] = (found[-1][0], high)
             else:
                 found.append((low, high))
-        earlier = [it for of in node.choices[: node.choices.index(choice)] for it in self.labels(of, type, node)] if node.choices[0] is not choice else []
-        if any(low <= b and a <= high for low, high in found for a, b in earlier):
-            raise Refusal(choice.place, "a label that stands in an earlier branch too")
+        return found
+
+    def choices(self, node: Case, type: str) -> list[tuple[Choice, list[tuple[int, int]]]]:
+        """The branches with their labels; no number stands in two."""
+        found: list[tuple[Choice, list[tuple[int, int]]]] = []
+        for choice in node.choices:
+            labels = self.labels(choice, type)
+            if any(low <= b and a <= high for low, high in labels for _, earlier in found for a, b in earlier):
+                raise Refusal(choice.place, "a label that stands in an earlier branch too")
+            found.append((choice, labels))
         return found
 
     def known_case(self, node: Case, value: int, choices):
@@ -686,7 +703,7 @@ def is_plain(node: Node, operator: str) -> bool:
 
 def leaves(body: list[Node]) -> bool:
     """Whether some statement of a body leaves it."""
-    return any(isinstance(it, Leave) or leaves(list(parts(it))) for it in body)
+    return any(isinstance(it, Leave) or isinstance(it, (If, Case, For, Branch, Choice)) and leaves(list(parts(it))) for it in body)
 
 
 def duration(value: int) -> str:

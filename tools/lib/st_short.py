@@ -1,4 +1,7 @@
 """Makes the steps of a body fewer, for tools/st, without a change of what they do or of which ranges they narrow."""
+import re
+from collections import Counter
+
 from lib.st_code import Label, Step
 
 CONDITIONAL = {"JMPC": "JMPCN", "JMPCN": "JMPC"}
@@ -100,12 +103,24 @@ def base(operand: str) -> str:
     return operand.split("[")[0].split(".")[0].upper()
 
 
+def reads(steps: list[Step]) -> Counter:
+    """How often each name is read."""
+    found: Counter = Counter()
+    for it in steps:
+        words = re.findall(r"[A-Z_][A-Z_0-9]*", it.operand.upper())
+        found.update(words[1:] if it.operator in ("ST", "STN", "S", "R") else words)
+    return found
+
+
 def without_loads(steps: list[Step]) -> list[Step]:
-    """A load of what is the current result anyway is left out, but for that of a test that narrows."""
+    """A load of what is the current result anyway is left out, but for that of a test that narrows, and the only one that reads a variable."""
     made: list[Step] = []
     same: set[str] = set()  # the operands whose value is the current result
+    times = reads(steps)
     for it in steps:
-        if it.operator == "LD" and not it.is_pinned and it.operand.upper() in same:
+        operand = it.operand.upper()
+        if it.operator == "LD" and not it.is_pinned and operand in same and times[operand] != 1:
+            times[operand] -= 1
             made += [Step("", comment=comment) for comment in it.behind]
             continue
         made.append(it)

@@ -5,7 +5,7 @@ from dataclasses import dataclass, field
 from lib.st_code import Body, Step, parts
 from lib.st_names import SIZES, Names, Scalar, Scope, Symbol
 from lib.st_short import shortened
-from lib.st_tree import Assign, Branch, Choice, Configuration, Declaration, Invoke, Leave, Node, Place, Refusal, Task, Text, Unit, VarList, tree_of
+from lib.st_tree import Assign, Branch, Choice, Configuration, Declaration, Invoke, Leave, Node, Place, Refusal, Task, Text, Unit, VarList
 from lib.st_tree import Case, For, If, Line as ProgramLine
 
 MOST_INSTRUCTIONS = 4096
@@ -35,7 +35,7 @@ class Comments:
     """The comments of a text, each beside what it stands at: behind it in its line, or above it."""
 
     def __init__(self, text: Text):
-        self.text = text
+        self.text, self.rows = text, text.source.split("\n")
         self.leading: dict = {}
         self.trailing: dict = {}
         self.at_end: dict = {}  # those behind the last statement of a unit, and behind all units
@@ -43,7 +43,7 @@ class Comments:
         for token in text.comments:
             self.take(token, anchors)
         for it in anchors:
-            if self.has_blank_above(it.span[0]) and isinstance(it, (Assign, Invoke, Leave, If, Case, For)):
+            if isinstance(it, (Assign, Invoke, Leave, If, Case, For)) and self.has_blank_above(it.place.line, it.place.column):
                 self.leading.setdefault(key_of(it), [""])
 
     def take(self, token, anchors: list[Node]):
@@ -53,7 +53,7 @@ class Comments:
         before = [it for it in anchors if it.span[0] <= at]
         after = next((it for it in anchors if it.span[0] > at), None)
         unit = next((it for it in self.text.units if it.span[0] < at < it.span[1]), None)
-        lines = ([""] if not is_behind and self.has_blank_above(at) else []) + [self.plain(token)]
+        lines = ([""] if not is_behind and self.has_blank_above(token.line, token.column) else []) + [self.plain(token)]
         if is_behind and before:
             self.trailing.setdefault(key_of(before[-1]), []).extend(lines)
         elif unit is not None and (after is None or after.span[0] >= unit.span[1]):
@@ -63,9 +63,9 @@ class Comments:
         else:
             self.at_end.setdefault(None, []).extend(lines)
 
-    def has_blank_above(self, at: int) -> bool:
-        above = self.text.source[:at].rstrip(" \t")
-        return above.endswith("\n") and above[:-1].rstrip(" \t\r").endswith("\n")
+    def has_blank_above(self, line: int, column: int) -> bool:
+        """Whether a place is the first of its line, and the line above is blank."""
+        return line > 1 and not self.rows[line - 2].strip() and not self.rows[line - 1][: column - 1].strip()
 
     @staticmethod
     def plain(token) -> str:
@@ -112,8 +112,8 @@ def anchors_of(node):
 class Maker:
     """Makes the lines of a text."""
 
-    def __init__(self, source: str):
-        self.text = tree_of(source)
+    def __init__(self, text: Text):
+        self.text = text
         self.comments = Comments(self.text)
         self.names = Names(self.text)
         self.lines: list[Line] = []
@@ -256,6 +256,6 @@ class Maker:
         self.put(f"TASK {task.name} (INTERVAL := {Body.literal(interval, True)}, PRIORITY := {priority});", task.place, behind)
 
 
-def made(source: str) -> list[Line]:
+def made(text: Text) -> list[Line]:
     """The lines of Instruction List of a text in Structured Text; a Refusal where there are none."""
-    return Maker(source).lines
+    return Maker(text).lines
