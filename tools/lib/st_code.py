@@ -681,7 +681,7 @@ class Body:
         try:
             return self.scope.bound(node)
         except Refusal as why:
-            raise Refusal(why.place, f"the bounds of FOR are known when the text is translated: {why.why}") from None
+            raise Refusal(why.place, "the bounds of FOR are known when the text is translated: write constants, and leave the loop early by EXIT") from None
 
 
 def loops_of(node):

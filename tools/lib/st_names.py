@@ -404,6 +404,7 @@ class Scope:
     def typed_binary(self, node: Binary, hint: str | None) -> Node:
         operator = node.operator
         left, right = self.typed(node.left, hint), self.typed(node.right, hint)
+        self.check_operator(node, left.type or right.type)
         if left.type is None and right.type is not None:
             left = self.as_type(left, right.type)
         elif right.type is None and left.type is not None:
@@ -413,7 +414,6 @@ class Scope:
             if left.type in WHOLE and right.type in WHOLE:
                 said += f": write {right.type}_TO_{left.type}({self.names.text.source[slice(*node.right.span)]})"
             raise Refusal(node.place, said)
-        self.check_operator(node, left.type)
         if isinstance(left, Literal) and isinstance(right, Literal):
             return self.folded(operator, left, right, node)
         if left.type == "BOOL" and (isinstance(left, Literal) or isinstance(right, Literal)):

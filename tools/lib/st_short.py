@@ -12,7 +12,7 @@ KEEPS = {"JMPC", "JMPCN", "RETC", "RETCN"}  # the current result stays behind th
 def shortened(steps: list[Step]) -> list[Step]:
     while True:
         before = [(it, it.text, it.goes_to) for it in steps]
-        for one in (threaded, turned, without_next, without_unreached, without_last_return, without_labels, without_loads):
+        for one in (threaded, turned, without_next, without_unreached, without_last_return, without_labels, with_one_label, without_loads):
             steps = one(steps)
         if before == [(it, it.text, it.goes_to) for it in steps]:
             return steps
@@ -92,6 +92,22 @@ def without_last_return(steps: list[Step]) -> list[Step]:
     """Behind the last instruction stands a return anyway."""
     last = next((it for it in reversed(steps) if is_code(it)), None)
     return [it for it in steps if it is not last] if last is not None and last.operator in ("RET", "RETC", "RETCN") else steps
+
+
+def with_one_label(steps: list[Step]) -> list[Step]:
+    """Of several labels at one place the first is kept."""
+    first, made = None, []
+    for it in steps:
+        if it.label is None:
+            first = None if it.operator else first
+        elif first is None:
+            first = it.label
+        else:
+            for jump in steps:
+                jump.goes_to = first if jump.goes_to is it.label else jump.goes_to
+            continue
+        made.append(it)
+    return made
 
 
 def without_labels(steps: list[Step]) -> list[Step]:

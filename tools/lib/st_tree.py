@@ -19,8 +19,8 @@ LEFT_OUT = {  # words that the profile leaves out, and what to write instead
     "DATE_AND_TIME": "write TIME, and NOW for the plant's time", "DT": "write TIME, and NOW for the plant's time",
     "STRUCT": "write a variable for each part, or a function block with outputs", "VAR_IN_OUT": "write VAR_INPUT and VAR_OUTPUT",
     "VAR_TEMP": "write VAR, and give it its value in each scan", "VAR_ACCESS": "write VAR_GLOBAL", "VAR_CONFIG": "write initial values where variables are declared",
-    "AT": "use the names of the image", "RETAIN": "leave it out: a scan keeps all variables, and a start begins anew", "NON_RETAIN": "leave it out: a start begins anew",
-    "R_EDGE": "write an instance of R_TRIG", "F_EDGE": "write an instance of F_TRIG", "SINGLE": "leave it out: each task runs once a round",
+    "AT": "use the names of the image", "RETAIN": "remove it, since all variables are kept from scan to scan, and a start begins anew", "NON_RETAIN": "remove it, since a start begins anew",
+    "R_EDGE": "write an instance of R_TRIG", "F_EDGE": "write an instance of F_TRIG", "SINGLE": "remove it, since each task runs once a round",
     "GOTO": "write IF, CASE, EXIT, CONTINUE or RETURN", "INITIAL_STEP": "write CASE over a variable for the step", "TRANSITION": "write CASE over a variable for the step",
     "CLASS": EDITION_3, "METHOD": EDITION_3, "INTERFACE": EDITION_3, "NAMESPACE": EDITION_3, "POINTER": "write an array with an index", "REF_TO": "write an array with an index",
 }
@@ -487,7 +487,7 @@ def refused_word(token: Token) -> Token:
 
 def refused_literal(token: Token) -> Token:
     kinds = {"REAL_NUMBER": (f"{token}, a REAL,", SUBRANGE), "TEXT": (f"{token}, a STRING,", LEFT_OUT["STRING"]), "ADDRESS": (f"the address {token}", LEFT_OUT["AT"])}
-    raise left_out(token, *kinds.get(token.type, ("a pragma", "leave it out")))
+    raise left_out(token, *kinds.get(token.type, ("a pragma", "remove it")))
 
 
 def taken_comment(token: Token) -> Token:
