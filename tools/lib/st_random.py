@@ -463,7 +463,7 @@ def block(rnd: random.Random, functions: list[Called]) -> tuple[str, Called]:
 def program(rnd: random.Random, name: str, task: str, functions: list[Called], blocks: list[Called]) -> str:
     own = [*places_of(rnd, "V"), Place("AN", "INT", -3, 20, True, (1, 8)), Place("AB", "BOOL", 0, 0, True, (-2, 3)), Place("SHADE", "INT", 0, 2), Place("FLOOR", "INT", 1, 8)]
     seen = [Place(it, "BOOL", 0, 0, False) for it in IMAGE[task]] + [Place("NOW", "TIME", *TIME, False), Place("CALLWAITS", "BOOL", 0, 0, False, (1, 4)), Place("CALLFROM", "INT", 0, 8, False, (1, 4))]
-    seen += [Place("POS", "INT", 1, 8, False)] if task == "CAR1" else [Place("CPOS", "INT", 1, 8, False, (1, 1))]
+    seen += [Place("POS", "INT", 1, 8, False), Place("MOTOR", "INT", -1, 1), Place("OPEN", "BOOL", 0, 0)] if task == "CAR1" else [Place("CPOS", "INT", 1, 8, False, (1, 1))]
     seen += [Place("RED", "INT", 0, 0, False), Place("BLUE", "INT", 2, 2, False), Place("MANY", "INT", 5, 5, False), Place("DEEP", "DINT", 70_000, 70_000, False)]
     shared = Place("SHARED", "INT", 0, 50, task == "CAR1")
     instances = {f"T{at}": it for at, it in enumerate(rnd.sample(BLOCKS, 3) + blocks)}
