@@ -1,5 +1,5 @@
 """Makes the steps of a body fewer, for tools/st, without a change of what they do or of which ranges they narrow."""
-import re
+import functools, re
 from collections import Counter
 
 from lib.st_code import Label, Step
@@ -9,10 +9,11 @@ RETURNS = {"JMP": "RET", "JMPC": "RETC", "JMPCN": "RETCN"}
 KEEPS = {"JMPC", "JMPCN", "RETC", "RETCN"}  # the current result stays behind them
 
 
-def shortened(steps: list[Step]) -> list[Step]:
+def shortened(steps: list[Step], own: set[str]) -> list[Step]:
+    """The same in fewer steps. Of its own variables a unit keeps a load of each that it reads at all, or `check --warn` would say that it never does."""
     while True:
         before = [(it, it.text, it.goes_to) for it in steps]
-        for one in (threaded, turned, without_next, without_unreached, without_last_return, without_labels, with_one_label, without_loads):
+        for one in (threaded, turned, without_next, without_unreached, without_last_return, without_labels, with_one_label, functools.partial(without_loads, own=own)):
             steps = one(steps)
         if before == [(it, it.text, it.goes_to) for it in steps]:
             return steps
@@ -128,14 +129,14 @@ def reads(steps: list[Step]) -> Counter:
     return found
 
 
-def without_loads(steps: list[Step]) -> list[Step]:
-    """A load of what is the current result anyway is left out, but for that of a test that narrows, and the only one that reads a variable."""
+def without_loads(steps: list[Step], own: set[str]) -> list[Step]:
+    """A load of what is the current result anyway is left out, but for that of a test that narrows, and the last that reads a variable of the unit's own."""
     made: list[Step] = []
     same: set[str] = set()  # the operands whose value is the current result
     times = reads(steps)
     for it in steps:
         operand = it.operand.upper()
-        if it.operator == "LD" and not it.is_pinned and operand in same and times[operand] != 1:
+        if it.operator == "LD" and not it.is_pinned and operand in same and (times[operand] != 1 or operand not in own):
             times[operand] -= 1
             made += [Step("", comment=comment) for comment in it.behind]
             continue

@@ -118,8 +118,11 @@ class Maker:
         self.names = Names(self.text)
         self.lines: list[Line] = []
         self.types()
-        for at, unit in enumerate(self.text.units):
+        self.units: dict[str, list[Line]] = {}  # the lines of each unit
+        for unit in self.text.units:
+            start = len(self.lines)
             self.unit(unit)
+            self.units[unit.name.upper()] = self.lines[start:]
         if len(self.text.configurations) > 1:
             raise Refusal(self.text.configurations[1].place, "a text has one configuration")
         for configuration in self.text.configurations:
@@ -198,7 +201,8 @@ class Maker:
             if of.kind not in LISTS[unit.kind]:
                 raise Refusal(of.place, INSTEAD.get((unit.kind, of.kind), f"{of.kind} stands in a configuration"))
         body = Body(unit, scope, self.comments)
-        steps = shortened(body.steps)
+        own = {name for name, it in scope.symbols.items() if it.kind == "variable"} | body.temporaries.keys()
+        steps = shortened(body.steps, own)
         count = sum(bool(it.operator) for it in steps)
         if count > MOST_INSTRUCTIONS:
             raise Refusal(unit.place, f"{count} instructions, and a unit has {MOST_INSTRUCTIONS} at most: put what is repeated into a function block")
@@ -259,3 +263,8 @@ class Maker:
 def made(text: Text) -> list[Line]:
     """The lines of Instruction List of a text in Structured Text; a Refusal where there are none."""
     return Maker(text).lines
+
+
+def units_made(text: Text) -> dict[str, str]:
+    """The text of each unit, by its name in upper case."""
+    return {name: "".join(f"{it.text}\n" for it in lines).strip("\n") + "\n" for name, lines in Maker(text).units.items()}
