@@ -152,7 +152,7 @@ class Body:
         return name
 
     def new_temporary(self, type: str) -> str:
-        taken = set(self.scope.symbols) | set(self.scope.names.functions) | set(self.scope.names.blocks) | set(self.temporaries)
+        taken = set(self.scope.symbols) | {it.name.upper() for it in self.scope.names.text.units} | set(self.temporaries)
         name = next(it for count in range(1, 10_000) if (it := f"HELD{count}") not in taken)
         self.temporaries[name] = type
         return name

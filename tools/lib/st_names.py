@@ -134,16 +134,22 @@ class Names:
             raise Refusal(place_of(token), f"{token} is no name: it has letters, digits and single underscores, at most 32 of them")
         return token.upper()
 
+    def check_free(self, key: str, token):
+        if key in self.constants or key in self.types:
+            raise Refusal(place_of(token), f"{token} is declared already, as a type, a constant or a value of an enumeration")
+
     def take_constants(self, lists: list[VarList]):
         for of in lists:
             for declaration in of.declarations if of.is_constant else ():
                 for token in declaration.names:
                     key = token.upper() if token.upper() in SIZES else self.named(token)
+                    self.check_free(key, token)
                     self.constants[key] = self.scope.constant_of(declaration, token)
 
     def take_types(self):
         for it in self.text.types:
             key = self.named(it.names[0])
+            self.check_free(key, it.names[0])
             if it.type.values:
                 self.types[key] = self.enumeration(key, it.type)
             else:
@@ -159,6 +165,7 @@ class Names:
             if written is not None:
                 next_value = int(self.scope.constant(written).value)
             literal = Literal(place_of(token), type.span, next_value, "INT")
+            self.check_free(self.named(token), token)
             self.constants[self.named(token)] = self.constants[f"{key}#{token.upper()}"] = literal
             values.append(next_value)
             next_value += 1

@@ -1,5 +1,5 @@
 """Reads a text in Structured Text: the grammar is st.lark, and here its nodes are made, and refused is by its name what the profile leaves out."""
-import functools, os, re
+import functools, os, re, sys
 
 from lark import Lark, Token, Transformer, v_args
 from lark.exceptions import UnexpectedCharacters, UnexpectedEOF, UnexpectedToken, VisitError
@@ -10,6 +10,7 @@ from lib.st_tree import (
 )
 
 LITERALS = {"D": "DATE", "DATE": "DATE", "TOD": "TIME_OF_DAY", "TIME_OF_DAY": "TIME_OF_DAY", "DT": "DATE_AND_TIME", "DATE_AND_TIME": "DATE_AND_TIME", "STRING": "STRING"}
+DEEPEST = 6000  # calls inside one another: some 1000 operators in a row
 MS = {"d": 86_400_000, "h": 3_600_000, "m": 60_000, "s": 1000, "ms": 1}
 
 
@@ -236,6 +237,8 @@ class Tree(Transformer):
 
     def list(self, meta, items):
         kind, constant, *declarations = items
+        if constant is not None and kind.upper() in ("VAR_INPUT", "VAR_OUTPUT"):
+            raise Refusal(place_of(constant), f"CONSTANT stands behind VAR, VAR_GLOBAL or VAR_EXTERNAL, and not behind {kind.upper()}")
         return VarList(*self.at(meta), kind.upper(), constant is not None, declarations)
 
     def unit(self, kind, meta, items):
@@ -309,9 +312,12 @@ def shown(name: str) -> str:
 def tree_of(source: str) -> Text:
     """The tree of a text; a Refusal where it has none."""
     comments.clear()
+    sys.setrecursionlimit(max(DEEPEST, sys.getrecursionlimit()))
     text = Text(source, [], [], [], [])
     try:
         Tree(text).transform(parser().parse(source))
+    except RecursionError:
+        raise Refusal(Place(1, 1), "an expression has too many operators in a row or inside one another: hold parts of it in variables") from None
     except VisitError as why:
         raise why.orig_exc from None
     except UnexpectedToken as why:

@@ -19,25 +19,32 @@ def shortened(steps: list[Step], own: set[str]) -> list[Step]:
             return steps
 
 
-def is_code(step: Step) -> bool:
-    return bool(step.operator) or step.label is not None
+class Around:
+    """What follows each place of a body: the next instruction, and the labels on the way to it."""
 
+    def __init__(self, steps: list[Step]):
+        self.next: list[int | None] = [None] * (len(steps) + 1)  # from this place on
+        self.labels: list[frozenset[int]] = [frozenset()] * (len(steps) + 1)
+        self.place: dict[int, int] = {}
+        for at in range(len(steps) - 1, -1, -1):
+            it = steps[at]
+            self.next[at] = at if it.operator else self.next[at + 1]
+            self.labels[at] = frozenset() if it.operator else self.labels[at + 1] | ({id(it.label)} if it.label else set())
+            if it.label is not None:
+                self.place[id(it.label)] = at
 
-def behind(steps: list[Step], at: int) -> int | None:
-    """The next instruction from here on, comments and labels left out."""
-    return next((it for it in range(at, len(steps)) if steps[it].operator), None)
-
-
-def place_of(steps: list[Step], label: Label) -> int:
-    return next(at for at, it in enumerate(steps) if it.label is label)
+    def target(self, label: Label) -> int | None:
+        """The instruction at a label; none at the end of the body."""
+        return self.next[self.place[id(label)]]
 
 
 def threaded(steps: list[Step]) -> list[Step]:
     """A jump to a jump goes where that one goes, and one to a return is one; but for a test that narrows, which stays a jump."""
-    for it in steps:
+    around = Around(steps)
+    for it in reversed(steps):
         if it.goes_to is None:
             continue
-        target = behind(steps, place_of(steps, it.goes_to))
+        target = around.target(it.goes_to)
         if target is not None and steps[target].operator == "JMP":
             it.goes_to = steps[target].goes_to
         elif (target is None or steps[target].operator == "RET") and not (it.is_pinned and it.operator != "JMP"):
@@ -45,21 +52,12 @@ def threaded(steps: list[Step]) -> list[Step]:
     return steps
 
 
-def follows(steps: list[Step], at: int, label: Label) -> bool:
-    """Whether nothing but labels and comments lies between a place and a label."""
-    for it in steps[at + 1:]:
-        if it.label is label:
-            return True
-        if it.operator:
-            return False
-    return False
-
-
 def turned(steps: list[Step]) -> list[Step]:
     """A conditional jump over a jump or a return is that one, on the other condition."""
+    around, gone = Around(steps), set()
     for at, it in enumerate(steps):
-        other = behind(steps, at + 1)
-        if it.operator not in CONDITIONAL or other is None or any(between.label for between in steps[at + 1:other]) or not follows(steps, other, it.goes_to):
+        other = around.next[at + 1]
+        if it.operator not in CONDITIONAL or other is None or around.labels[at + 1] or id(it.goes_to) not in around.labels[other + 1]:
             continue
         over = steps[other]
         if over.operator == "JMP":
@@ -69,13 +67,14 @@ def turned(steps: list[Step]) -> list[Step]:
         else:
             continue
         it.behind += over.behind
-        return [one for one in steps if one is not over]
-    return steps
+        gone.add(other)
+    return [it for at, it in enumerate(steps) if at not in gone]
 
 
 def without_next(steps: list[Step]) -> list[Step]:
     """A jump to what follows does nothing."""
-    return [it for at, it in enumerate(steps) if it.goes_to is None or not follows(steps, at, it.goes_to)]
+    around = Around(steps)
+    return [it for at, it in enumerate(steps) if it.goes_to is None or id(it.goes_to) not in around.labels[at + 1]]
 
 
 def without_unreached(steps: list[Step]) -> list[Step]:
@@ -91,23 +90,24 @@ def without_unreached(steps: list[Step]) -> list[Step]:
 
 def without_last_return(steps: list[Step]) -> list[Step]:
     """Behind the last instruction stands a return anyway."""
-    last = next((it for it in reversed(steps) if is_code(it)), None)
+    last = next((it for it in reversed(steps) if it.operator or it.label), None)
     return [it for it in steps if it is not last] if last is not None and last.operator in ("RET", "RETC", "RETCN") else steps
 
 
 def with_one_label(steps: list[Step]) -> list[Step]:
     """Of several labels at one place the first is kept."""
-    first, made = None, []
+    first, made, instead = None, [], {}
     for it in steps:
         if it.label is None:
             first = None if it.operator else first
         elif first is None:
             first = it.label
         else:
-            for jump in steps:
-                jump.goes_to = first if jump.goes_to is it.label else jump.goes_to
+            instead[id(it.label)] = first
             continue
         made.append(it)
+    for it in made:
+        it.goes_to = instead.get(id(it.goes_to), it.goes_to)
     return made
 
 
