@@ -278,6 +278,10 @@ class Scope:
             type, initial = self.type_of(declaration.type)
             if declaration.initial is not None:
                 initial = self.initial_of(declaration.initial, type)
+            if kind == "external":
+                if declaration.initial is not None and not of.is_constant:
+                    raise Refusal(declaration.initial.place, "an external starts at the value of its global")
+                initial = None
             for token in declaration.names:
                 yield Symbol(self.names.named(token) and str(token), kind, type, initial, place_of(token))
 
@@ -292,7 +296,10 @@ class Scope:
                     continue
                 self.symbols[key] = symbol
         if unit.result is not None:
-            self.symbols[unit.name.upper()] = Symbol(str(unit.name), "result", self.type_of(unit.result)[0], None, place_of(unit.name))
+            type, initial = self.type_of(unit.result)
+            if initial is not None or not isinstance(type, Scalar):
+                raise Refusal(unit.result.place, "a function gives a scalar that starts at its least value or at 0: write its type and range here")
+            self.symbols[unit.name.upper()] = Symbol(str(unit.name), "result", type, None, place_of(unit.name))
         if unit.kind == "PROGRAM":
             for name, type in self.names.image.items():
                 self.symbols[name] = Symbol(name, "image", type, None, unit.place)

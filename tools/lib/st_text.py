@@ -171,7 +171,7 @@ class Maker:
         kept = [str(token) for token in it.names if token.upper() not in left_out and token.upper() in symbols]
         if not kept:
             return
-        self.put_comments(above)
+        self.put_comments([it and f"  {it}" for it in above])
         symbol = symbols[kept[0].upper()]
         initial = f" := {Body.literal(symbol.initial, True)}" if symbol.initial is not None else ""
         self.put(f"  {', '.join(kept)} : {symbol.type}{initial};", it.place, behind)
