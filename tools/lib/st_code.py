@@ -6,7 +6,7 @@ it. Operands in the middle of an expression are parenthesised; only an index, an
 import dataclasses, functools
 from dataclasses import dataclass, field
 
-from lib.st_names import COMPARISONS, IMAGE, MIRRORED, OUTPUTS, RESERVED, Array, Instance, Scalar, Scope, Symbol
+from lib.st_names import COMPARISONS, MIRRORED, OUTPUTS, Array, Instance, Scalar, Scope
 from lib.st_tree import WHOLE, Argument, Assign, Binary, Branch, Call, Case, Choice, For, If, Invoke, Leave, Literal, Node, Place, Refusal, Unary, Unit, Variable, place_of
 
 OPERATORS = {"+": "ADD", "-": "SUB", "*": "MUL", "/": "DIV", "MOD": "MOD", "=": "EQ", "<>": "NE", "<": "LT", ">": "GT", "<=": "LE", ">=": "GE", "AND": "AND", "OR": "OR", "XOR": "XOR"}

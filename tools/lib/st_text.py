@@ -3,7 +3,7 @@ import re
 from dataclasses import dataclass, field
 
 from lib.st_code import Body, Step, parts
-from lib.st_names import SIZES, Names, Scalar, Scope, Symbol
+from lib.st_names import SIZES, Names, Scope, Symbol
 from lib.st_short import shortened
 from lib.st_tree import Assign, Branch, Choice, Configuration, Declaration, Invoke, Leave, Node, Place, Refusal, Task, Text, Unit, VarList
 from lib.st_tree import Case, For, If, Line as ProgramLine

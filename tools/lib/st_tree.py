@@ -1,7 +1,11 @@
 """The tree of a text in Structured Text, as st_read.py makes it, and why a text is refused."""
 from __future__ import annotations
 
+import typing
 from dataclasses import dataclass, field
+
+if typing.TYPE_CHECKING:
+    from lark import Token
 
 WHOLE = {"SINT": (-128, 127), "INT": (-32768, 32767), "DINT": (-2**31, 2**31 - 1), "USINT": (0, 255), "UINT": (0, 65535), "UDINT": (0, 2**32 - 1)}
 LONGEST_DURATION = 2_147_483_647
