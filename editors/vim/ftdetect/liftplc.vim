@@ -1,1 +1,2 @@
 autocmd BufRead,BufNewFile *.il set filetype=liftplc
+autocmd BufRead,BufNewFile *.st set filetype=liftplc_st
