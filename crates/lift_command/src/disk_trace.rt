@@ -30,11 +30,11 @@ impl<'r, R: Files> DiskTrace<'r, R> {
 }
 
 impl<R: Files> Sink for DiskTrace<'_, R> {
-    ghost use Rattle.std.specs.Prelude.{◌&&◌, ◌==◌};
+    ghost use Rattle.std.specs.Prelude.{◌&&◌, not, if◌then◌else◌};
 
     ghost has_failed = { λ t. t.failed };
 
-    ghost made = { λ t name sync. t.is_created && (t.sync == sync) };
+    ghost made = { λ t name sync. t.is_created && (if sync then t.sync else not t.sync) };
 
     fn put(&mut self, piece: &[u8]) -> Result<usize, SinkFault> {
         let Some(file) = &mut self.file else {

@@ -5,4 +5,5 @@ pub mod Drawn
 pub mod Followed
 pub mod Watching
 pub mod Slots
+pub mod Threaded
 pub mod Scanned

@@ -1,4 +1,4 @@
-use Rattle.std.proofs.Common.{List, refl, subst}
+use Rattle.std.proofs.Common.{List, subst}
 use Rattle.lift_host.specs.declared.press.Press.{Press}
 use Rattle.lift_host.specs.declared.press.Setting.{Setting}
 use Rattle.lift_spec.specs.declared.image.Sizes.{Sizes}
@@ -6,6 +6,7 @@ use Rattle.lift_spec.specs.Image.{sizes_of}
 use Rattle.lift_runs.specs.Driven.{switches_in}
 use Rattle.lift_workers.specs.Ran.{IsRun}
 use Rattle.lift_output.specs.Outcomes.{AreDriven}
+use Rattle.lift_output.proofs.Threaded.{run_is}
 use Rattle.lift_output.proofs.outcome.ran.Goals as goal
 
 pub returns-in-Ok-run_in_threads-clause-is : goal.returns-in-Ok-run_in_threads-clause-is
@@ -13,14 +14,8 @@ returns-in-Ok-run_in_threads-clause-is g c =
     let config = c.args.verified.config in
     let driven = c.in-Ok.driven in
     let ran = c.in-Ok-run_in_threads.ran in
-    record {
-      presses = driven.presses;
-      settings = driven.settings;
-      driven = subst (λ (s : Sizes). AreDriven s c.args.asked c.args.calls.now driven.presses driven.settings) c.sizes.ensures c.in-Ok.ensures.ok;
-      entries = ran.journal.items;
-      left = ran.left;
-      ran =
-          subst (λ (l : List Press). IsRun config (switches_in (sizes_of config).cars driven.settings) c.args.asked.rounds l ran.journal.items ran.left) c.as_slice.ensures
-          (subst (λ (l : List Setting). IsRun config (switches_in (sizes_of config).cars l) c.args.asked.rounds c.as_slice.result.now ran.journal.items ran.left) c.as_slice-in-Ok.ensures c.in-Ok-run_in_threads.ensures);
-      trace = refl;
-    }
+    run_is c.args.verified c.args.asked c.args.calls.now driven.presses driven.settings
+    (subst (λ (s : Sizes). AreDriven s c.args.asked c.args.calls.now driven.presses driven.settings) c.sizes.ensures c.in-Ok.ensures.ok) ran.journal.items ran.left
+    (subst (λ (l : List Press). IsRun config (switches_in (sizes_of config).cars driven.settings) c.args.asked.rounds l ran.journal.items ran.left) c.as_slice.ensures
+    (subst (λ (l : List Setting). IsRun config (switches_in (sizes_of config).cars l) c.args.asked.rounds c.as_slice.result.now ran.journal.items ran.left) c.as_slice-in-Ok.ensures c.in-Ok-run_in_threads.ensures))
+    c.ran_output.result c.ran_output.ensures.trace c.ran_output.ensures.left c.ran_output.ensures.memory
