@@ -81,7 +81,7 @@ pub fn all<R: Print + Wait>(rt: &R, alloc: Global, report: &mut Report) -> Resul
     let (pass, done) = station::all(rt, alloc, pass, report);
     no_allocation(rt);
     let closed = desk.close(panels, pass);
-    print(rt, "Desk::close", &[closed.hand.len() as i128]);
+    print(rt, "Desk::close", &[closed.hand().len() as i128]);
     allocation(rt);
     done
 }
