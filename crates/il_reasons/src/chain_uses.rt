@@ -1,6 +1,7 @@
 // The lines in which units use units.
 
-ghost use Rattle.std.specs.Prelude.{◌≡◌, ◌++◌, [], Some, IfSome, IfOk, OnOk, true, slice_get, string_bytes};
+ghost use Rattle.std.specs.Prelude.{◌≡◌, [], Some, IfSome, IfOk, OnOk, true, slice_get, string_bytes};
+ghost use Rattle.texts.specs.Puts.{Puts};
 ghost use Rattle.il_rules.specs.Names.{or_else};
 ghost use Rattle.il_reasons.specs.ChainReasons.{UsesIn, use_text, AreAdded, is_named, is_apart, is_number, is_own, is_call_of, is_type_of, call_line, instance_line, use_line};
 
@@ -157,8 +158,7 @@ fn next_of<'n>(
 
 // `A uses B in line 12`
 fn put_use(text: &mut String, user: &Unit, used: &Use) -> Result<(), AllocError>
-    ensures { OnOk result (string_bytes text.new ≡ string_bytes text.old
-        ++ use_text user.now used.now.unit.now used.now.line) }
+    ensures { OnOk result (Puts text.old text.new (use_text user.now used.now.unit.now used.now.line)) }
 {
     let used_name = used.unit.name.name.as_str();
     put_three(text, user.name.name.as_str(), " uses ", used_name)?;

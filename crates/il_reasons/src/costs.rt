@@ -1,6 +1,7 @@
 // What is told of a unit that costs too much (50): what its most expensive path runs.
 
-ghost use Rattle.std.specs.Prelude.{◌≡◌, ◌==◌, ◌++◌, [], if◌then◌else◌, flat_map, map, slice_get, IfOk, OnOk, string_bytes};
+ghost use Rattle.std.specs.Prelude.{◌≡◌, ◌==◌, ◌++◌, [], if◌then◌else◌, flat_map, map, slice_get, IfOk, OnOk};
+ghost use Rattle.texts.specs.Puts.{Puts};
 ghost use Rattle.il_verify.specs.Rounds.{unit_ways, line_at};
 ghost use Rattle.il_reasons.specs.CostReasons.{costs_of, places_by, is_callee, is_run_by, run_at, runs_of, costs_text, once_text, often_text, run_line, runs_lines, own_line, most_lines, heading_lines, AreToldOfCosts};
 
@@ -36,8 +37,7 @@ fn put_units(
 ) -> Result<(), AllocError>
     requires ways { all.now ≡ map (unit_ways names.now) names.now.units }
     requires costs { costs.now ≡ costs_of names.now }
-    ensures { OnOk result (string_bytes text.new ≡ string_bytes text.old
-        ++ flat_map (heading_lines names.now offset) names.now.units) }
+    ensures { OnOk result (Puts text.old text.new (flat_map (heading_lines names.now offset) names.now.units)) }
 {
     let units = names.config().units.as_slice();
     let all = all.as_slice();
@@ -57,9 +57,7 @@ fn put_heading(
     ways: &Items<Way>,
     offset: u32,
 ) -> Result<(), AllocError>
-    ensures { OnOk result (string_bytes text.new ≡ string_bytes text.old
-        ++ (if unit.now.place.offset == offset then most_lines units.now costs.now unit.now ways.now
-        else [])) }
+    ensures { OnOk result (Puts text.old text.new (if unit.now.place.offset == offset then most_lines units.now costs.now unit.now ways.now else [])) }
 {
     if unit.place.offset == offset {
         put_most(alloc, text, units, costs, unit, ways)
@@ -77,8 +75,7 @@ fn put_most(
     unit: &Unit,
     ways: &Items<Way>,
 ) -> Result<(), AllocError>
-    ensures { OnOk result (string_bytes text.new ≡ string_bytes text.old
-        ++ most_lines units.now costs.now unit.now ways.now) }
+    ensures { OnOk result (Puts text.old text.new (most_lines units.now costs.now unit.now ways.now)) }
 {
     let rests = rests(alloc, ways.as_slice(), costs.as_slice())?;
     let places = places(alloc, rests.as_slice())?;
@@ -125,9 +122,7 @@ fn put_runs(
     costs: &[u32],
     path: Path<'_>,
 ) -> Result<(), AllocError>
-    ensures { OnOk result (string_bytes text.new ≡ string_bytes text.old
-        ++ runs_lines costs.now path.entry.body.now path.entry.ways.now path.entry.places.now 0
-        units.now) }
+    ensures { OnOk result (Puts text.old text.new (runs_lines costs.now path.entry.body.now path.entry.ways.now path.entry.places.now 0 units.now)) }
 {
     'units: for (number, unit) in units.iter().enumerate() {
         let runs = runs_of(alloc, path, number)?;
@@ -205,8 +200,7 @@ fn put_run(
     cost: u32,
     runs: &[usize],
 ) -> Result<(), AllocError>
-    ensures { OnOk result (string_bytes text.new ≡ string_bytes text.old
-        ++ run_line body.now name.now cost runs.now) }
+    ensures { OnOk result (Puts text.old text.new (run_line body.now name.now cost runs.now)) }
 {
     match runs {
         [] => Ok(()),
@@ -224,8 +218,7 @@ fn put_run(
 // `F costs 500`
 #[tactic(auto, unfolding(crate::specs::CostReasons::costs_text))]
 fn put_costs(text: &mut String, name: &str, cost: u32) -> Result<(), AllocError>
-    ensures { OnOk result (string_bytes text.new ≡ string_bytes text.old
-        ++ costs_text name.now cost) }
+    ensures { OnOk result (Puts text.old text.new (costs_text name.now cost)) }
 {
     if cost > MOST {
         put_two(text, name, " costs more than 1000000")
@@ -237,7 +230,7 @@ fn put_costs(text: &mut String, name: &str, cost: u32) -> Result<(), AllocError>
 // ` and is run once, in line 7`
 #[tactic(auto, unfolding(crate::specs::CostReasons::once_text))]
 fn put_once(text: &mut String, line: u32) -> Result<(), AllocError>
-    ensures { OnOk result (string_bytes text.new ≡ string_bytes text.old ++ once_text line) }
+    ensures { OnOk result (Puts text.old text.new (once_text line)) }
 {
     writeln!(text, " and is run once, in line {}", line)
 }
@@ -245,8 +238,7 @@ fn put_once(text: &mut String, line: u32) -> Result<(), AllocError>
 // ` and is run 2000 times, first in line 7`
 #[tactic(auto, unfolding(crate::specs::CostReasons::often_text))]
 fn put_often(text: &mut String, times: usize, line: u32) -> Result<(), AllocError>
-    ensures { OnOk result (string_bytes text.new ≡ string_bytes text.old
-        ++ often_text times line) }
+    ensures { OnOk result (Puts text.old text.new (often_text times line)) }
 {
     writeln!(text, " and is run {} times, first in line {}", times, line)
 }
@@ -263,8 +255,7 @@ fn line_at(body: &Body, place: usize) -> u32
 
 // `instructions of C itself: 2003`
 fn put_own(text: &mut String, name: &str, count: usize) -> Result<(), AllocError>
-    ensures { OnOk result (string_bytes text.new ≡ string_bytes text.old
-        ++ own_line name.now count) }
+    ensures { OnOk result (Puts text.old text.new (own_line name.now count)) }
 {
     writeln!(text, "instructions of {} itself: {}", name, count)
 }

@@ -1,6 +1,7 @@
 // What is told of a name that is declared again (20).
 
-ghost use Rattle.std.specs.Prelude.{◌≡◌, ◌++◌, Some, None, if◌then◌else◌, OnOk, flat_map, map, option_map, string_bytes};
+ghost use Rattle.std.specs.Prelude.{◌≡◌, Some, None, if◌then◌else◌, OnOk, flat_map, map, option_map};
+ghost use Rattle.texts.specs.Puts.{Puts};
 ghost use Rattle.il_rules.specs.Declarations.{names_in, labels_of};
 ghost use Rattle.il_reasons.specs.NameSpots.{shown, spot_shown, task_name, line_name, is_at, first_of};
 ghost use Rattle.il_reasons.specs.NamesAgain.{again_line, unit_line, predeclared_line, earlier_line, again_text, unit_text, predeclared_text, other_text, heading_text, variable_text, unit_names_text, again_lines};
@@ -22,8 +23,7 @@ pub fn put_again_at(
     names: &Scoped,
     place: Place,
 ) -> Result<(), AllocError>
-    ensures { OnOk result (string_bytes text.new ≡ string_bytes text.old
-        ++ again_lines names.now place) }
+    ensures { OnOk result (Puts text.old text.new (again_lines names.now place)) }
 {
     let config = names.config();
     let units = heading_spots(alloc, config.units.as_slice())?;
@@ -55,8 +55,7 @@ fn put_heading(
     units: &[Spot<'_>],
     place: Place,
 ) -> Result<(), AllocError>
-    ensures { OnOk result (string_bytes text.new ≡ string_bytes text.old
-        ++ heading_text names.now place (shown units.now)) }
+    ensures { OnOk result (Puts text.old text.new (heading_text names.now place (shown units.now))) }
 {
     match named_at(units, place) {
         Some(spot) => {
@@ -76,8 +75,7 @@ fn put_units(
     trees: &[Unit],
     place: Place,
 ) -> Result<(), AllocError>
-    ensures { OnOk result (string_bytes text.new ≡ string_bytes text.old
-        ++ flat_map (unit_names_text names.now (shown units.now) place) trees.now) }
+    ensures { OnOk result (Puts text.old text.new (flat_map (unit_names_text names.now (shown units.now) place) trees.now)) }
 {
     'units: for unit in trees {
         put_unit_names(alloc, text, names, units, unit, place)?;
@@ -94,8 +92,7 @@ fn put_unit_names(
     unit: &Unit,
     place: Place,
 ) -> Result<(), AllocError>
-    ensures { OnOk result (string_bytes text.new ≡ string_bytes text.old
-        ++ unit_names_text names.now (shown units.now) place unit.now) }
+    ensures { OnOk result (Puts text.old text.new (unit_names_text names.now (shown units.now) place unit.now)) }
 {
     let variables = unit_spots(alloc, unit)?;
     put_variable(text, names, units, variables.as_slice(), place)?;
@@ -104,8 +101,7 @@ fn put_unit_names(
 
 // Of a label among those of a body.
 fn put_labels(alloc: Global, text: &mut String, body: &Body, place: Place) -> Result<(), AllocError>
-    ensures { OnOk result (string_bytes text.new ≡ string_bytes text.old
-        ++ other_text place (labels_of body.now)) }
+    ensures { OnOk result (Puts text.old text.new (other_text place (labels_of body.now))) }
 {
     let labels = label_spots(alloc, body)?;
     put_other(text, labels.as_slice(), place)
@@ -120,8 +116,7 @@ fn put_globals(
     globals: &[Declaration],
     place: Place,
 ) -> Result<(), AllocError>
-    ensures { OnOk result (string_bytes text.new ≡ string_bytes text.old
-        ++ variable_text names.now (shown units.now) place (names_in globals.now)) }
+    ensures { OnOk result (Puts text.old text.new (variable_text names.now (shown units.now) place (names_in globals.now))) }
 {
     let spots = declared_spots(alloc, globals)?;
     put_variable(text, names, units, spots.as_slice(), place)
@@ -134,8 +129,7 @@ fn put_tasks(
     tasks: &[Task],
     place: Place,
 ) -> Result<(), AllocError>
-    ensures { OnOk result (string_bytes text.new ≡ string_bytes text.old
-        ++ other_text place (map task_name tasks.now)) }
+    ensures { OnOk result (Puts text.old text.new (other_text place (map task_name tasks.now))) }
 {
     let spots = task_spots(alloc, tasks)?;
     put_other(text, spots.as_slice(), place)
@@ -148,8 +142,7 @@ fn put_lines(
     lines: &[ProgramLine],
     place: Place,
 ) -> Result<(), AllocError>
-    ensures { OnOk result (string_bytes text.new ≡ string_bytes text.old
-        ++ other_text place (map line_name lines.now)) }
+    ensures { OnOk result (Puts text.old text.new (other_text place (map line_name lines.now))) }
 {
     let spots = line_spots(alloc, lines)?;
     put_other(text, spots.as_slice(), place)
@@ -163,8 +156,7 @@ fn put_variable(
     spots: &[Spot<'_>],
     place: Place,
 ) -> Result<(), AllocError>
-    ensures { OnOk result (string_bytes text.new ≡ string_bytes text.old
-        ++ variable_text names.now (shown units.now) place (shown spots.now)) }
+    ensures { OnOk result (Puts text.old text.new (variable_text names.now (shown units.now) place (shown spots.now))) }
 {
     match named_at(spots, place) {
         Some(spot) => {
@@ -178,8 +170,7 @@ fn put_variable(
 
 // Of a label, a task or a PROGRAM line among those of its list.
 fn put_other(text: &mut String, spots: &[Spot<'_>], place: Place) -> Result<(), AllocError>
-    ensures { OnOk result (string_bytes text.new ≡ string_bytes text.old
-        ++ other_text place (shown spots.now)) }
+    ensures { OnOk result (Puts text.old text.new (other_text place (shown spots.now))) }
 {
     match named_at(spots, place) {
         Some(spot) => put_again(text, spots, spot),
@@ -189,8 +180,7 @@ fn put_other(text: &mut String, spots: &[Spot<'_>], place: Place) -> Result<(), 
 
 // That no text may declare the name.
 fn put_predeclared(text: &mut String, names: &Scoped, spot: Spot<'_>) -> Result<(), AllocError>
-    ensures { OnOk result (string_bytes text.new ≡ string_bytes text.old
-        ++ predeclared_text names.now (spot_shown spot.entry)) }
+    ensures { OnOk result (Puts text.old text.new (predeclared_text names.now (spot_shown spot.entry))) }
 {
     if names.is_predeclared(spot.name) {
         put_predeclared_line(text, spot.name)
@@ -201,8 +191,7 @@ fn put_predeclared(text: &mut String, names: &Scoped, spot: Spot<'_>) -> Result<
 
 // That a unit has the name.
 fn put_unit(text: &mut String, units: &[Spot<'_>], spot: Spot<'_>) -> Result<(), AllocError>
-    ensures { OnOk result (string_bytes text.new ≡ string_bytes text.old
-        ++ unit_text (shown units.now) (spot_shown spot.entry)) }
+    ensures { OnOk result (Puts text.old text.new (unit_text (shown units.now) (spot_shown spot.entry))) }
 {
     match line_of(units, spot.name) {
         Some(line) => put_unit_line(text, spot.name, line),
@@ -212,8 +201,7 @@ fn put_unit(text: &mut String, units: &[Spot<'_>], spot: Spot<'_>) -> Result<(),
 
 // That an earlier one has the name.
 fn put_again(text: &mut String, spots: &[Spot<'_>], spot: Spot<'_>) -> Result<(), AllocError>
-    ensures { OnOk result (string_bytes text.new ≡ string_bytes text.old
-        ++ again_text (shown spots.now) (spot_shown spot.entry)) }
+    ensures { OnOk result (Puts text.old text.new (again_text (shown spots.now) (spot_shown spot.entry))) }
 {
     match earlier_line(spots, spot) {
         Some(line) => put_again_line(text, spot.name, line),
@@ -254,24 +242,21 @@ fn line_elsewhere(spot: Spot<'_>, place: Place) -> Option<u32>
 
 #[tactic(auto, unfolding(crate::specs::NamesAgain::again_line))]
 fn put_again_line(text: &mut String, name: &str, line: u32) -> Result<(), AllocError>
-    ensures { OnOk result (string_bytes text.new ≡ string_bytes text.old
-        ++ again_line name.now line) }
+    ensures { OnOk result (Puts text.old text.new (again_line name.now line)) }
 {
     put_in_line(text, name, " is declared in line ", line, " already\n")
 }
 
 #[tactic(auto, unfolding(crate::specs::NamesAgain::unit_line))]
 fn put_unit_line(text: &mut String, name: &str, line: u32) -> Result<(), AllocError>
-    ensures { OnOk result (string_bytes text.new ≡ string_bytes text.old
-        ++ unit_line name.now line) }
+    ensures { OnOk result (Puts text.old text.new (unit_line name.now line)) }
 {
     put_in_line(text, name, " is the unit of line ", line, "\n")
 }
 
 #[tactic(auto, unfolding(crate::specs::NamesAgain::predeclared_line))]
 fn put_predeclared_line(text: &mut String, name: &str) -> Result<(), AllocError>
-    ensures { OnOk result (string_bytes text.new ≡ string_bytes text.old
-        ++ predeclared_line name.now) }
+    ensures { OnOk result (Puts text.old text.new (predeclared_line name.now)) }
 {
     put_two(text, name, " is a predeclared name\n")
 }

@@ -1,6 +1,7 @@
 // What is told of a label that does not stand in its unit (34).
 
-ghost use Rattle.std.specs.Prelude.{◌≡◌, ◌++◌, IfOk, OnOk, option_map, string_bytes};
+ghost use Rattle.std.specs.Prelude.{◌≡◌, IfOk, OnOk, option_map};
+ghost use Rattle.texts.specs.Puts.{Puts};
 ghost use Rattle.il_reasons.specs.NamesNear.{near_shown, nearest};
 ghost use Rattle.il_reasons.specs.NamesLabels.{missing_line, labels_near, missing_text, jump_text};
 
@@ -17,8 +18,7 @@ pub(crate) fn put_jump(
     scope: &UnitScope<'_>,
     instruction: &Instruction,
 ) -> Result<(), AllocError>
-    ensures { OnOk result (string_bytes text.new ≡ string_bytes text.old
-        ++ jump_text scope.now.unit.body instruction.now) }
+    ensures { OnOk result (Puts text.old text.new (jump_text scope.now.unit.body instruction.now)) }
 {
     match instruction {
         Instruction::Jump { label, .. } => put_missing(alloc, text, scope, label.name.as_str()),
@@ -33,8 +33,7 @@ fn put_missing(
     scope: &UnitScope<'_>,
     name: &str,
 ) -> Result<(), AllocError>
-    ensures { OnOk result (string_bytes text.new ≡ string_bytes text.old
-        ++ missing_text scope.now.unit.body name.now) }
+    ensures { OnOk result (Puts text.old text.new (missing_text scope.now.unit.body name.now)) }
 {
     if scope.label(name).is_some() {
         return Ok(());
@@ -55,8 +54,7 @@ fn near_label<'c>(alloc: Global, body: &'c Body, name: &str) -> Result<Option<Ne
 
 #[tactic(auto, unfolding(crate::specs::NamesLabels::missing_line))]
 fn put_missing_line(text: &mut String, name: &str, near: Option<Near<'_>>) -> Result<(), AllocError>
-    ensures { OnOk result (string_bytes text.new ≡ string_bytes text.old
-        ++ missing_line name.now (option_map near_shown near.entry)) }
+    ensures { OnOk result (Puts text.old text.new (missing_line name.now (option_map near_shown near.entry))) }
 {
     text.push_str("label ")?;
     put_ended(text, name, " does not stand in this unit", near)

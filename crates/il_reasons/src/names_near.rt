@@ -1,6 +1,7 @@
 // Names that are near.
 
-ghost use Rattle.std.specs.Prelude.{◌≡◌, ◌++◌, IfOk, IfSome, OnOk, map, option_map, string_bytes};
+ghost use Rattle.std.specs.Prelude.{◌≡◌, ◌++◌, IfOk, IfSome, OnOk, map, option_map};
+ghost use Rattle.texts.specs.Puts.{Puts};
 ghost use Rattle.il_reasons.specs.NameSpots.{shown};
 ghost use Rattle.il_reasons.specs.NamesNear.{declared_name, candidate_shown, near_shown, distance, is_short, are_few, are_fewer, after_edits, nearer, nearest, IsNearest, declared_words, nearness, hint_of, hint, ending};
 
@@ -138,8 +139,7 @@ pub fn push_spots<'c>(
 /// Ends a line that tells of a name: with what is said of one that is near, if there is one: `; NEAR is near`, and the line where it is declared (own rule).
 #[tactic(auto, unfolding(crate::specs::NamesNear::ending))]
 pub fn put_ending(text: &mut String, near: Option<Near<'_>>) -> Result<(), AllocError>
-    ensures { OnOk result (string_bytes text.new ≡ string_bytes text.old
-        ++ ending (option_map near_shown near.entry)) }
+    ensures { OnOk result (Puts text.old text.new (ending (option_map near_shown near.entry))) }
 {
     put_hint(text, near)?;
     text.push_str("\n")
@@ -152,8 +152,7 @@ pub fn put_ended(
     words: &str,
     near: Option<Near<'_>>,
 ) -> Result<(), AllocError>
-    ensures { OnOk result (string_bytes text.new ≡ string_bytes text.old
-        ++ (name.now ++ (words.now ++ ending (option_map near_shown near.entry)))) }
+    ensures { OnOk result (Puts text.old text.new (name.now ++ (words.now ++ ending (option_map near_shown near.entry)))) }
 {
     put_two(text, name, words)?;
     put_ending(text, near)
@@ -162,8 +161,7 @@ pub fn put_ended(
 // What is said of a name that is near.
 #[tactic(auto, unfolding(crate::specs::NamesNear::hint_of))]
 fn put_hint(text: &mut String, near: Option<Near<'_>>) -> Result<(), AllocError>
-    ensures { OnOk result (string_bytes text.new ≡ string_bytes text.old
-        ++ hint (option_map near_shown near.entry)) }
+    ensures { OnOk result (Puts text.old text.new (hint (option_map near_shown near.entry))) }
 {
     match near {
         Some(near) => {
@@ -176,7 +174,7 @@ fn put_hint(text: &mut String, near: Option<Near<'_>>) -> Result<(), AllocError>
 
 // Where a name is that so many edits lead to.
 fn put_nearness(text: &mut String, edits: usize, line: Option<u32>) -> Result<(), AllocError>
-    ensures { OnOk result (string_bytes text.new ≡ string_bytes text.old ++ nearness edits line) }
+    ensures { OnOk result (Puts text.old text.new (nearness edits line)) }
 {
     match line {
         Some(line) => put_numbered(text, declared_words(edits), line),

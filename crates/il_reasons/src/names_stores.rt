@@ -1,6 +1,7 @@
 // What is told of a place that may not be stored into (33).
 
-ghost use Rattle.std.specs.Prelude.{◌≡◌, ◌++◌, OnOk, string_bytes};
+ghost use Rattle.std.specs.Prelude.{◌≡◌, OnOk};
+ghost use Rattle.texts.specs.Puts.{Puts};
 ghost use Rattle.il_reasons.specs.NamesStores.{input_line, image_line, output_line, literal_line, origin_text, origin_named, variable_text, member_text};
 
 use crate::names_meant::has_output;
@@ -15,8 +16,7 @@ pub(crate) fn put_variable(
     here: &UnitScope<'_>,
     name: &str,
 ) -> Result<(), AllocError>
-    ensures { OnOk result (string_bytes text.new ≡ string_bytes text.old
-        ++ variable_text here.now.config here.now.unit name.now) }
+    ensures { OnOk result (Puts text.old text.new (variable_text here.now.config here.now.unit name.now)) }
 {
     put_origin(text, name, origin_named(here, name))
 }
@@ -34,8 +34,7 @@ pub fn origin_named(here: &UnitScope<'_>, name: &str) -> Option<Origin>
 
 // A variable by where it stands.
 fn put_origin(text: &mut String, name: &str, origin: Option<Origin>) -> Result<(), AllocError>
-    ensures { OnOk result (string_bytes text.new ≡ string_bytes text.old
-        ++ origin_text name.now origin) }
+    ensures { OnOk result (Puts text.old text.new (origin_text name.now origin)) }
 {
     match origin {
         Some(Origin::Input) => put_input_line(text, name),
@@ -51,8 +50,7 @@ pub(crate) fn put_member(
     name: &str,
     word: &str,
 ) -> Result<(), AllocError>
-    ensures { OnOk result (string_bytes text.new ≡ string_bytes text.old
-        ++ member_text here.now.config here.now.unit name.now word.now) }
+    ensures { OnOk result (Puts text.old text.new (member_text here.now.config here.now.unit name.now word.now)) }
 {
     if has_output(here, name, word) {
         put_output_line(text, name, word)
@@ -63,7 +61,7 @@ pub(crate) fn put_member(
 
 #[tactic(auto, unfolding(crate::specs::NamesStores::input_line))]
 fn put_input_line(text: &mut String, name: &str) -> Result<(), AllocError>
-    ensures { OnOk result (string_bytes text.new ≡ string_bytes text.old ++ input_line name.now) }
+    ensures { OnOk result (Puts text.old text.new (input_line name.now)) }
 {
     put_two(
         text,
@@ -74,7 +72,7 @@ fn put_input_line(text: &mut String, name: &str) -> Result<(), AllocError>
 
 #[tactic(auto, unfolding(crate::specs::NamesStores::image_line))]
 fn put_image_line(text: &mut String, name: &str) -> Result<(), AllocError>
-    ensures { OnOk result (string_bytes text.new ≡ string_bytes text.old ++ image_line name.now) }
+    ensures { OnOk result (Puts text.old text.new (image_line name.now)) }
 {
     put_two(
         text,
@@ -85,8 +83,7 @@ fn put_image_line(text: &mut String, name: &str) -> Result<(), AllocError>
 
 #[tactic(auto, unfolding(crate::specs::NamesStores::output_line))]
 fn put_output_line(text: &mut String, name: &str, word: &str) -> Result<(), AllocError>
-    ensures { OnOk result (string_bytes text.new ≡ string_bytes text.old
-        ++ output_line name.now word.now) }
+    ensures { OnOk result (Puts text.old text.new (output_line name.now word.now)) }
 {
     put_four(
         text,
@@ -100,7 +97,7 @@ fn put_output_line(text: &mut String, name: &str, word: &str) -> Result<(), Allo
 /// A literal.
 #[tactic(auto, unfolding(crate::specs::NamesStores::literal_line))]
 pub(crate) fn put_literal_line(text: &mut String) -> Result<(), AllocError>
-    ensures { OnOk result (string_bytes text.new ≡ string_bytes text.old ++ literal_line) }
+    ensures { OnOk result (Puts text.old text.new literal_line) }
 {
     text.push_str("a literal can't be stored into\n")
 }

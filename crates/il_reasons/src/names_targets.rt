@@ -1,6 +1,7 @@
 // What is told of the targets of an instruction (33, 38).
 
-ghost use Rattle.std.specs.Prelude.{◌≡◌, ◌++◌, OnOk, flat_map, string_bytes};
+ghost use Rattle.std.specs.Prelude.{OnOk, flat_map};
+ghost use Rattle.texts.specs.Puts.{Puts};
 ghost use Rattle.il_reasons.specs.NamesTargets.{name_text, target_text, argument_text, targets_text};
 
 use crate::names_stores::{put_literal_line, put_member, put_variable};
@@ -18,8 +19,7 @@ pub(crate) fn put_targets(
     number: u16,
     instruction: &Instruction,
 ) -> Result<(), AllocError>
-    ensures { OnOk result (string_bytes text.new ≡ string_bytes text.old
-        ++ targets_text here.now.config here.now.unit number instruction.now) }
+    ensures { OnOk result (Puts text.old text.new (targets_text here.now.config here.now.unit number instruction.now)) }
 {
     match instruction {
         Instruction::Store { target, .. } => {
@@ -39,8 +39,7 @@ fn put_arguments(
     number: u16,
     arguments: &[Argument],
 ) -> Result<(), AllocError>
-    ensures { OnOk result (string_bytes text.new ≡ string_bytes text.old
-        ++ flat_map (argument_text here.now.config here.now.unit number) arguments.now) }
+    ensures { OnOk result (Puts text.old text.new (flat_map (argument_text here.now.config here.now.unit number) arguments.now)) }
 {
     'arguments: for argument in arguments {
         put_argument(alloc, text, here, number, argument)?;
@@ -56,8 +55,7 @@ fn put_argument(
     number: u16,
     argument: &Argument,
 ) -> Result<(), AllocError>
-    ensures { OnOk result (string_bytes text.new ≡ string_bytes text.old
-        ++ argument_text here.now.config here.now.unit number argument.now) }
+    ensures { OnOk result (Puts text.old text.new (argument_text here.now.config here.now.unit number argument.now)) }
 {
     match argument {
         Argument::Output { target, .. } => put_name(
@@ -79,8 +77,7 @@ fn put_target(
     number: u16,
     target: &Reference,
 ) -> Result<(), AllocError>
-    ensures { OnOk result (string_bytes text.new ≡ string_bytes text.old
-        ++ target_text here.now.config here.now.unit number target.now) }
+    ensures { OnOk result (Puts text.old text.new (target_text here.now.config here.now.unit number target.now)) }
 {
     match target {
         Reference::Literal(_) => {
@@ -110,8 +107,7 @@ fn put_name(
     number: u16,
     name: &str,
 ) -> Result<(), AllocError>
-    ensures { OnOk result (string_bytes text.new ≡ string_bytes text.old
-        ++ name_text here.now.config here.now.unit number name.now) }
+    ensures { OnOk result (Puts text.old text.new (name_text here.now.config here.now.unit number name.now)) }
 {
     if number == 38 {
         put_stored(alloc, text, here, name)

@@ -1,7 +1,8 @@
 // What is told of a global that two tasks write (38).
 
-ghost use Rattle.std.specs.Prelude.{◌≡◌, ◌++◌, Some, IfOk, OnOk, flat_map, map, option_and_then, slice_get, string_bytes};
+ghost use Rattle.std.specs.Prelude.{◌≡◌, ◌++◌, Some, IfOk, OnOk, flat_map, map, option_and_then, slice_get};
 ghost use Rattle.std.specs.List.{list_any};
+ghost use Rattle.texts.specs.Puts.{Puts};
 ghost use Rattle.il_rules.specs.Names.{is_one_of, program_named};
 ghost use Rattle.il_rules.specs.Types.{stored_names, named_variable, argument_targets};
 ghost use Rattle.il_reasons.specs.NamesTasks.{writer_shown, is_external, store_line, first_store, writer_at, writer_of, writers, is_other, are_two, store_of_task, writers_text, stored_text};
@@ -28,8 +29,7 @@ pub(crate) fn put_stored(
     here: &UnitScope<'_>,
     name: &str,
 ) -> Result<(), AllocError>
-    ensures { OnOk result (string_bytes text.new ≡ string_bytes text.old
-        ++ stored_text here.now.config here.now.unit name.now) }
+    ensures { OnOk result (Puts text.old text.new (stored_text here.now.config here.now.unit name.now)) }
 {
     if !is_external(here, name) {
         return Ok(());
@@ -40,8 +40,7 @@ pub(crate) fn put_stored(
 
 // The tasks that store into a global, if there are two.
 fn put_writers(text: &mut String, name: &str, writers: &[Writer<'_>]) -> Result<(), AllocError>
-    ensures { OnOk result (string_bytes text.new ≡ string_bytes text.old
-        ++ writers_text name.now (map writer_shown writers.now)) }
+    ensures { OnOk result (Puts text.old text.new (writers_text name.now (map writer_shown writers.now))) }
 {
     if are_two(writers) {
         put_each_writer(text, name, writers)
@@ -51,8 +50,7 @@ fn put_writers(text: &mut String, name: &str, writers: &[Writer<'_>]) -> Result<
 }
 
 fn put_each_writer(text: &mut String, name: &str, writers: &[Writer<'_>]) -> Result<(), AllocError>
-    ensures { OnOk result (string_bytes text.new ≡ string_bytes text.old
-        ++ flat_map (store_of_task name.now) (map writer_shown writers.now)) }
+    ensures { OnOk result (Puts text.old text.new (flat_map (store_of_task name.now) (map writer_shown writers.now))) }
 {
     'writers: for writer in writers {
         put_writer(text, name, *writer)?;
@@ -62,8 +60,7 @@ fn put_each_writer(text: &mut String, name: &str, writers: &[Writer<'_>]) -> Res
 
 #[tactic(auto, unfolding(crate::specs::NamesTasks::store_of_task))]
 fn put_writer(text: &mut String, name: &str, writer: Writer<'_>) -> Result<(), AllocError>
-    ensures { OnOk result (string_bytes text.new ≡ string_bytes text.old
-        ++ store_of_task name.now (writer_shown writer.entry)) }
+    ensures { OnOk result (Puts text.old text.new (store_of_task name.now (writer_shown writer.entry))) }
 {
     put_two(text, name, " is stored by task ")?;
     put_in_line(text, writer.task, " in line ", writer.line, "\n")

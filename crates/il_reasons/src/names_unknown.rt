@@ -1,6 +1,7 @@
 // What is told of a name that is unknown where it stands (21).
 
-ghost use Rattle.std.specs.Prelude.{◌≡◌, ◌++◌, OnOk, flat_map, is_some, map, option_map, string_bytes};
+ghost use Rattle.std.specs.Prelude.{◌≡◌, OnOk, flat_map, is_some, map, option_map};
+ghost use Rattle.texts.specs.Puts.{Puts};
 ghost use Rattle.il_rules.specs.Names.{block_variables, function_named};
 ghost use Rattle.il_reasons.specs.NamesNear.{near_shown, candidate_shown, nearest};
 ghost use Rattle.il_reasons.specs.NamesKnown.{functions_near};
@@ -26,8 +27,7 @@ pub fn put_unknown_at(
     names: &Scoped,
     place: Place,
 ) -> Result<(), AllocError>
-    ensures { OnOk result (string_bytes text.new ≡ string_bytes text.old
-        ++ unknown_lines names.now place) }
+    ensures { OnOk result (Puts text.old text.new (unknown_lines names.now place)) }
 {
     let config = names.config();
     put_units(alloc, text, names, config.units.as_slice(), place)?;
@@ -41,8 +41,7 @@ fn put_units(
     units: &[Unit],
     place: Place,
 ) -> Result<(), AllocError>
-    ensures { OnOk result (string_bytes text.new ≡ string_bytes text.old
-        ++ flat_map (unit_text names.now place) units.now) }
+    ensures { OnOk result (Puts text.old text.new (flat_map (unit_text names.now place) units.now)) }
 {
     'units: for unit in units {
         put_unit(alloc, text, names, unit, place)?;
@@ -58,8 +57,7 @@ fn put_unit(
     unit: &Unit,
     place: Place,
 ) -> Result<(), AllocError>
-    ensures { OnOk result (string_bytes text.new ≡ string_bytes text.old
-        ++ unit_text names.now place unit.now) }
+    ensures { OnOk result (Puts text.old text.new (unit_text names.now place unit.now)) }
 {
     put_types(alloc, text, names, unit.inputs.as_slice(), place)?;
     put_types(alloc, text, names, unit.outputs.as_slice(), place)?;
@@ -76,8 +74,7 @@ fn put_types(
     declarations: &[Declaration],
     place: Place,
 ) -> Result<(), AllocError>
-    ensures { OnOk result (string_bytes text.new ≡ string_bytes text.old
-        ++ types_text names.now place declarations.now) }
+    ensures { OnOk result (Puts text.old text.new (types_text names.now place declarations.now)) }
 {
     'declarations: for declaration in declarations {
         put_type(alloc, text, names, declaration, place)?;
@@ -93,8 +90,7 @@ fn put_type(
     declaration: &Declaration,
     place: Place,
 ) -> Result<(), AllocError>
-    ensures { OnOk result (string_bytes text.new ≡ string_bytes text.old
-        ++ type_text names.now place declaration.now) }
+    ensures { OnOk result (Puts text.old text.new (type_text names.now place declaration.now)) }
 {
     if !is_at(declaration.declared.place, place) {
         return Ok(());
@@ -107,8 +103,7 @@ fn put_type(
 
 // A name that no block has.
 fn put_block(alloc: Global, text: &mut String, names: &Scoped, name: &str) -> Result<(), AllocError>
-    ensures { OnOk result (string_bytes text.new ≡ string_bytes text.old
-        ++ block_text names.now name.now) }
+    ensures { OnOk result (Puts text.old text.new (block_text names.now name.now)) }
 {
     if is_block(names, name) {
         return Ok(());
@@ -133,8 +128,7 @@ fn put_externals(
     externals: &[Declaration],
     place: Place,
 ) -> Result<(), AllocError>
-    ensures { OnOk result (string_bytes text.new ≡ string_bytes text.old
-        ++ flat_map (externals_text names.now place) externals.now) }
+    ensures { OnOk result (Puts text.old text.new (flat_map (externals_text names.now place) externals.now)) }
 {
     'externals: for external in externals {
         put_names(alloc, text, names, external.names.as_slice(), place)?;
@@ -150,8 +144,7 @@ fn put_names(
     named: &[Named],
     place: Place,
 ) -> Result<(), AllocError>
-    ensures { OnOk result (string_bytes text.new ≡ string_bytes text.old
-        ++ flat_map (external_text names.now place) named.now) }
+    ensures { OnOk result (Puts text.old text.new (flat_map (external_text names.now place) named.now)) }
 {
     'named: for name in named {
         put_external(alloc, text, names, name, place)?;
@@ -167,8 +160,7 @@ fn put_external(
     name: &Named,
     place: Place,
 ) -> Result<(), AllocError>
-    ensures { OnOk result (string_bytes text.new ≡ string_bytes text.old
-        ++ external_text names.now place name.now) }
+    ensures { OnOk result (Puts text.old text.new (external_text names.now place name.now)) }
 {
     if is_at(name.place, place) {
         put_global(alloc, text, names, name.name.as_str())
@@ -185,8 +177,7 @@ fn put_global(
     names: &Scoped,
     name: &str,
 ) -> Result<(), AllocError>
-    ensures { OnOk result (string_bytes text.new ≡ string_bytes text.old
-        ++ global_text names.now name.now) }
+    ensures { OnOk result (Puts text.old text.new (global_text names.now name.now)) }
 {
     if names.global(name).is_some() {
         return Ok(());
@@ -202,8 +193,7 @@ pub(crate) fn put_instruction(
     here: &UnitScope<'_>,
     instruction: &Instruction,
 ) -> Result<(), AllocError>
-    ensures { OnOk result (string_bytes text.new ≡ string_bytes text.old
-        ++ instruction_text here.now.config here.now.unit instruction.now) }
+    ensures { OnOk result (Puts text.old text.new (instruction_text here.now.config here.now.unit instruction.now)) }
 {
     match instruction {
         Instruction::Load { operand, .. } => put_reference(
@@ -249,8 +239,7 @@ fn put_arguments(
     here: &UnitScope<'_>,
     arguments: &[Argument],
 ) -> Result<(), AllocError>
-    ensures { OnOk result (string_bytes text.new ≡ string_bytes text.old
-        ++ flat_map (argument_text here.now.config here.now.unit) arguments.now) }
+    ensures { OnOk result (Puts text.old text.new (flat_map (argument_text here.now.config here.now.unit) arguments.now)) }
 {
     'arguments: for argument in arguments {
         put_argument(alloc, text, here, argument)?;
@@ -264,8 +253,7 @@ fn put_argument(
     here: &UnitScope<'_>,
     argument: &Argument,
 ) -> Result<(), AllocError>
-    ensures { OnOk result (string_bytes text.new ≡ string_bytes text.old
-        ++ argument_text here.now.config here.now.unit argument.now) }
+    ensures { OnOk result (Puts text.old text.new (argument_text here.now.config here.now.unit argument.now)) }
 {
     match argument {
         Argument::Input { operand, .. } => put_reference(
@@ -285,8 +273,7 @@ fn put_operands(
     here: &UnitScope<'_>,
     operands: &[Operand],
 ) -> Result<(), AllocError>
-    ensures { OnOk result (string_bytes text.new ≡ string_bytes text.old
-        ++ flat_map (read_text here.now.config here.now.unit) operands.now) }
+    ensures { OnOk result (Puts text.old text.new (flat_map (read_text here.now.config here.now.unit) operands.now)) }
 {
     'operands: for operand in operands {
         put_reference(alloc, text, here, Access::Reads, &operand.reference)?;
@@ -302,8 +289,7 @@ fn put_function(
     names: &Scoped,
     name: &str,
 ) -> Result<(), AllocError>
-    ensures { OnOk result (string_bytes text.new ≡ string_bytes text.old
-        ++ function_text names.now name.now) }
+    ensures { OnOk result (Puts text.old text.new (function_text names.now name.now)) }
 {
     if standard_function(name).is_some() {
         return Ok(());
@@ -329,8 +315,7 @@ fn put_no_function(
     names: &Scoped,
     name: &str,
 ) -> Result<(), AllocError>
-    ensures { OnOk result (string_bytes text.new ≡ string_bytes text.old
-        ++ no_function_line name.now (nearest name.now (functions_near names.now))) }
+    ensures { OnOk result (Puts text.old text.new (no_function_line name.now (nearest name.now (functions_near names.now)))) }
 {
     let known = functions_near(alloc, names.config())?;
     let near = nearest(alloc, name, known.as_slice())?;
@@ -345,8 +330,7 @@ fn put_reference(
     access: Access,
     reference: &Reference,
 ) -> Result<(), AllocError>
-    ensures { OnOk result (string_bytes text.new ≡ string_bytes text.old
-        ++ reference_text here.now.config here.now.unit access reference.now) }
+    ensures { OnOk result (Puts text.old text.new (reference_text here.now.config here.now.unit access reference.now)) }
 {
     match reference {
         Reference::Literal(_) => Ok(()),
@@ -367,8 +351,7 @@ fn put_index(
     here: &UnitScope<'_>,
     index: &Index,
 ) -> Result<(), AllocError>
-    ensures { OnOk result (string_bytes text.new ≡ string_bytes text.old
-        ++ index_text here.now.config here.now.unit index.now) }
+    ensures { OnOk result (Puts text.old text.new (index_text here.now.config here.now.unit index.now)) }
 {
     match index {
         Index::Number(_) => Ok(()),
@@ -383,8 +366,7 @@ fn put_scalar(
     here: &UnitScope<'_>,
     name: &str,
 ) -> Result<(), AllocError>
-    ensures { OnOk result (string_bytes text.new ≡ string_bytes text.old
-        ++ scalar_text here.now.config here.now.unit name.now) }
+    ensures { OnOk result (Puts text.old text.new (scalar_text here.now.config here.now.unit name.now)) }
 {
     match meaning_of(here, name) {
         Meant::Nothing => put_unknown_variable(alloc, text, here, name),
@@ -402,8 +384,7 @@ fn put_meaning(
     here: &UnitScope<'_>,
     name: &str,
 ) -> Result<(), AllocError>
-    ensures { OnOk result (string_bytes text.new ≡ string_bytes text.old
-        ++ meaning_text here.now.config here.now.unit name.now) }
+    ensures { OnOk result (Puts text.old text.new (meaning_text here.now.config here.now.unit name.now)) }
 {
     match meaning_of(here, name) {
         Meant::Nothing => put_unknown_variable(alloc, text, here, name),
@@ -420,8 +401,7 @@ fn put_member(
     name: &str,
     word: &str,
 ) -> Result<(), AllocError>
-    ensures { OnOk result (string_bytes text.new ≡ string_bytes text.old
-        ++ member_text here.now.config here.now.unit access name.now word.now) }
+    ensures { OnOk result (Puts text.old text.new (member_text here.now.config here.now.unit access name.now word.now)) }
 {
     match meaning_of(here, name) {
         Meant::Nothing => put_unknown_variable(alloc, text, here, name),
@@ -449,8 +429,7 @@ fn put_word(
     name: &str,
     word: &str,
 ) -> Result<(), AllocError>
-    ensures { OnOk result (string_bytes text.new ≡ string_bytes text.old
-        ++ word_text here.now.config here.now.unit access name.now word.now) }
+    ensures { OnOk result (Puts text.old text.new (word_text here.now.config here.now.unit access name.now word.now)) }
 {
     if is_visible(here, access, name, word) {
         Ok(())
@@ -466,8 +445,7 @@ fn put_unknown_variable(
     here: &UnitScope<'_>,
     name: &str,
 ) -> Result<(), AllocError>
-    ensures { OnOk result (string_bytes text.new ≡ string_bytes text.old
-        ++ unknown_variable here.now.config here.now.unit name.now) }
+    ensures { OnOk result (Puts text.old text.new (unknown_variable here.now.config here.now.unit name.now)) }
 {
     if here.names().is_predeclared(name) {
         return put_unseen_line(text, name);
@@ -483,8 +461,7 @@ fn put_unknown(
     name: &str,
     known: &[Candidate<'_>],
 ) -> Result<(), AllocError>
-    ensures { OnOk result (string_bytes text.new ≡ string_bytes text.old
-        ++ unknown_text name.now (map candidate_shown known.now)) }
+    ensures { OnOk result (Puts text.old text.new (unknown_text name.now (map candidate_shown known.now))) }
 {
     let near = nearest(alloc, name, known)?;
     put_unknown_line(text, name, near)
@@ -492,16 +469,14 @@ fn put_unknown(
 
 #[tactic(auto, unfolding(crate::specs::NamesUnknown::unknown_line))]
 fn put_unknown_line(text: &mut String, name: &str, near: Option<Near<'_>>) -> Result<(), AllocError>
-    ensures { OnOk result (string_bytes text.new ≡ string_bytes text.old
-        ++ unknown_line name.now (option_map near_shown near.entry)) }
+    ensures { OnOk result (Puts text.old text.new (unknown_line name.now (option_map near_shown near.entry))) }
 {
     put_ended(text, name, " is unknown here", near)
 }
 
 #[tactic(auto, unfolding(crate::specs::NamesUnknown::unseen_line))]
 fn put_unseen_line(text: &mut String, name: &str) -> Result<(), AllocError>
-    ensures { OnOk result (string_bytes text.new ≡ string_bytes text.old
-        ++ unseen_line name.now) }
+    ensures { OnOk result (Puts text.old text.new (unseen_line name.now)) }
 {
     put_two(
         text,
@@ -516,31 +491,28 @@ fn put_no_function_line(
     name: &str,
     near: Option<Near<'_>>,
 ) -> Result<(), AllocError>
-    ensures { OnOk result (string_bytes text.new ≡ string_bytes text.old
-        ++ no_function_line name.now (option_map near_shown near.entry)) }
+    ensures { OnOk result (Puts text.old text.new (no_function_line name.now (option_map near_shown near.entry))) }
 {
     put_ended(text, name, " is no function", near)
 }
 
 #[tactic(auto, unfolding(crate::specs::NamesUnknown::instance_line))]
 fn put_instance_line(text: &mut String, name: &str) -> Result<(), AllocError>
-    ensures { OnOk result (string_bytes text.new ≡ string_bytes text.old
-        ++ instance_line name.now) }
+    ensures { OnOk result (Puts text.old text.new (instance_line name.now)) }
 {
     put_two(text, name, " is an instance, no scalar variable\n")
 }
 
 #[tactic(auto, unfolding(crate::specs::NamesUnknown::unit_line))]
 fn put_unit_line(text: &mut String, name: &str) -> Result<(), AllocError>
-    ensures { OnOk result (string_bytes text.new ≡ string_bytes text.old ++ unit_line name.now) }
+    ensures { OnOk result (Puts text.old text.new (unit_line name.now)) }
 {
     put_two(text, name, " is a unit, no variable\n")
 }
 
 #[tactic(auto, unfolding(crate::specs::NamesUnknown::standard_line))]
 fn put_standard_line(text: &mut String, name: &str) -> Result<(), AllocError>
-    ensures { OnOk result (string_bytes text.new ≡ string_bytes text.old
-        ++ standard_line name.now) }
+    ensures { OnOk result (Puts text.old text.new (standard_line name.now)) }
 {
     put_two(
         text,
@@ -551,8 +523,7 @@ fn put_standard_line(text: &mut String, name: &str) -> Result<(), AllocError>
 
 #[tactic(auto, unfolding(crate::specs::NamesUnknown::no_instance_line))]
 fn put_no_instance_line(text: &mut String, name: &str) -> Result<(), AllocError>
-    ensures { OnOk result (string_bytes text.new ≡ string_bytes text.old
-        ++ no_instance_line name.now) }
+    ensures { OnOk result (Puts text.old text.new (no_instance_line name.now)) }
 {
     put_two(text, name, " is no instance of a function block\n")
 }

@@ -1,6 +1,7 @@
 // What is told of an argument of an instance that may leave its input's range, and of an output that may leave its target's.
 
-ghost use Rattle.std.specs.Prelude.{◌≡◌, ◌++◌, flat_map, OnOk, string_bytes};
+ghost use Rattle.std.specs.Prelude.{◌≡◌, flat_map, OnOk};
+ghost use Rattle.texts.specs.Puts.{Puts};
 ghost use Rattle.il_reasons.specs.RangeReasons.{of_text, input_text, input_by, output_text, limits_in, output_by, argument_text, aim_text, arguments_text};
 
 use crate::range_divisors::put_value;
@@ -23,8 +24,7 @@ fn put_of(
     instance: &str,
     verb: &str,
 ) -> Result<(), AllocError>
-    ensures { OnOk result (string_bytes text.new ≡ string_bytes text.old
-        ++ of_text kind.now word.now instance.now verb.now) }
+    ensures { OnOk result (Puts text.old text.new (of_text kind.now word.now instance.now verb.now)) }
 {
     put_two(text, kind, word)?;
     put_three(text, " of ", instance, verb)
@@ -39,8 +39,7 @@ fn put_input(
     reference: &Reference,
     range: Interval,
 ) -> Result<(), AllocError>
-    ensures { OnOk result (string_bytes text.new ≡ string_bytes text.old
-        ++ input_text instance.now word.now scalar reference.now range) }
+    ensures { OnOk result (Puts text.old text.new (input_text instance.now word.now scalar reference.now range)) }
 {
     put_of(text, "input ", word, instance, " takes ")?;
     put_scalar(text, scalar)?;
@@ -56,8 +55,7 @@ fn put_input_by(
     scalar: Option<Scalar>,
     range: Option<Interval>,
 ) -> Result<(), AllocError>
-    ensures { OnOk result (string_bytes text.new ≡ string_bytes text.old
-        ++ input_by instance.now word.now reference.now scalar range) }
+    ensures { OnOk result (Puts text.old text.new (input_by instance.now word.now reference.now scalar range)) }
 {
     match (scalar, range) {
         (Some(scalar), Some(range)) => {
@@ -73,8 +71,7 @@ fn put_input_by(
 
 // `, and the target is V : INT (0..9), declared in line 3`
 fn put_aim(text: &mut String, unit: &Unit, target: &str, aim: Scalar) -> Result<(), AllocError>
-    ensures { OnOk result (string_bytes text.new ≡ string_bytes text.old
-        ++ aim_text unit.now target.now aim) }
+    ensures { OnOk result (Puts text.old text.new (aim_text unit.now target.now aim)) }
 {
     put_three(text, ", and the target is ", target, " : ")?;
     put_scalar(text, aim)?;
@@ -92,8 +89,7 @@ fn put_output(
     target: &str,
     aim: Scalar,
 ) -> Result<(), AllocError>
-    ensures { OnOk result (string_bytes text.new ≡ string_bytes text.old
-        ++ output_text unit.now instance.now word.now scalar target.now aim) }
+    ensures { OnOk result (Puts text.old text.new (output_text unit.now instance.now word.now scalar target.now aim)) }
 {
     put_of(text, "output ", word, instance, " is ")?;
     put_scalar(text, scalar)?;
@@ -122,8 +118,7 @@ fn put_output_by(
     target: &str,
     aim: Option<Scalar>,
 ) -> Result<(), AllocError>
-    ensures { OnOk result (string_bytes text.new ≡ string_bytes text.old
-        ++ output_by unit.now instance.now word.now scalar target.now aim) }
+    ensures { OnOk result (Puts text.old text.new (output_by unit.now instance.now word.now scalar target.now aim)) }
 {
     match (scalar, aim) {
         (Some(scalar), Some(aim)) => {
@@ -145,8 +140,7 @@ fn put_argument(
     instance: &str,
     argument: &Argument,
 ) -> Result<(), AllocError>
-    ensures { OnOk result (string_bytes text.new ≡ string_bytes text.old
-        ++ argument_text unit.now known.now instance.now argument.now) }
+    ensures { OnOk result (Puts text.old text.new (argument_text unit.now known.now instance.now argument.now)) }
 {
     match argument {
         Argument::Input { word, operand } => {
@@ -173,8 +167,7 @@ fn put_each(
     instance: &str,
     arguments: &[Argument],
 ) -> Result<(), AllocError>
-    ensures { OnOk result (string_bytes text.new ≡ string_bytes text.old
-        ++ flat_map (argument_text unit.now known.now instance.now) arguments.now) }
+    ensures { OnOk result (Puts text.old text.new (flat_map (argument_text unit.now known.now instance.now) arguments.now)) }
 {
     'arguments: for argument in arguments {
         put_argument(text, unit, known, instance, argument)?;
@@ -189,8 +182,7 @@ pub(crate) fn put_arguments(
     known: &PlaceFacts,
     instruction: &Instruction,
 ) -> Result<(), AllocError>
-    ensures { OnOk result (string_bytes text.new ≡ string_bytes text.old
-        ++ arguments_text unit.now known.now instruction.now) }
+    ensures { OnOk result (Puts text.old text.new (arguments_text unit.now known.now instruction.now)) }
 {
     match instruction {
         Instruction::Call {

@@ -1,6 +1,7 @@
 // What is told of a divisor that may be 0.
 
-ghost use Rattle.std.specs.Prelude.{◌≡◌, ◌++◌, OnOk, codes, string_bytes};
+ghost use Rattle.std.specs.Prelude.{◌≡◌, ◌++◌, OnOk, codes};
+ghost use Rattle.texts.specs.Puts.{Puts};
 ghost use Rattle.il_ranges.specs.Kinds.{is_division};
 ghost use Rattle.il_reasons.specs.RangeWords.{ends_text, reference_text};
 ghost use Rattle.il_reasons.specs.RangeReasons.{operand_name, divided_by, inner_text, divisor_text, value_text};
@@ -16,8 +17,7 @@ use std::alloc::AllocError;
 
 // ` D`
 fn put_spaced(text: &mut String, reference: &Reference) -> Result<(), AllocError>
-    ensures { OnOk result (string_bytes text.new ≡ string_bytes text.old
-        ++ (codes " " ++ reference_text reference.now)) }
+    ensures { OnOk result (Puts text.old text.new (codes " " ++ reference_text reference.now)) }
 {
     text.push_str(" ")?;
     put_reference(text, reference)
@@ -25,8 +25,7 @@ fn put_spaced(text: &mut String, reference: &Reference) -> Result<(), AllocError
 
 // ` D`, the name of an operand that has one.
 fn put_name(text: &mut String, reference: &Reference) -> Result<(), AllocError>
-    ensures { OnOk result (string_bytes text.new ≡ string_bytes text.old
-        ++ operand_name reference.now) }
+    ensures { OnOk result (Puts text.old text.new (operand_name reference.now)) }
 {
     match reference {
         Reference::Literal(_) => Ok(()),
@@ -43,8 +42,7 @@ fn put_named_range(
     reference: &Reference,
     range: Interval,
 ) -> Result<(), AllocError>
-    ensures { OnOk result (string_bytes text.new ≡ string_bytes text.old ++ (head.now
-        ++ (operand_name reference.now ++ (codes " is " ++ (ends_text range ++ codes "\n"))))) }
+    ensures { OnOk result (Puts text.old text.new (head.now ++ (operand_name reference.now ++ (codes " is " ++ (ends_text range ++ codes "\n"))))) }
 {
     text.push_str(head)?;
     put_name(text, reference)?;
@@ -57,8 +55,7 @@ pub(crate) fn put_value(
     reference: &Reference,
     range: Interval,
 ) -> Result<(), AllocError>
-    ensures { OnOk result (string_bytes text.new ≡ string_bytes text.old
-        ++ value_text reference.now range) }
+    ensures { OnOk result (Puts text.old text.new (value_text reference.now range)) }
 {
     put_named_range(text, ", and the value", reference, range)
 }
@@ -80,8 +77,7 @@ fn put_divided_by(
     reference: &Reference,
     range: Option<Interval>,
 ) -> Result<(), AllocError>
-    ensures { OnOk result (string_bytes text.new ≡ string_bytes text.old
-        ++ divided_by operator reference.now range) }
+    ensures { OnOk result (Puts text.old text.new (divided_by operator reference.now range)) }
 {
     if !is_division(operator) {
         return Ok(());
@@ -94,15 +90,14 @@ fn put_divided_by(
 
 // `the divisor in the parentheses is 0..5`
 fn put_inner_range(text: &mut String, range: Interval) -> Result<(), AllocError>
-    ensures { OnOk result (string_bytes text.new ≡ string_bytes text.old
-        ++ (codes "the divisor in the parentheses is " ++ (ends_text range ++ codes "\n"))) }
+    ensures { OnOk result (Puts text.old text.new (codes "the divisor in the parentheses is " ++ (ends_text range ++ codes "\n"))) }
 {
     put_range(text, "the divisor in the parentheses is ", range, "\n")
 }
 
 // Of what `)` divides by, the current result.
 fn put_inner(text: &mut String, current: Option<Known>) -> Result<(), AllocError>
-    ensures { OnOk result (string_bytes text.new ≡ string_bytes text.old ++ inner_text current) }
+    ensures { OnOk result (Puts text.old text.new (inner_text current)) }
 {
     match current {
         Some(Known::Ranged(_, range)) => put_inner_range(text, range),
@@ -118,8 +113,7 @@ pub(crate) fn put_divisor(
     known: &PlaceFacts,
     instruction: &Instruction,
 ) -> Result<(), AllocError>
-    ensures { OnOk result (string_bytes text.new ≡ string_bytes text.old
-        ++ divisor_text unit.now known.now instruction.now) }
+    ensures { OnOk result (Puts text.old text.new (divisor_text unit.now known.now instruction.now)) }
 {
     match instruction {
         Instruction::Operate { operator, operand } => {

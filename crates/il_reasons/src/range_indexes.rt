@@ -1,6 +1,7 @@
 // What is told of an index that may lie outside of its array.
 
-ghost use Rattle.std.specs.Prelude.{◌≡◌, ◌++◌, OnOk, string_bytes};
+ghost use Rattle.std.specs.Prelude.{◌≡◌, OnOk};
+ghost use Rattle.texts.specs.Puts.{Puts};
 ghost use Rattle.il_reasons.specs.RangeReasons.{index_range, array_has_text, outside_text, element_text, operand_index_text, argument_index_text, operands_index_text, arguments_index_text, indexes_text};
 
 use crate::range_operands::{bounds_named, lies_within, only};
@@ -29,8 +30,7 @@ fn put_array_has(
     name: &str,
     bounds: Subrange,
 ) -> Result<(), AllocError>
-    ensures { OnOk result (string_bytes text.new ≡ string_bytes text.old
-        ++ array_has_text unit.now name.now bounds) }
+    ensures { OnOk result (Puts text.old text.new (array_has_text unit.now name.now bounds)) }
 {
     put_three(text, ", and ", name, " has ")?;
     put_limits(text, bounds)?;
@@ -47,8 +47,7 @@ fn put_outside(
     range: Interval,
     bounds: Subrange,
 ) -> Result<(), AllocError>
-    ensures { OnOk result (string_bytes text.new ≡ string_bytes text.old
-        ++ outside_text unit.now name.now index.now range bounds) }
+    ensures { OnOk result (Puts text.old text.new (outside_text unit.now name.now index.now range bounds)) }
 {
     put(text, "the index")?;
     put_index_name(text, index)?;
@@ -65,8 +64,7 @@ fn put_element(
     index: &Index,
     range: Option<Interval>,
 ) -> Result<(), AllocError>
-    ensures { OnOk result (string_bytes text.new ≡ string_bytes text.old
-        ++ element_text unit.now name.now index.now range) }
+    ensures { OnOk result (Puts text.old text.new (element_text unit.now name.now index.now range)) }
 {
     let Some(range) = range else {
         return Ok(());
@@ -90,8 +88,7 @@ fn put_operand(
     known: &PlaceFacts,
     reference: &Reference,
 ) -> Result<(), AllocError>
-    ensures { OnOk result (string_bytes text.new ≡ string_bytes text.old
-        ++ operand_index_text unit.now known.now reference.now) }
+    ensures { OnOk result (Puts text.old text.new (operand_index_text unit.now known.now reference.now)) }
 {
     match reference {
         Reference::Element(name, index) => {
@@ -108,8 +105,7 @@ fn put_argument(
     known: &PlaceFacts,
     argument: &Argument,
 ) -> Result<(), AllocError>
-    ensures { OnOk result (string_bytes text.new ≡ string_bytes text.old
-        ++ argument_index_text unit.now known.now argument.now) }
+    ensures { OnOk result (Puts text.old text.new (argument_index_text unit.now known.now argument.now)) }
 {
     match argument {
         Argument::Input { operand, .. } => put_operand(text, unit, known, &operand.reference),
@@ -124,8 +120,7 @@ fn put_operands(
     known: &PlaceFacts,
     operands: &[Operand],
 ) -> Result<(), AllocError>
-    ensures { OnOk result (string_bytes text.new ≡ string_bytes text.old
-        ++ operands_index_text unit.now known.now operands.now) }
+    ensures { OnOk result (Puts text.old text.new (operands_index_text unit.now known.now operands.now)) }
 {
     'operands: for operand in operands {
         put_operand(text, unit, known, &operand.reference)?;
@@ -140,8 +135,7 @@ fn put_arguments(
     known: &PlaceFacts,
     arguments: &[Argument],
 ) -> Result<(), AllocError>
-    ensures { OnOk result (string_bytes text.new ≡ string_bytes text.old
-        ++ arguments_index_text unit.now known.now arguments.now) }
+    ensures { OnOk result (Puts text.old text.new (arguments_index_text unit.now known.now arguments.now)) }
 {
     'arguments: for argument in arguments {
         put_argument(text, unit, known, argument)?;
@@ -156,8 +150,7 @@ pub(crate) fn put_indexes(
     known: &PlaceFacts,
     instruction: &Instruction,
 ) -> Result<(), AllocError>
-    ensures { OnOk result (string_bytes text.new ≡ string_bytes text.old
-        ++ indexes_text unit.now known.now instruction.now) }
+    ensures { OnOk result (Puts text.old text.new (indexes_text unit.now known.now instruction.now)) }
 {
     match instruction {
         Instruction::Load { operand, .. } => put_operand(text, unit, known, &operand.reference),

@@ -1,6 +1,7 @@
 // What is told of an argument of an own function that may leave its input's range.
 
-ghost use Rattle.std.specs.Prelude.{◌≡◌, ◌++◌, OnOk, string_bytes};
+ghost use Rattle.std.specs.Prelude.{OnOk};
+ghost use Rattle.texts.specs.Puts.{Puts};
 ghost use Rattle.il_rules.specs.Names.{function_named};
 ghost use Rattle.il_reasons.specs.RangeReasons.{first_text, first_by, further_text, further_by, operands_told, inputs_told, function_told};
 
@@ -23,8 +24,7 @@ fn put_first_input(
     scalar: Scalar,
     range: Interval,
 ) -> Result<(), AllocError>
-    ensures { OnOk result (string_bytes text.new ≡ string_bytes text.old
-        ++ first_text name.now scalar range) }
+    ensures { OnOk result (Puts text.old text.new (first_text name.now scalar range)) }
 {
     put_three(text, "the first input of ", name, " takes ")?;
     put_scalar(text, scalar)?;
@@ -38,8 +38,7 @@ fn put_first(
     scalar: Option<Scalar>,
     current: Option<Known>,
 ) -> Result<(), AllocError>
-    ensures { OnOk result (string_bytes text.new ≡ string_bytes text.old
-        ++ first_by name.now scalar current) }
+    ensures { OnOk result (Puts text.old text.new (first_by name.now scalar current)) }
 {
     match (scalar, current) {
         (Some(scalar), Some(Known::Ranged(_, range))) => {
@@ -61,8 +60,7 @@ fn put_further_input(
     reference: &Reference,
     range: Interval,
 ) -> Result<(), AllocError>
-    ensures { OnOk result (string_bytes text.new ≡ string_bytes text.old
-        ++ further_text name.now scalar reference.now range) }
+    ensures { OnOk result (Puts text.old text.new (further_text name.now scalar reference.now range)) }
 {
     put_three(text, "an input of ", name, " takes ")?;
     put_scalar(text, scalar)?;
@@ -77,8 +75,7 @@ fn put_further(
     reference: &Reference,
     range: Option<Interval>,
 ) -> Result<(), AllocError>
-    ensures { OnOk result (string_bytes text.new ≡ string_bytes text.old
-        ++ further_by name.now scalar reference.now range) }
+    ensures { OnOk result (Puts text.old text.new (further_by name.now scalar reference.now range)) }
 {
     match (scalar, range) {
         (Some(scalar), Some(range)) => {
@@ -101,8 +98,7 @@ fn put_operands(
     scalars: &[Option<Scalar>],
     operands: &[Operand],
 ) -> Result<(), AllocError>
-    ensures { OnOk result (string_bytes text.new ≡ string_bytes text.old
-        ++ operands_told unit.now known.now name.now scalars.now operands.now) }
+    ensures { OnOk result (Puts text.old text.new (operands_told unit.now known.now name.now scalars.now operands.now)) }
 {
     let Some((scalar, scalars)) = scalars.split_first() else {
         return Ok(());
@@ -124,8 +120,7 @@ fn put_inputs(
     operands: &[Operand],
     scalars: &[Option<Scalar>],
 ) -> Result<(), AllocError>
-    ensures { OnOk result (string_bytes text.new ≡ string_bytes text.old
-        ++ inputs_told unit.now known.now name.now operands.now scalars.now) }
+    ensures { OnOk result (Puts text.old text.new (inputs_told unit.now known.now name.now operands.now scalars.now)) }
 {
     let Some((scalar, scalars)) = scalars.split_first() else {
         return Ok(());
@@ -142,9 +137,7 @@ pub(crate) fn put_function(
     name: &str,
     operands: &[Operand],
 ) -> Result<(), AllocError>
-    ensures { OnOk result (string_bytes text.new ≡ string_bytes text.old
-        ++ function_told unit.now known.now name.now operands.now
-        (function_named unit.now.config name.now)) }
+    ensures { OnOk result (Puts text.old text.new (function_told unit.now known.now name.now operands.now (function_named unit.now.config name.now))) }
 {
     match unit.own_inputs(name) {
         Some(scalars) => put_inputs(text, unit, known, name, operands, scalars),

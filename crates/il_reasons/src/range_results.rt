@@ -1,6 +1,7 @@
 // What is told of a result that may leave its type.
 
-ghost use Rattle.std.specs.Prelude.{◌≡◌, ◌++◌, OnOk, true, codes, string_bytes};
+ghost use Rattle.std.specs.Prelude.{◌≡◌, ◌++◌, OnOk, true, codes};
+ghost use Rattle.texts.specs.Puts.{Puts};
 ghost use Rattle.il_spec.specs.ElementaryTypes.{plain};
 ghost use Rattle.il_interval.specs.Interval.{IsOperand};
 ghost use Rattle.il_range_laws.specs.Found.{combined};
@@ -98,8 +99,7 @@ fn given_from(kind: Arithmetic, left: Interval, right: Interval) -> Option<Inter
 
 // ` gives 0..300, outside SINT (-128..127)`
 fn put_left(text: &mut String, elementary: Elementary, range: Interval) -> Result<(), AllocError>
-    ensures { OnOk result (string_bytes text.new ≡ string_bytes text.old
-        ++ left_text elementary range) }
+    ensures { OnOk result (Puts text.old text.new (left_text elementary range)) }
 {
     put_range(text, " gives ", range, ", outside ")?;
     put_scalar(text, plain(elementary))?;
@@ -115,8 +115,7 @@ fn put_operated(
     right: Interval,
     given: Interval,
 ) -> Result<(), AllocError>
-    ensures { OnOk result (string_bytes text.new ≡ string_bytes text.old
-        ++ operated_text elementary kind left right given) }
+    ensures { OnOk result (Puts text.old text.new (operated_text elementary kind left right given)) }
 {
     put_ends(text, left)?;
     text.push_str(sign_text(kind))?;
@@ -133,8 +132,7 @@ fn put_operated_by(
     right: Interval,
     given: Option<Interval>,
 ) -> Result<(), AllocError>
-    ensures { OnOk result (string_bytes text.new ≡ string_bytes text.old
-        ++ operated_by elementary kind left right given) }
+    ensures { OnOk result (Puts text.old text.new (operated_by elementary kind left right given)) }
 {
     match given {
         Some(given) => {
@@ -155,8 +153,7 @@ fn put_sides(
     left: Option<Known>,
     right: Option<Interval>,
 ) -> Result<(), AllocError>
-    ensures { OnOk result (string_bytes text.new ≡ string_bytes text.old
-        ++ sides_text kind left right) }
+    ensures { OnOk result (Puts text.old text.new (sides_text kind left right)) }
 {
     match left {
         Some(Known::Ranged(elementary, left)) => match right {
@@ -179,8 +176,7 @@ fn put_operator(
     operator: Operator,
     reference: &Reference,
 ) -> Result<(), AllocError>
-    ensures { OnOk result (string_bytes text.new ≡ string_bytes text.old
-        ++ operator_text unit.now known.now operator reference.now) }
+    ensures { OnOk result (Puts text.old text.new (operator_text unit.now known.now operator reference.now)) }
 {
     match operator {
         Operator::Arithmetic(kind) => {
@@ -192,8 +188,7 @@ fn put_operator(
 
 // ` is outside SINT (-128..127)`
 fn put_outside(text: &mut String, scalar: Scalar) -> Result<(), AllocError>
-    ensures { OnOk result (string_bytes text.new ≡ string_bytes text.old
-        ++ (codes " is outside " ++ (scalar_text scalar ++ codes "\n"))) }
+    ensures { OnOk result (Puts text.old text.new (codes " is outside " ++ (scalar_text scalar ++ codes "\n"))) }
 {
     put(text, " is outside ")?;
     put_scalar(text, scalar)?;
@@ -206,8 +201,7 @@ fn put_converted_unless(
     to: Elementary,
     range: Interval,
 ) -> Result<(), AllocError>
-    ensures { OnOk result (string_bytes text.new ≡ string_bytes text.old
-        ++ converted_unless to range) }
+    ensures { OnOk result (Puts text.old text.new (converted_unless to range)) }
 {
     if lies_in(range, limits(to)) {
         Ok(())
@@ -224,8 +218,7 @@ fn put_absolute(
     range: Interval,
 ) -> Result<(), AllocError>
     requires { IsOperand range }
-    ensures { OnOk result (string_bytes text.new ≡ string_bytes text.old
-        ++ absolute_text elementary range) }
+    ensures { OnOk result (Puts text.old text.new (absolute_text elementary range)) }
 {
     text.push_str("ABS of ")?;
     put_ends(text, range)?;
@@ -238,8 +231,7 @@ fn put_absolute_of(
     elementary: Elementary,
     range: Interval,
 ) -> Result<(), AllocError>
-    ensures { OnOk result (string_bytes text.new ≡ string_bytes text.old
-        ++ absolute_of elementary range) }
+    ensures { OnOk result (Puts text.old text.new (absolute_of elementary range)) }
 {
     if !is_operand(range) {
         return Ok(());
@@ -258,8 +250,7 @@ fn put_function(
     elementary: Elementary,
     range: Interval,
 ) -> Result<(), AllocError>
-    ensures { OnOk result (string_bytes text.new ≡ string_bytes text.old
-        ++ function_text function elementary range) }
+    ensures { OnOk result (Puts text.old text.new (function_text function elementary range)) }
 {
     match function {
         StandardFunction::Converted(_, to) => put_converted_unless(text, to, range),
@@ -274,8 +265,7 @@ fn put_invoked(
     function: Option<StandardFunction>,
     current: Option<Known>,
 ) -> Result<(), AllocError>
-    ensures { OnOk result (string_bytes text.new ≡ string_bytes text.old
-        ++ invoked_text function current) }
+    ensures { OnOk result (Puts text.old text.new (invoked_text function current)) }
 {
     match current {
         Some(Known::Ranged(elementary, range)) => match function {
@@ -304,8 +294,7 @@ fn put_evaluated(
     deferred: &[KnownDeferred],
     right: Option<Known>,
 ) -> Result<(), AllocError>
-    ensures { OnOk result (string_bytes text.new ≡ string_bytes text.old
-        ++ evaluated_text deferred.now right) }
+    ensures { OnOk result (Puts text.old text.new (evaluated_text deferred.now right)) }
 {
     match deferred {
         [] => Ok(()),
@@ -325,8 +314,7 @@ pub(crate) fn put_overflow(
     known: &PlaceFacts,
     instruction: &Instruction,
 ) -> Result<(), AllocError>
-    ensures { OnOk result (string_bytes text.new ≡ string_bytes text.old
-        ++ overflow_text unit.now known.now instruction.now) }
+    ensures { OnOk result (Puts text.old text.new (overflow_text unit.now known.now instruction.now)) }
 {
     match instruction {
         Instruction::Operate { operator, operand } => {

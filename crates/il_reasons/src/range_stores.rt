@@ -1,6 +1,7 @@
 // What is told of a stored value that may leave its variable's range.
 
-ghost use Rattle.std.specs.Prelude.{◌≡◌, ◌++◌, OnOk, string_bytes};
+ghost use Rattle.std.specs.Prelude.{OnOk};
+ghost use Rattle.texts.specs.Puts.{Puts};
 ghost use Rattle.il_reasons.specs.RangeReasons.{into_text, stored_text, result_text, store_text};
 
 use crate::range_operands::scalar_named;
@@ -19,8 +20,7 @@ fn put_into(
     target: &Reference,
     scalar: Scalar,
 ) -> Result<(), AllocError>
-    ensures { OnOk result (string_bytes text.new ≡ string_bytes text.old
-        ++ into_text unit.now target.now scalar) }
+    ensures { OnOk result (Puts text.old text.new (into_text unit.now target.now scalar)) }
 {
     text.push_str(" into ")?;
     put_reference(text, target)?;
@@ -38,8 +38,7 @@ fn put_stored(
     target: &Reference,
     scalar: Scalar,
 ) -> Result<(), AllocError>
-    ensures { OnOk result (string_bytes text.new ≡ string_bytes text.old
-        ++ stored_text unit.now range target.now scalar) }
+    ensures { OnOk result (Puts text.old text.new (stored_text unit.now range target.now scalar)) }
 {
     put(text, "stores ")?;
     put_ends(text, range)?;
@@ -53,8 +52,7 @@ fn put_result(
     target: &Reference,
     current: Option<Known>,
 ) -> Result<(), AllocError>
-    ensures { OnOk result (string_bytes text.new ≡ string_bytes text.old
-        ++ result_text unit.now target.now current) }
+    ensures { OnOk result (Puts text.old text.new (result_text unit.now target.now current)) }
 {
     match current {
         Some(Known::Ranged(_, range)) => match scalar_named(unit, target) {
@@ -73,8 +71,7 @@ pub(crate) fn put_store(
     known: &PlaceFacts,
     instruction: &Instruction,
 ) -> Result<(), AllocError>
-    ensures { OnOk result (string_bytes text.new ≡ string_bytes text.old
-        ++ store_text unit.now known.now instruction.now) }
+    ensures { OnOk result (Puts text.old text.new (store_text unit.now known.now instruction.now)) }
 {
     match instruction {
         Instruction::Store { target, .. } => {

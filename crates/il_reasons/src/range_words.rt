@@ -1,7 +1,8 @@
 // Ranges, types, operands and the lines of declarations, as they are told.
 
-ghost use Rattle.std.specs.Prelude.{◌≡◌, ◌++◌, OnOk, codes, decimal, string_bytes};
+ghost use Rattle.std.specs.Prelude.{◌≡◌, ◌++◌, OnOk, codes, decimal};
 ghost use Rattle.std.specs.Fmt.{signed_decimal};
+ghost use Rattle.texts.specs.Puts.{Puts};
 ghost use Rattle.il_rules.specs.Names.{or_else};
 ghost use Rattle.il_reasons.specs.RangeWords.{both_text, ends_text, limits_text, within_text, scalar_text, index_text, index_name, reference_text, line_among, line_in, result_line, declared_line, declared_text, instance_text, where_text};
 
@@ -14,7 +15,7 @@ use std::alloc::AllocError;
 
 /// A piece of text.
 pub(crate) fn put(text: &mut String, piece: &str) -> Result<(), AllocError>
-    ensures { OnOk result (string_bytes text.new ≡ string_bytes text.old ++ piece.now) }
+    ensures { OnOk result (Puts text.old text.new piece.now) }
 {
     text.push_str(piece)
 }
@@ -22,14 +23,14 @@ pub(crate) fn put(text: &mut String, piece: &str) -> Result<(), AllocError>
 // `LO..HI`
 #[tactic(auto, unfolding(crate::specs::RangeWords::both_text))]
 fn put_both(text: &mut String, range: Interval) -> Result<(), AllocError>
-    ensures { OnOk result (string_bytes text.new ≡ string_bytes text.old ++ both_text range) }
+    ensures { OnOk result (Puts text.old text.new (both_text range)) }
 {
     write!(text, "{}..{}", range.lo, range.hi)
 }
 
 // A number.
 fn put_number(text: &mut String, number: i128) -> Result<(), AllocError>
-    ensures { OnOk result (string_bytes text.new ≡ string_bytes text.old ++ signed_decimal number) }
+    ensures { OnOk result (Puts text.old text.new (signed_decimal number)) }
 {
     write!(text, "{}", number)
 }
@@ -37,7 +38,7 @@ fn put_number(text: &mut String, number: i128) -> Result<(), AllocError>
 /// `LO..HI`, or the number alone where there is one.
 #[tactic(auto, unfolding(crate::specs::RangeWords::ends_text))]
 pub(crate) fn put_ends(text: &mut String, range: Interval) -> Result<(), AllocError>
-    ensures { OnOk result (string_bytes text.new ≡ string_bytes text.old ++ ends_text range) }
+    ensures { OnOk result (Puts text.old text.new (ends_text range)) }
 {
     if range.hi <= range.lo {
         put_number(text, range.lo)
@@ -53,8 +54,7 @@ pub(crate) fn put_range(
     range: Interval,
     after: &str,
 ) -> Result<(), AllocError>
-    ensures { OnOk result (string_bytes text.new ≡ string_bytes text.old
-        ++ (before.now ++ (ends_text range ++ after.now))) }
+    ensures { OnOk result (Puts text.old text.new (before.now ++ (ends_text range ++ after.now))) }
 {
     text.push_str(before)?;
     put_ends(text, range)?;
@@ -64,14 +64,14 @@ pub(crate) fn put_range(
 /// `LO..HI` of written limits.
 #[tactic(auto, unfolding(crate::specs::RangeWords::limits_text))]
 pub(crate) fn put_limits(text: &mut String, limits: Subrange) -> Result<(), AllocError>
-    ensures { OnOk result (string_bytes text.new ≡ string_bytes text.old ++ limits_text limits) }
+    ensures { OnOk result (Puts text.old text.new (limits_text limits)) }
 {
     write!(text, "{}..{}", limits.lower, limits.upper)
 }
 
 /// ` (LO..HI)`, where there are limits.
 pub(crate) fn put_within(text: &mut String, limits: Option<Subrange>) -> Result<(), AllocError>
-    ensures { OnOk result (string_bytes text.new ≡ string_bytes text.old ++ within_text limits) }
+    ensures { OnOk result (Puts text.old text.new (within_text limits)) }
 {
     match limits {
         Some(limits) => {
@@ -85,7 +85,7 @@ pub(crate) fn put_within(text: &mut String, limits: Option<Subrange>) -> Result<
 
 /// A scalar type with its limits, as `INT (0..9)`.
 pub(crate) fn put_scalar(text: &mut String, scalar: Scalar) -> Result<(), AllocError>
-    ensures { OnOk result (string_bytes text.new ≡ string_bytes text.old ++ scalar_text scalar) }
+    ensures { OnOk result (Puts text.old text.new (scalar_text scalar)) }
 {
     text.push_str(type_word(scalar.elementary))?;
     put_within(text, declared_limits(scalar))
@@ -93,7 +93,7 @@ pub(crate) fn put_scalar(text: &mut String, scalar: Scalar) -> Result<(), AllocE
 
 /// ` I`, an index that has a name.
 pub(crate) fn put_index_name(text: &mut String, index: &Index) -> Result<(), AllocError>
-    ensures { OnOk result (string_bytes text.new ≡ string_bytes text.old ++ index_name index.now) }
+    ensures { OnOk result (Puts text.old text.new (index_name index.now)) }
 {
     match index {
         Index::Number(_) => Ok(()),
@@ -103,15 +103,14 @@ pub(crate) fn put_index_name(text: &mut String, index: &Index) -> Result<(), All
 
 // ` I`
 fn put_spaced_name(text: &mut String, name: &str) -> Result<(), AllocError>
-    ensures { OnOk result (string_bytes text.new ≡ string_bytes text.old
-        ++ (codes " " ++ name.now)) }
+    ensures { OnOk result (Puts text.old text.new (codes " " ++ name.now)) }
 {
     put_two(text, " ", name)
 }
 
 /// An index, as it is written.
 pub(crate) fn put_index(text: &mut String, index: &Index) -> Result<(), AllocError>
-    ensures { OnOk result (string_bytes text.new ≡ string_bytes text.old ++ index_text index.now) }
+    ensures { OnOk result (Puts text.old text.new (index_text index.now)) }
 {
     match index {
         Index::Number(number) => write!(text, "{}", *number),
@@ -121,8 +120,7 @@ pub(crate) fn put_index(text: &mut String, index: &Index) -> Result<(), AllocErr
 
 // `A[I]`
 fn put_element(text: &mut String, name: &str, index: &Index) -> Result<(), AllocError>
-    ensures { OnOk result (string_bytes text.new ≡ string_bytes text.old
-        ++ (name.now ++ (codes "[" ++ (index_text index.now ++ codes "]")))) }
+    ensures { OnOk result (Puts text.old text.new (name.now ++ (codes "[" ++ (index_text index.now ++ codes "]")))) }
 {
     put_two(text, name, "[")?;
     put_index(text, index)?;
@@ -131,16 +129,14 @@ fn put_element(text: &mut String, name: &str, index: &Index) -> Result<(), Alloc
 
 // `C.PV`
 fn put_member(text: &mut String, name: &str, word: &str) -> Result<(), AllocError>
-    ensures { OnOk result (string_bytes text.new ≡ string_bytes text.old
-        ++ (name.now ++ (codes "." ++ word.now))) }
+    ensures { OnOk result (Puts text.old text.new (name.now ++ (codes "." ++ word.now))) }
 {
     put_three(text, name, ".", word)
 }
 
 /// What an operand names, as it is written; a literal names nothing.
 pub(crate) fn put_reference(text: &mut String, reference: &Reference) -> Result<(), AllocError>
-    ensures { OnOk result (string_bytes text.new ≡ string_bytes text.old
-        ++ reference_text reference.now) }
+    ensures { OnOk result (Puts text.old text.new (reference_text reference.now)) }
 {
     match reference {
         Reference::Literal(_) => Ok(()),
@@ -215,7 +211,7 @@ fn declared_line(unit: &Unit, name: &str) -> Option<u32>
 
 // `, declared in line N`, where there is a line.
 fn put_declared(text: &mut String, line: Option<u32>) -> Result<(), AllocError>
-    ensures { OnOk result (string_bytes text.new ≡ string_bytes text.old ++ declared_text line) }
+    ensures { OnOk result (Puts text.old text.new (declared_text line)) }
 {
     match line {
         Some(line) => put_numbered(text, ", declared in line ", line),
@@ -225,24 +221,21 @@ fn put_declared(text: &mut String, line: Option<u32>) -> Result<(), AllocError>
 
 /// `, declared in line N` of the line in which a unit declares a name, where there is one.
 pub(crate) fn put_line_of(text: &mut String, unit: &Unit, name: &str) -> Result<(), AllocError>
-    ensures { OnOk result (string_bytes text.new ≡ string_bytes text.old
-        ++ declared_text (declared_line unit.now name.now)) }
+    ensures { OnOk result (Puts text.old text.new (declared_text (declared_line unit.now name.now))) }
 {
     put_declared(text, declared_line(unit, name))
 }
 
 // ` declared in line N`
 fn put_in_line(text: &mut String, line: u32) -> Result<(), AllocError>
-    ensures { OnOk result (string_bytes text.new ≡ string_bytes text.old
-        ++ (codes " declared in line " ++ decimal line)) }
+    ensures { OnOk result (Puts text.old text.new (codes " declared in line " ++ decimal line)) }
 {
     put_numbered(text, " declared in line ", line)
 }
 
 // `, C declared in line N`
 fn put_declared_name(text: &mut String, name: &str, line: u32) -> Result<(), AllocError>
-    ensures { OnOk result (string_bytes text.new ≡ string_bytes text.old
-        ++ (codes ", " ++ (name.now ++ (codes " declared in line " ++ decimal line)))) }
+    ensures { OnOk result (Puts text.old text.new (codes ", " ++ (name.now ++ (codes " declared in line " ++ decimal line)))) }
 {
     put_two(text, ", ", name)?;
     put_in_line(text, line)
@@ -250,8 +243,7 @@ fn put_declared_name(text: &mut String, name: &str, line: u32) -> Result<(), All
 
 // The same, where there is a line.
 fn put_instance(text: &mut String, name: &str, line: Option<u32>) -> Result<(), AllocError>
-    ensures { OnOk result (string_bytes text.new ≡ string_bytes text.old
-        ++ instance_text name.now line) }
+    ensures { OnOk result (Puts text.old text.new (instance_text name.now line)) }
 {
     match line {
         Some(line) => put_declared_name(text, name, line),
@@ -265,8 +257,7 @@ pub(crate) fn put_where(
     unit: &Unit,
     reference: &Reference,
 ) -> Result<(), AllocError>
-    ensures { OnOk result (string_bytes text.new ≡ string_bytes text.old
-        ++ where_text unit.now reference.now) }
+    ensures { OnOk result (Puts text.old text.new (where_text unit.now reference.now)) }
 {
     match reference {
         Reference::Literal(_) => Ok(()),

@@ -1,6 +1,7 @@
 // What is told of faults of ranges.
 
-ghost use Rattle.std.specs.Prelude.{◌≡◌, ◌≢◌, ◌++◌, [], if◌then◌else◌, IfOk, IfSome, None, OnOk, Some, slice_get, string_bytes};
+ghost use Rattle.std.specs.Prelude.{◌≡◌, ◌≢◌, [], if◌then◌else◌, IfOk, IfSome, None, OnOk, Some, slice_get, string_bytes};
+ghost use Rattle.texts.specs.Puts.{Puts};
 ghost use Rattle.il_rules.specs.Faults.{BreaksDeclarations, Broken, Typing, HasNoFault};
 ghost use Rattle.il_ranges.specs.declared.fault.RangeFault.{RangeFault as FaultOf};
 ghost use Rattle.il_ranges.specs.RangeFaults.{range_fault_number};
@@ -64,8 +65,7 @@ fn put_fault(
     known: &PlaceFacts,
     instruction: &Instruction,
 ) -> Result<(), AllocError>
-    ensures { OnOk result (string_bytes text.new ≡ string_bytes text.old
-        ++ fault_text unit.now fault known.now instruction.now) }
+    ensures { OnOk result (Puts text.old text.new (fault_text unit.now fault known.now instruction.now)) }
 {
     match fault {
         RangeFault::Overflow => put_overflow(text, unit, known, instruction),
@@ -122,7 +122,7 @@ fn unit_told(
 
 // Adds a text.
 fn append(text: &mut String, more: &String) -> Result<(), AllocError>
-    ensures { OnOk result (string_bytes text.new ≡ string_bytes text.old ++ string_bytes more.now) }
+    ensures { OnOk result (Puts text.old text.new (string_bytes more.now)) }
 {
     text.push_str(more.as_str())
 }

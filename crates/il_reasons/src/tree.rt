@@ -1,6 +1,7 @@
 // What is told of a fault that the tree shows: of the instruction at a place, and of what is declared there.
 
 ghost use Rattle.std.specs.Prelude.{◌≡◌, ◌++◌, Some, flat_map, slice_get, string_bytes, IfOk, OnOk};
+ghost use Rattle.texts.specs.Puts.{Puts};
 ghost use Rattle.il_rules.specs.Declarations.{IsUnknown};
 ghost use Rattle.il_rules.specs.Types.{HasUnknownLabel};
 ghost use Rattle.il_reasons.specs.InitialReasons.{initials_lines};
@@ -62,8 +63,7 @@ fn put_declared(
     number: u16,
     place: Place,
 ) -> Result<(), AllocError>
-    ensures { OnOk result (string_bytes text.new ≡ string_bytes text.old
-        ++ place_lines names.now number place) }
+    ensures { OnOk result (Puts text.old text.new (place_lines names.now number place)) }
 {
     match number {
         20 => put_again_at(alloc, text, names, place),
@@ -75,8 +75,7 @@ fn put_declared(
 
 // Of the initial value or the type at a place.
 fn put_of_other_type(text: &mut String, config: &Config, offset: u32) -> Result<(), AllocError>
-    ensures { OnOk result (string_bytes text.new ≡ string_bytes text.old
-        ++ (initials_lines config.now offset ++ misplaced_lines config.now offset)) }
+    ensures { OnOk result (Puts text.old text.new (initials_lines config.now offset ++ misplaced_lines config.now offset)) }
 {
     put_initials(text, config, offset)?;
     put_misplaced(text, config, offset)
@@ -107,8 +106,7 @@ fn put_units(
     number: u16,
     offset: u32,
 ) -> Result<(), AllocError>
-    ensures { OnOk result (string_bytes text.new ≡ string_bytes text.old
-        ++ flat_map (unit_lines names.now number offset) names.now.units) }
+    ensures { OnOk result (Puts text.old text.new (flat_map (unit_lines names.now number offset) names.now.units)) }
 {
     let units = names.config().units.as_slice();
     'units: for at in 0..units.len() {
@@ -128,8 +126,7 @@ fn put_unit(
     offset: u32,
 ) -> Result<(), AllocError>
     requires { slice_get names.now.units at ≡ Some unit.now }
-    ensures { OnOk result (string_bytes text.new ≡ string_bytes text.old
-        ++ unit_lines names.now number offset unit.now) }
+    ensures { OnOk result (Puts text.old text.new (unit_lines names.now number offset unit.now)) }
 {
     let scope = UnitScope::of(names, at, unit);
     put_steps(
@@ -151,8 +148,7 @@ fn put_steps(
     number: u16,
     offset: u32,
 ) -> Result<(), AllocError>
-    ensures { OnOk result (string_bytes text.new ≡ string_bytes text.old
-        ++ flat_map (step_lines scope.now.config scope.now.unit number offset) steps.now) }
+    ensures { OnOk result (Puts text.old text.new (flat_map (step_lines scope.now.config scope.now.unit number offset) steps.now)) }
 {
     'steps: for step in steps {
         put_step(alloc, text, scope, step, number, offset)?;
@@ -169,8 +165,7 @@ fn put_step(
     number: u16,
     offset: u32,
 ) -> Result<(), AllocError>
-    ensures { OnOk result (string_bytes text.new ≡ string_bytes text.old
-        ++ step_lines scope.now.config scope.now.unit number offset step.now) }
+    ensures { OnOk result (Puts text.old text.new (step_lines scope.now.config scope.now.unit number offset step.now)) }
 {
     if step.place.offset == offset {
         put_instruction(alloc, text, scope, number, &step.instruction)
@@ -187,8 +182,7 @@ fn put_instruction(
     number: u16,
     instruction: &Instruction,
 ) -> Result<(), AllocError>
-    ensures { OnOk result (string_bytes text.new ≡ string_bytes text.old
-        ++ instruction_lines scope.now.config scope.now.unit number instruction.now) }
+    ensures { OnOk result (Puts text.old text.new (instruction_lines scope.now.config scope.now.unit number instruction.now)) }
 {
     if is_type_number(number) {
         put_types(text, scope, instruction)
@@ -209,8 +203,7 @@ fn put_named(
     number: u16,
     instruction: &Instruction,
 ) -> Result<(), AllocError>
-    ensures { OnOk result (string_bytes text.new ≡ string_bytes text.old
-        ++ named_lines scope.now.config scope.now.unit number instruction.now) }
+    ensures { OnOk result (Puts text.old text.new (named_lines scope.now.config scope.now.unit number instruction.now)) }
 {
     match number {
         21 => put_names(alloc, text, scope, instruction),

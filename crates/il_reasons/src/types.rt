@@ -1,6 +1,7 @@
 // What is told of the types of an instruction.
 
-ghost use Rattle.std.specs.Prelude.{◌≡◌, ◌++◌, string_bytes, OnOk};
+ghost use Rattle.std.specs.Prelude.{◌≡◌, OnOk};
+ghost use Rattle.texts.specs.Puts.{Puts};
 ghost use Rattle.il_reasons.specs.TypeReasons.{is_type_number, type_lines};
 
 use crate::types_inputs::put_called;
@@ -16,8 +17,7 @@ pub(crate) fn put_types(
     scope: &UnitScope<'_>,
     instruction: &Instruction,
 ) -> Result<(), AllocError>
-    ensures { OnOk result (string_bytes text.new ≡ string_bytes text.old
-        ++ type_lines scope.now.config scope.now.unit instruction.now) }
+    ensures { OnOk result (Puts text.old text.new (type_lines scope.now.config scope.now.unit instruction.now)) }
 {
     put_wanted(text, scope, instruction)?;
     put_called(text, scope.names(), instruction)?;

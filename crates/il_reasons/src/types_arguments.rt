@@ -1,6 +1,7 @@
 // The arguments of functions and calls, and what is taken (IEC 61131-3:2003, 2.5.1, 3.2.3).
 
-ghost use Rattle.std.specs.Prelude.{◌≡◌, ◌++◌, ◌+◌, [], None, length, string_bytes, OnOk};
+ghost use Rattle.std.specs.Prelude.{◌≡◌, ◌+◌, [], None, length, OnOk};
+ghost use Rattle.texts.specs.Puts.{Puts};
 ghost use Rattle.il_rules.specs.Names.{standard_function, further_arguments, function_named};
 ghost use Rattle.il_rules.specs.Types as rules;
 ghost use Rattle.il_reasons.specs.ArgumentReasons.{taken_count, arguments_text, standing_text, with_result, count_line, is_given, twice_line, no_input_line, no_output_line, word_line, argument_lines, arguments_lines, call_lines, taken_lines};
@@ -51,7 +52,7 @@ fn taken_count(scope: &UnitScope<'_>, name: &str) -> Option<usize>
 
 // `1 argument`, `2 arguments`
 fn put_arguments_count(text: &mut String, count: usize) -> Result<(), AllocError>
-    ensures { OnOk result (string_bytes text.new ≡ string_bytes text.old ++ arguments_text count) }
+    ensures { OnOk result (Puts text.old text.new (arguments_text count)) }
 {
     write!(text, "{}", count)?;
     if count == 1 {
@@ -63,7 +64,7 @@ fn put_arguments_count(text: &mut String, count: usize) -> Result<(), AllocError
 
 // `1 stands here`, `2 stand here`
 fn put_standing(text: &mut String, count: usize) -> Result<(), AllocError>
-    ensures { OnOk result (string_bytes text.new ≡ string_bytes text.old ++ standing_text count) }
+    ensures { OnOk result (Puts text.old text.new (standing_text count)) }
 {
     write!(text, "{}", count)?;
     if count == 1 {
@@ -76,7 +77,7 @@ fn put_standing(text: &mut String, count: usize) -> Result<(), AllocError>
 // ` with the current result`, and the end of the line.
 #[tactic(auto, unfolding(crate::specs::ArgumentReasons::with_result))]
 fn put_with_result(text: &mut String) -> Result<(), AllocError>
-    ensures { OnOk result (string_bytes text.new ≡ string_bytes text.old ++ with_result) }
+    ensures { OnOk result (Puts text.old text.new with_result) }
 {
     text.push_str(" with the current result\n")
 }
@@ -88,8 +89,7 @@ fn put_count(
     standing: usize,
     taken: Option<usize>,
 ) -> Result<(), AllocError>
-    ensures { OnOk result (string_bytes text.new ≡ string_bytes text.old
-        ++ count_line name.now standing taken) }
+    ensures { OnOk result (Puts text.old text.new (count_line name.now standing taken)) }
 {
     match taken {
         Some(taken) => {
@@ -127,8 +127,7 @@ fn is_given(arguments: &[Argument], word: &str) -> bool
 
 // `PV stands twice`
 fn put_twice(text: &mut String, given: bool, word: &str) -> Result<(), AllocError>
-    ensures { OnOk result (string_bytes text.new ≡ string_bytes text.old
-        ++ twice_line given word.now) }
+    ensures { OnOk result (Puts text.old text.new (twice_line given word.now)) }
 {
     if given {
         put_two(text, word, " stands twice\n")
@@ -139,8 +138,7 @@ fn put_twice(text: &mut String, given: bool, word: &str) -> Result<(), AllocErro
 
 // `Q1 is no input of C1`
 fn put_no_input(text: &mut String, has: bool, word: &str, instance: &str) -> Result<(), AllocError>
-    ensures { OnOk result (string_bytes text.new ≡ string_bytes text.old
-        ++ no_input_line has word.now instance.now) }
+    ensures { OnOk result (Puts text.old text.new (no_input_line has word.now instance.now)) }
 {
     if has {
         Ok(())
@@ -151,8 +149,7 @@ fn put_no_input(text: &mut String, has: bool, word: &str, instance: &str) -> Res
 
 // `PV is no output of C1`
 fn put_no_output(text: &mut String, has: bool, word: &str, instance: &str) -> Result<(), AllocError>
-    ensures { OnOk result (string_bytes text.new ≡ string_bytes text.old
-        ++ no_output_line has word.now instance.now) }
+    ensures { OnOk result (Puts text.old text.new (no_output_line has word.now instance.now)) }
 {
     if has {
         Ok(())
@@ -168,9 +165,7 @@ fn put_word(
     instance: &str,
     argument: &Argument,
 ) -> Result<(), AllocError>
-    ensures { OnOk result (string_bytes text.new ≡ string_bytes text.old ++ word_line
-        (rules.instance_block scope.now.config scope.now.unit instance.now) instance.now
-        argument.now) }
+    ensures { OnOk result (Puts text.old text.new (word_line (rules.instance_block scope.now.config scope.now.unit instance.now) instance.now argument.now)) }
 {
     match argument {
         Argument::Input { word, .. } => {
@@ -192,9 +187,7 @@ fn put_argument(
     before: &[Argument],
     argument: &Argument,
 ) -> Result<(), AllocError>
-    ensures { OnOk result (string_bytes text.new ≡ string_bytes text.old ++ argument_lines
-        (rules.instance_block scope.now.config scope.now.unit instance.now) instance.now
-        before.now argument.now) }
+    ensures { OnOk result (Puts text.old text.new (argument_lines (rules.instance_block scope.now.config scope.now.unit instance.now) instance.now before.now argument.now)) }
 {
     let word = argument_word(argument);
     put_twice(text, is_given(before, word), word)?;
@@ -208,9 +201,7 @@ fn put_arguments(
     instance: &str,
     arguments: &[Argument],
 ) -> Result<(), AllocError>
-    ensures { OnOk result (string_bytes text.new ≡ string_bytes text.old ++ arguments_lines
-        (rules.instance_block scope.now.config scope.now.unit instance.now) instance.now []
-        arguments.now) }
+    ensures { OnOk result (Puts text.old text.new (arguments_lines (rules.instance_block scope.now.config scope.now.unit instance.now) instance.now [] arguments.now)) }
 {
     'arguments: for at in 0..arguments.len() {
         put_argument(text, scope, instance, &arguments[..at], &arguments[at])?;
@@ -226,9 +217,7 @@ fn put_call(
     instance: &str,
     arguments: &[Argument],
 ) -> Result<(), AllocError>
-    ensures { OnOk result (string_bytes text.new ≡ string_bytes text.old ++ call_lines
-        (rules.instance_block scope.now.config scope.now.unit instance.now) instance.now
-        arguments.now) }
+    ensures { OnOk result (Puts text.old text.new (call_lines (rules.instance_block scope.now.config scope.now.unit instance.now) instance.now arguments.now)) }
 {
     match scope.block(instance) {
         Some(block) => {
@@ -246,8 +235,7 @@ pub(crate) fn put_taken(
     scope: &UnitScope<'_>,
     instruction: &Instruction,
 ) -> Result<(), AllocError>
-    ensures { OnOk result (string_bytes text.new ≡ string_bytes text.old
-        ++ taken_lines scope.now.config scope.now.unit instruction.now) }
+    ensures { OnOk result (Puts text.old text.new (taken_lines scope.now.config scope.now.unit instruction.now)) }
 {
     match instruction {
         Instruction::Call {

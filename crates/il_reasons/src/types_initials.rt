@@ -1,6 +1,7 @@
 // Initial values, and the names that they are for (IEC 61131-3:2003, 2.4.3.2).
 
-ghost use Rattle.std.specs.Prelude.{◌≡◌, ◌++◌, Some, flat_map, OnOk, string_bytes};
+ghost use Rattle.std.specs.Prelude.{Some, flat_map, OnOk};
+ghost use Rattle.texts.specs.Puts.{Puts};
 ghost use Rattle.il_reasons.specs.InitialReasons.{declared_line, initial_lines, declaration_lines, declarations_lines, unit_initials, initials_lines};
 
 use crate::types_operands::{put_literal, type_word};
@@ -10,8 +11,7 @@ use std::alloc::AllocError;
 
 // `V is BOOL`, `V is an array`, `V is an instance`, of a declared name.
 fn put_declared(text: &mut String, form: &Form, named: &Named) -> Result<(), AllocError>
-    ensures { OnOk result (string_bytes text.new ≡ string_bytes text.old
-        ++ declared_line form.now named.now) }
+    ensures { OnOk result (Puts text.old text.new (declared_line form.now named.now)) }
 {
     let name = named.name.as_str();
     match form {
@@ -23,8 +23,7 @@ fn put_declared(text: &mut String, form: &Form, named: &Named) -> Result<(), All
 
 // Of declared names.
 fn put_names(text: &mut String, form: &Form, names: &[Named]) -> Result<(), AllocError>
-    ensures { OnOk result (string_bytes text.new ≡ string_bytes text.old
-        ++ flat_map (declared_line form.now) names.now) }
+    ensures { OnOk result (Puts text.old text.new (flat_map (declared_line form.now) names.now)) }
 {
     'names: for named in names {
         put_declared(text, form, named)?;
@@ -39,8 +38,7 @@ fn put_initial(
     declaration: &Declaration,
     initial: Option<Initial>,
 ) -> Result<(), AllocError>
-    ensures { OnOk result (string_bytes text.new ≡ string_bytes text.old
-        ++ initial_lines offset declaration.now initial) }
+    ensures { OnOk result (Puts text.old text.new (initial_lines offset declaration.now initial)) }
 {
     match initial {
         Some(initial) => put_value(text, offset, declaration, initial),
@@ -55,8 +53,7 @@ fn put_value(
     declaration: &Declaration,
     initial: Initial,
 ) -> Result<(), AllocError>
-    ensures { OnOk result (string_bytes text.new ≡ string_bytes text.old
-        ++ initial_lines offset declaration.now (Some initial)) }
+    ensures { OnOk result (Puts text.old text.new (initial_lines offset declaration.now (Some initial))) }
 {
     if initial.place.offset == offset {
         put_names(
@@ -76,8 +73,7 @@ fn put_declarations(
     offset: u32,
     declarations: &[Declaration],
 ) -> Result<(), AllocError>
-    ensures { OnOk result (string_bytes text.new ≡ string_bytes text.old
-        ++ declarations_lines offset declarations.now) }
+    ensures { OnOk result (Puts text.old text.new (declarations_lines offset declarations.now)) }
 {
     'declarations: for declaration in declarations {
         put_initial(text, offset, declaration, declaration.initial)?;
@@ -87,8 +83,7 @@ fn put_declarations(
 
 // Of a unit.
 fn put_unit(text: &mut String, offset: u32, unit: &Unit) -> Result<(), AllocError>
-    ensures { OnOk result (string_bytes text.new ≡ string_bytes text.old
-        ++ unit_initials offset unit.now) }
+    ensures { OnOk result (Puts text.old text.new (unit_initials offset unit.now)) }
 {
     put_declarations(text, offset, unit.inputs.as_slice())?;
     put_declarations(text, offset, unit.outputs.as_slice())?;
@@ -98,8 +93,7 @@ fn put_unit(text: &mut String, offset: u32, unit: &Unit) -> Result<(), AllocErro
 
 // Of units.
 fn put_units(text: &mut String, offset: u32, units: &[Unit]) -> Result<(), AllocError>
-    ensures { OnOk result (string_bytes text.new ≡ string_bytes text.old
-        ++ flat_map (unit_initials offset) units.now) }
+    ensures { OnOk result (Puts text.old text.new (flat_map (unit_initials offset) units.now)) }
 {
     'units: for unit in units {
         put_unit(text, offset, unit)?;
@@ -113,8 +107,7 @@ pub(crate) fn put_initials(
     config: &Config,
     offset: u32,
 ) -> Result<(), AllocError>
-    ensures { OnOk result (string_bytes text.new ≡ string_bytes text.old
-        ++ initials_lines config.now offset) }
+    ensures { OnOk result (Puts text.old text.new (initials_lines config.now offset)) }
 {
     put_units(text, offset, config.units.as_slice())?;
     put_declarations(text, offset, config.globals.as_slice())

@@ -1,6 +1,7 @@
 // The inputs of own functions, each with its type (IEC 61131-3:2003, 2.5.1).
 
-ghost use Rattle.std.specs.Prelude.{◌≡◌, ◌++◌, flat_map, option_copied, OnOk, string_bytes};
+ghost use Rattle.std.specs.Prelude.{◌≡◌, flat_map, option_copied, OnOk};
+ghost use Rattle.texts.specs.Puts.{Puts};
 ghost use Rattle.il_rules.specs.Names.{function_named};
 ghost use Rattle.il_rules.specs.Types.{scalar_type};
 ghost use Rattle.il_reasons.specs.TypeReasons.{input_line, declared_lines, inputs_lines, called_lines};
@@ -28,8 +29,7 @@ fn put_input(
     found: Option<Elementary>,
     named: &Named,
 ) -> Result<(), AllocError>
-    ensures { OnOk result (string_bytes text.new ≡ string_bytes text.old
-        ++ input_line function.now found named.now) }
+    ensures { OnOk result (Puts text.old text.new (input_line function.now found named.now)) }
 {
     match found {
         Some(found) => {
@@ -46,8 +46,7 @@ fn put_declaration(
     function: &str,
     declaration: &Declaration,
 ) -> Result<(), AllocError>
-    ensures { OnOk result (string_bytes text.new ≡ string_bytes text.old
-        ++ declared_lines function.now declaration.now) }
+    ensures { OnOk result (Puts text.old text.new (declared_lines function.now declaration.now)) }
 {
     let found = scalar_type(&declaration.declared.form);
     put_names(text, function, found, declaration.names.as_slice())
@@ -60,8 +59,7 @@ fn put_names(
     found: Option<Elementary>,
     names: &[Named],
 ) -> Result<(), AllocError>
-    ensures { OnOk result (string_bytes text.new ≡ string_bytes text.old
-        ++ flat_map (input_line function.now found) names.now) }
+    ensures { OnOk result (Puts text.old text.new (flat_map (input_line function.now found) names.now)) }
 {
     'names: for named in names {
         put_input(text, function, found, named)?;
@@ -75,8 +73,7 @@ fn put_declarations(
     function: &str,
     declarations: &[Declaration],
 ) -> Result<(), AllocError>
-    ensures { OnOk result (string_bytes text.new ≡ string_bytes text.old
-        ++ flat_map (declared_lines function.now) declarations.now) }
+    ensures { OnOk result (Puts text.old text.new (flat_map (declared_lines function.now) declarations.now)) }
 {
     'declarations: for declaration in declarations {
         put_declaration(text, function, declaration)?;
@@ -95,8 +92,7 @@ fn own_function<'n>(names: &'n Scoped, name: &str) -> Option<&'n Unit>
 
 // The inputs of the own function of a name.
 fn put_inputs(text: &mut String, names: &Scoped, name: &str) -> Result<(), AllocError>
-    ensures { OnOk result (string_bytes text.new ≡ string_bytes text.old
-        ++ inputs_lines name.now (function_named names.now name.now)) }
+    ensures { OnOk result (Puts text.old text.new (inputs_lines name.now (function_named names.now name.now))) }
 {
     match own_function(names, name) {
         Some(unit) => put_declarations(text, name, unit.inputs.as_slice()),
@@ -110,8 +106,7 @@ pub(crate) fn put_called(
     names: &Scoped,
     instruction: &Instruction,
 ) -> Result<(), AllocError>
-    ensures { OnOk result (string_bytes text.new ≡ string_bytes text.old
-        ++ called_lines names.now instruction.now) }
+    ensures { OnOk result (Puts text.old text.new (called_lines names.now instruction.now)) }
 {
     match instruction {
         Instruction::Invoke { function, .. } => put_inputs(text, names, function.name.as_str()),

@@ -1,6 +1,7 @@
 // The operands of instructions, each with its type.
 
-ghost use Rattle.std.specs.Prelude.{◌≡◌, ◌++◌, OnOk, string_bytes};
+ghost use Rattle.std.specs.Prelude.{◌≡◌, OnOk};
+ghost use Rattle.texts.specs.Puts.{Puts};
 ghost use Rattle.il_reasons.specs.TypeWords.{type_word, truth_word, is_text, literal_line};
 ghost use Rattle.il_reasons.specs.TypeReasons.{name_line, index_line, element_line, member_line, reference_lines, operands_lines, argument_lines, arguments_lines, operand_lines};
 
@@ -35,14 +36,14 @@ fn truth_word(value: bool) -> &'static str
 
 /// ` is INT`, and the end of the line.
 pub(crate) fn put_is(text: &mut String, found: Elementary) -> Result<(), AllocError>
-    ensures { OnOk result (string_bytes text.new ≡ string_bytes text.old ++ is_text found) }
+    ensures { OnOk result (Puts text.old text.new (is_text found)) }
 {
     put_three(text, " is ", type_word(found), "\n")
 }
 
 /// `5 is a bare number`, `INT#5 is INT`
 pub(crate) fn put_literal(text: &mut String, literal: Literal) -> Result<(), AllocError>
-    ensures { OnOk result (string_bytes text.new ≡ string_bytes text.old ++ literal_line literal) }
+    ensures { OnOk result (Puts text.old text.new (literal_line literal)) }
 {
     match literal {
         Literal::Truth(value) => {
@@ -63,8 +64,7 @@ pub(crate) fn put_literal(text: &mut String, literal: Literal) -> Result<(), All
 
 // `V is INT`, of a scalar variable.
 fn put_name<S: Scope>(text: &mut String, scope: &S, name: &str) -> Result<(), AllocError>
-    ensures { OnOk result (string_bytes text.new ≡ string_bytes text.old
-        ++ name_line (S.config scope.now) (S.unit scope.now) name.now) }
+    ensures { OnOk result (Puts text.old text.new (name_line (S.config scope.now) (S.unit scope.now) name.now)) }
 {
     match scope.name_type(name) {
         Some(found) => put_four(text, name, " is ", type_word(found), "\n"),
@@ -74,8 +74,7 @@ fn put_name<S: Scope>(text: &mut String, scope: &S, name: &str) -> Result<(), Al
 
 // `I is INT`, of the variable of an index.
 fn put_index_type<S: Scope>(text: &mut String, scope: &S, index: &Index) -> Result<(), AllocError>
-    ensures { OnOk result (string_bytes text.new ≡ string_bytes text.old
-        ++ index_line (S.config scope.now) (S.unit scope.now) index.now) }
+    ensures { OnOk result (Puts text.old text.new (index_line (S.config scope.now) (S.unit scope.now) index.now)) }
 {
     match index {
         Index::Number(_) => Ok(()),
@@ -91,8 +90,7 @@ fn put_element<S: Scope>(
     name: &str,
     index: &Index,
 ) -> Result<(), AllocError>
-    ensures { OnOk result (string_bytes text.new ≡ string_bytes text.old
-        ++ element_line (S.config scope.now) (S.unit scope.now) name.now index.now) }
+    ensures { OnOk result (Puts text.old text.new (element_line (S.config scope.now) (S.unit scope.now) name.now index.now)) }
 {
     match scope.element_type(name) {
         Some(found) => {
@@ -113,8 +111,7 @@ fn put_member<S: Scope>(
     name: &str,
     word: &str,
 ) -> Result<(), AllocError>
-    ensures { OnOk result (string_bytes text.new ≡ string_bytes text.old
-        ++ member_line (S.config scope.now) (S.unit scope.now) name.now word.now) }
+    ensures { OnOk result (Puts text.old text.new (member_line (S.config scope.now) (S.unit scope.now) name.now word.now)) }
 {
     match scope.member_type(name, word) {
         Some(found) => {
@@ -131,8 +128,7 @@ fn put_reference<S: Scope>(
     scope: &S,
     reference: &Reference,
 ) -> Result<(), AllocError>
-    ensures { OnOk result (string_bytes text.new ≡ string_bytes text.old
-        ++ reference_lines (S.config scope.now) (S.unit scope.now) reference.now) }
+    ensures { OnOk result (Puts text.old text.new (reference_lines (S.config scope.now) (S.unit scope.now) reference.now)) }
 {
     match reference {
         Reference::Literal(literal) => put_literal(text, *literal),
@@ -151,8 +147,7 @@ fn put_operands<S: Scope>(
     scope: &S,
     operands: &[Operand],
 ) -> Result<(), AllocError>
-    ensures { OnOk result (string_bytes text.new ≡ string_bytes text.old
-        ++ operands_lines (S.config scope.now) (S.unit scope.now) operands.now) }
+    ensures { OnOk result (Puts text.old text.new (operands_lines (S.config scope.now) (S.unit scope.now) operands.now)) }
 {
     'operands: for operand in operands {
         put_reference(text, scope, &operand.reference)?;
@@ -167,8 +162,7 @@ fn put_argument<S: Scope>(
     instance: &str,
     argument: &Argument,
 ) -> Result<(), AllocError>
-    ensures { OnOk result (string_bytes text.new ≡ string_bytes text.old
-        ++ argument_lines (S.config scope.now) (S.unit scope.now) instance.now argument.now) }
+    ensures { OnOk result (Puts text.old text.new (argument_lines (S.config scope.now) (S.unit scope.now) instance.now argument.now)) }
 {
     match argument {
         Argument::Input { word, operand } => {
@@ -189,8 +183,7 @@ fn put_arguments<S: Scope>(
     instance: &str,
     arguments: &[Argument],
 ) -> Result<(), AllocError>
-    ensures { OnOk result (string_bytes text.new ≡ string_bytes text.old
-        ++ arguments_lines (S.config scope.now) (S.unit scope.now) instance.now arguments.now) }
+    ensures { OnOk result (Puts text.old text.new (arguments_lines (S.config scope.now) (S.unit scope.now) instance.now arguments.now)) }
 {
     'arguments: for argument in arguments {
         put_argument(text, scope, instance, argument)?;
@@ -204,8 +197,7 @@ pub(crate) fn put_operands_of<S: Scope>(
     scope: &S,
     instruction: &Instruction,
 ) -> Result<(), AllocError>
-    ensures { OnOk result (string_bytes text.new ≡ string_bytes text.old
-        ++ operand_lines (S.config scope.now) (S.unit scope.now) instruction.now) }
+    ensures { OnOk result (Puts text.old text.new (operand_lines (S.config scope.now) (S.unit scope.now) instruction.now)) }
 {
     match instruction {
         Instruction::Load { operand, .. } => put_reference(text, scope, &operand.reference),

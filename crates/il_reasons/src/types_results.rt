@@ -1,6 +1,7 @@
 // The type of the current result at an instruction: one pass over its unit, up to it (IEC 61131-3:2003, 3.2.2).
 
-ghost use Rattle.std.specs.Prelude.{◌≡◌, ◌<◌, ◌++◌, ℕ, None, Some, Option, IfOk, IfSome, OnOk, length, slice_get, string_bytes};
+ghost use Rattle.std.specs.Prelude.{◌≡◌, ◌<◌, ℕ, None, Some, Option, IfOk, IfSome, OnOk, length, slice_get, string_bytes};
+ghost use Rattle.texts.specs.Puts.{Puts};
 ghost use Rattle.il_spec.specs.declared.tree.Step.{Step as StepOf};
 ghost use Rattle.il_rules.specs.Types.{opener, IsResultAt, IsDeferredAt};
 ghost use Rattle.il_reasons.specs.ResultReasons.{result_line, aside_line, deferred_lines, tested_line, result_lines, IsResultOf, IsResultTold};
@@ -55,7 +56,7 @@ fn types_at<S: Scope>(
 
 // `the current result is INT`
 fn put_result(text: &mut String, found: Option<Elementary>) -> Result<(), AllocError>
-    ensures { OnOk result (string_bytes text.new ≡ string_bytes text.old ++ result_line found) }
+    ensures { OnOk result (Puts text.old text.new (result_line found)) }
 {
     match found {
         Some(found) => put_three(text, "the current result is ", type_word(found), "\n"),
@@ -65,7 +66,7 @@ fn put_result(text: &mut String, found: Option<Elementary>) -> Result<(), AllocE
 
 // `the result before the parenthesis is INT`
 fn put_aside(text: &mut String, found: Option<Elementary>) -> Result<(), AllocError>
-    ensures { OnOk result (string_bytes text.new ≡ string_bytes text.old ++ aside_line found) }
+    ensures { OnOk result (Puts text.old text.new (aside_line found)) }
 {
     match found {
         Some(found) => put_three(
@@ -83,8 +84,7 @@ fn put_deferred(
     text: &mut String,
     deferred: Option<(Operator, Option<Elementary>)>,
 ) -> Result<(), AllocError>
-    ensures { OnOk result (string_bytes text.new ≡ string_bytes text.old
-        ++ deferred_lines deferred) }
+    ensures { OnOk result (Puts text.old text.new (deferred_lines deferred)) }
 {
     match deferred {
         Some((_, found)) => put_aside(text, found),
@@ -98,8 +98,7 @@ fn put_tested(
     condition: Condition,
     found: Option<Elementary>,
 ) -> Result<(), AllocError>
-    ensures { OnOk result (string_bytes text.new ≡ string_bytes text.old
-        ++ tested_line condition found) }
+    ensures { OnOk result (Puts text.old text.new (tested_line condition found)) }
 {
     match condition {
         Condition::Always => Ok(()),
@@ -109,8 +108,7 @@ fn put_tested(
 
 // What an instruction takes of the current result.
 fn put_taken(text: &mut String, instruction: &Instruction, types: Types) -> Result<(), AllocError>
-    ensures { OnOk result (string_bytes text.new ≡ string_bytes text.old
-        ++ result_lines instruction.now types.result types.deferred) }
+    ensures { OnOk result (Puts text.old text.new (result_lines instruction.now types.result types.deferred)) }
 {
     match instruction {
         Instruction::Load { .. } => Ok(()),

@@ -1,6 +1,7 @@
 // The type that the current result must have at an instruction (IEC 61131-3:2003, 3.2.2, 3.2.3).
 
-ghost use Rattle.std.specs.Prelude.{◌≡◌, ◌++◌, List, None, Some, map, OnOk, string_bytes};
+ghost use Rattle.std.specs.Prelude.{◌≡◌, List, None, Some, map, OnOk};
+ghost use Rattle.texts.specs.Puts.{Puts};
 ghost use Rattle.il_spec.specs.declared.tree.Config.{Config};
 ghost use Rattle.il_spec.specs.declared.tree.Elementary.{Elementary as TypeOf};
 ghost use Rattle.il_spec.specs.declared.tree.Form.{Form};
@@ -143,7 +144,7 @@ fn wanted_type(scope: &UnitScope<'_>, instruction: &Instruction) -> Option<Eleme
 
 // `the result must be INT`, where one type is wanted.
 fn put_must(text: &mut String, wanted: Option<Elementary>) -> Result<(), AllocError>
-    ensures { OnOk result (string_bytes text.new ≡ string_bytes text.old ++ wanted_line wanted) }
+    ensures { OnOk result (Puts text.old text.new (wanted_line wanted)) }
 {
     match wanted {
         Some(wanted) => put_three(text, "the result must be ", type_word(wanted), "\n"),
@@ -157,8 +158,7 @@ pub(crate) fn put_wanted(
     scope: &UnitScope<'_>,
     instruction: &Instruction,
 ) -> Result<(), AllocError>
-    ensures { OnOk result (string_bytes text.new ≡ string_bytes text.old
-        ++ wanted_line (wanted_type scope.now.config scope.now.unit instruction.now)) }
+    ensures { OnOk result (Puts text.old text.new (wanted_line (wanted_type scope.now.config scope.now.unit instruction.now))) }
 {
     put_must(text, wanted_type(scope, instruction))
 }

@@ -1,6 +1,7 @@
 // The words of blocks (IEC 61131-3:2003, 2.5.2).
 
-ghost use Rattle.std.specs.Prelude.{◌≡◌, ◌++◌, Some, map, flat_map, codes, string_bytes, IfOk, OnOk};
+ghost use Rattle.std.specs.Prelude.{◌≡◌, ◌++◌, Some, map, flat_map, codes, IfOk, OnOk};
+ghost use Rattle.texts.specs.Puts.{Puts};
 ghost use Rattle.il_rules.specs.Names.{named_forms, standard_variables, own_block_variables};
 ghost use Rattle.il_scope.specs.Views.{variables_of_block};
 ghost use Rattle.il_scope.specs.declared.entry.BlockType.TheVariants.{Own as OwnBlock};
@@ -17,8 +18,7 @@ use std::alloc::{AllocError, Global};
 
 // Words behind others.
 fn put_others(text: &mut String, words: &[&str]) -> Result<(), AllocError>
-    ensures { OnOk result (string_bytes text.new ≡ string_bytes text.old
-        ++ flat_map (λ w. codes ", " ++ w) (map (λ w. w.now) words.now)) }
+    ensures { OnOk result (Puts text.old text.new (flat_map (λ w. codes ", " ++ w) (map (λ w. w.now) words.now))) }
 {
     'words: for word in words {
         put_two(text, ", ", *word)?;
@@ -28,8 +28,7 @@ fn put_others(text: &mut String, words: &[&str]) -> Result<(), AllocError>
 
 // `CU, R, PV`
 fn put_words(text: &mut String, words: &[&str]) -> Result<(), AllocError>
-    ensures { OnOk result (string_bytes text.new ≡ string_bytes text.old
-        ++ words_text (map (λ w. w.now) words.now)) }
+    ensures { OnOk result (Puts text.old text.new (words_text (map (λ w. w.now) words.now))) }
 {
     match words {
         [] => text.push_str("none"),
@@ -42,9 +41,7 @@ fn put_words(text: &mut String, words: &[&str]) -> Result<(), AllocError>
 
 // `inputs of C1: CU, R, PV`, or `outputs of ..`
 fn put_line(text: &mut String, head: &str, instance: &str, words: &[&str]) -> Result<(), AllocError>
-    ensures { OnOk result (string_bytes text.new ≡ string_bytes text.old ++ (head.now
-        ++ (instance.now ++ (codes ": " ++ (words_text (map (λ w. w.now) words.now)
-        ++ codes "\n"))))) }
+    ensures { OnOk result (Puts text.old text.new (head.now ++ (instance.now ++ (codes ": " ++ (words_text (map (λ w. w.now) words.now) ++ codes "\n"))))) }
 {
     put_three(text, head, instance, ": ")?;
     put_words(text, words)?;
@@ -53,16 +50,14 @@ fn put_line(text: &mut String, head: &str, instance: &str, words: &[&str]) -> Re
 
 // `inputs of C1: CU, R, PV`
 fn put_inputs(text: &mut String, instance: &str, words: &[&str]) -> Result<(), AllocError>
-    ensures { OnOk result (string_bytes text.new ≡ string_bytes text.old
-        ++ inputs_line instance.now (map (λ w. w.now) words.now)) }
+    ensures { OnOk result (Puts text.old text.new (inputs_line instance.now (map (λ w. w.now) words.now))) }
 {
     put_line(text, "inputs of ", instance, words)
 }
 
 // `outputs of C1: Q, CV`
 fn put_outputs(text: &mut String, instance: &str, words: &[&str]) -> Result<(), AllocError>
-    ensures { OnOk result (string_bytes text.new ≡ string_bytes text.old
-        ++ outputs_line instance.now (map (λ w. w.now) words.now)) }
+    ensures { OnOk result (Puts text.old text.new (outputs_line instance.now (map (λ w. w.now) words.now))) }
 {
     put_line(text, "outputs of ", instance, words)
 }
@@ -111,8 +106,7 @@ fn put_standard(
     instance: &str,
     block: StandardBlock,
 ) -> Result<(), AllocError>
-    ensures { OnOk result (string_bytes text.new ≡ string_bytes text.old
-        ++ block_lines instance.now (Some (standard_variables block))) }
+    ensures { OnOk result (Puts text.old text.new (block_lines instance.now (Some (standard_variables block)))) }
 {
     let words = words_of(block);
     let inputs = standard_words(alloc, words.inputs)?;
@@ -128,8 +122,7 @@ fn put_unit_words(
     instance: &str,
     unit: &Unit,
 ) -> Result<(), AllocError>
-    ensures { OnOk result (string_bytes text.new ≡ string_bytes text.old
-        ++ block_lines instance.now (Some (own_block_variables unit.now))) }
+    ensures { OnOk result (Puts text.old text.new (block_lines instance.now (Some (own_block_variables unit.now)))) }
 {
     let inputs = declared_words(alloc, unit.inputs.as_slice())?;
     let outputs = declared_words(alloc, unit.outputs.as_slice())?;
@@ -145,8 +138,7 @@ fn put_own(
     instance: &str,
     number: usize,
 ) -> Result<(), AllocError>
-    ensures { OnOk result (string_bytes text.new ≡ string_bytes text.old
-        ++ block_lines instance.now (variables_of_block names.now (OwnBlock number))) }
+    ensures { OnOk result (Puts text.old text.new (block_lines instance.now (variables_of_block names.now (OwnBlock number)))) }
 {
     match unit_at(names, number) {
         Some(unit) => put_unit_words(alloc, text, instance, unit),
@@ -162,8 +154,7 @@ pub(crate) fn put_block(
     instance: &str,
     block: BlockType,
 ) -> Result<(), AllocError>
-    ensures { OnOk result (string_bytes text.new ≡ string_bytes text.old
-        ++ block_lines instance.now (variables_of_block names.now block)) }
+    ensures { OnOk result (Puts text.old text.new (block_lines instance.now (variables_of_block names.now block))) }
 {
     match block {
         BlockType::Standard(standard) => put_standard(alloc, text, instance, standard),

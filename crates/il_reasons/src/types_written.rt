@@ -1,6 +1,7 @@
 // Written types that are not what their places ask for, and what is wanted there (IEC 61131-3:2003, 2.3.3.1, 2.4.3).
 
-ghost use Rattle.std.specs.Prelude.{◌≡◌, ◌++◌, flat_map, codes, decimal, OnOk, string_bytes};
+ghost use Rattle.std.specs.Prelude.{◌≡◌, ◌++◌, flat_map, codes, decimal, OnOk};
+ghost use Rattle.texts.specs.Puts.{Puts};
 ghost use Rattle.il_spec.specs.declared.tree.Form.TheVariants.{Scalar as OfScalar};
 ghost use Rattle.il_reasons.specs.WrittenReasons.{written_scalar, form_text, form_words, form_line, subrange_line, form_subrange_line, array_line, instance_line, wanted_line, written_lines, global_line, global_lines, globals_lines, external_lines, result_lines, wanted_variables, unit_written, misplaced_lines};
 
@@ -21,7 +22,7 @@ pub(crate) enum Wanted {
 
 // `INT`, `INT (0..5)`
 fn put_scalar(text: &mut String, scalar: Scalar) -> Result<(), AllocError>
-    ensures { OnOk result (string_bytes text.new ≡ string_bytes text.old ++ written_scalar scalar) }
+    ensures { OnOk result (Puts text.old text.new (written_scalar scalar)) }
 {
     text.push_str(type_word(scalar.elementary))?;
     put_within(text, scalar.subrange)
@@ -29,15 +30,14 @@ fn put_scalar(text: &mut String, scalar: Scalar) -> Result<(), AllocError>
 
 // `an instance of TON`
 fn put_instance(text: &mut String, block: &str) -> Result<(), AllocError>
-    ensures { OnOk result (string_bytes text.new ≡ string_bytes text.old
-        ++ (codes "an instance of " ++ block.now)) }
+    ensures { OnOk result (Puts text.old text.new (codes "an instance of " ++ block.now)) }
 {
     put_two(text, "an instance of ", block)
 }
 
 // `INT (0..5)`, `ARRAY [1..4] OF INT`, `an instance of TON`
 fn put_form(text: &mut String, form: &Form) -> Result<(), AllocError>
-    ensures { OnOk result (string_bytes text.new ≡ string_bytes text.old ++ form_text form.now) }
+    ensures { OnOk result (Puts text.old text.new (form_text form.now)) }
 {
     match form {
         Form::Scalar(scalar) => put_scalar(text, *scalar),
@@ -53,8 +53,7 @@ fn put_form(text: &mut String, form: &Form) -> Result<(), AllocError>
 
 // `V is INT (0..5)`, of a declared name.
 fn put_form_words(text: &mut String, form: &Form, named: &Named) -> Result<(), AllocError>
-    ensures { OnOk result (string_bytes text.new ≡ string_bytes text.old
-        ++ form_words form.now named.now) }
+    ensures { OnOk result (Puts text.old text.new (form_words form.now named.now)) }
 {
     put_two(text, named.name.as_str(), " is ")?;
     put_form(text, form)
@@ -62,8 +61,7 @@ fn put_form_words(text: &mut String, form: &Form, named: &Named) -> Result<(), A
 
 // The same as a line.
 fn put_named(text: &mut String, form: &Form, named: &Named) -> Result<(), AllocError>
-    ensures { OnOk result (string_bytes text.new ≡ string_bytes text.old
-        ++ form_line form.now named.now) }
+    ensures { OnOk result (Puts text.old text.new (form_line form.now named.now)) }
 {
     put_form_words(text, form, named)?;
     text.push_str("\n")
@@ -71,8 +69,7 @@ fn put_named(text: &mut String, form: &Form, named: &Named) -> Result<(), AllocE
 
 // Of declared names.
 fn put_names(text: &mut String, form: &Form, names: &[Named]) -> Result<(), AllocError>
-    ensures { OnOk result (string_bytes text.new ≡ string_bytes text.old
-        ++ flat_map (form_line form.now) names.now) }
+    ensures { OnOk result (Puts text.old text.new (flat_map (form_line form.now) names.now)) }
 {
     'names: for named in names {
         put_named(text, form, named)?;
@@ -82,7 +79,7 @@ fn put_names(text: &mut String, form: &Form, names: &[Named]) -> Result<(), Allo
 
 // `BOOL has no subranges`, where one is written.
 fn put_subrange(text: &mut String, scalar: Scalar) -> Result<(), AllocError>
-    ensures { OnOk result (string_bytes text.new ≡ string_bytes text.old ++ subrange_line scalar) }
+    ensures { OnOk result (Puts text.old text.new (subrange_line scalar)) }
 {
     if scalar.subrange.is_some() && !is_whole(scalar.elementary) {
         put_two(text, type_word(scalar.elementary), " has no subranges\n")
@@ -93,8 +90,7 @@ fn put_subrange(text: &mut String, scalar: Scalar) -> Result<(), AllocError>
 
 // The same of the elements of an array.
 fn put_form_subrange(text: &mut String, form: &Form) -> Result<(), AllocError>
-    ensures { OnOk result (string_bytes text.new ≡ string_bytes text.old
-        ++ form_subrange_line form.now) }
+    ensures { OnOk result (Puts text.old text.new (form_subrange_line form.now)) }
 {
     match form {
         Form::Scalar(scalar) => put_subrange(text, *scalar),
@@ -142,8 +138,7 @@ fn put_written(
     offset: u32,
     declaration: &Declaration,
 ) -> Result<(), AllocError>
-    ensures { OnOk result (string_bytes text.new ≡ string_bytes text.old
-        ++ written_lines wanted offset declaration.now) }
+    ensures { OnOk result (Puts text.old text.new (written_lines wanted offset declaration.now)) }
 {
     if declaration.declared.place.offset != offset {
         return Ok(());
@@ -161,8 +156,7 @@ fn put_declarations(
     offset: u32,
     declarations: &[Declaration],
 ) -> Result<(), AllocError>
-    ensures { OnOk result (string_bytes text.new ≡ string_bytes text.old
-        ++ flat_map (written_lines wanted offset) declarations.now) }
+    ensures { OnOk result (Puts text.old text.new (flat_map (written_lines wanted offset) declarations.now)) }
 {
     'declarations: for declaration in declarations {
         put_written(text, wanted, offset, declaration)?;
@@ -172,17 +166,14 @@ fn put_declarations(
 
 // ` in line 12`, and the end of the line.
 fn put_in_line(text: &mut String, line: u32) -> Result<(), AllocError>
-    ensures { OnOk result (string_bytes text.new ≡ string_bytes text.old
-        ++ (codes " in line " ++ (decimal line ++ codes "\n"))) }
+    ensures { OnOk result (Puts text.old text.new (codes " in line " ++ (decimal line ++ codes "\n"))) }
 {
     writeln!(text, " in line {}", line)
 }
 
 // `the global V is BOOL in line 12`
 fn put_found(text: &mut String, form: &Form, named: &Named) -> Result<(), AllocError>
-    ensures { OnOk result (string_bytes text.new ≡ string_bytes text.old
-        ++ (codes "the global " ++ (form_words form.now named.now
-        ++ (codes " in line " ++ (decimal named.now.place.line ++ codes "\n"))))) }
+    ensures { OnOk result (Puts text.old text.new (codes "the global " ++ (form_words form.now named.now ++ (codes " in line " ++ (decimal named.now.place.line ++ codes "\n"))))) }
 {
     put(text, "the global ")?;
     put_form_words(text, form, named)?;
@@ -191,8 +182,7 @@ fn put_found(text: &mut String, form: &Form, named: &Named) -> Result<(), AllocE
 
 // The same, of a global with this name.
 fn put_global(text: &mut String, name: &str, form: &Form, named: &Named) -> Result<(), AllocError>
-    ensures { OnOk result (string_bytes text.new ≡ string_bytes text.old
-        ++ global_line name.now form.now named.now) }
+    ensures { OnOk result (Puts text.old text.new (global_line name.now form.now named.now)) }
 {
     if named.name.as_str() == name {
         put_found(text, form, named)
@@ -207,8 +197,7 @@ fn put_named_globals(
     name: &str,
     declaration: &Declaration,
 ) -> Result<(), AllocError>
-    ensures { OnOk result (string_bytes text.new ≡ string_bytes text.old
-        ++ global_lines name.now declaration.now) }
+    ensures { OnOk result (Puts text.old text.new (global_lines name.now declaration.now)) }
 {
     'names: for named in declaration.names.as_slice() {
         put_global(text, name, &declaration.declared.form, named)?;
@@ -218,8 +207,7 @@ fn put_named_globals(
 
 // Of the globals of an external.
 fn put_globals(text: &mut String, globals: &[Declaration], named: &Named) -> Result<(), AllocError>
-    ensures { OnOk result (string_bytes text.new ≡ string_bytes text.old
-        ++ globals_lines globals.now named.now) }
+    ensures { OnOk result (Puts text.old text.new (globals_lines globals.now named.now)) }
 {
     'globals: for declaration in globals {
         put_named_globals(text, named.name.as_str(), declaration)?;
@@ -233,8 +221,7 @@ fn put_external_globals(
     globals: &[Declaration],
     names: &[Named],
 ) -> Result<(), AllocError>
-    ensures { OnOk result (string_bytes text.new ≡ string_bytes text.old
-        ++ flat_map (globals_lines globals.now) names.now) }
+    ensures { OnOk result (Puts text.old text.new (flat_map (globals_lines globals.now) names.now)) }
 {
     'names: for named in names {
         put_globals(text, globals, named)?;
@@ -249,8 +236,7 @@ fn put_external(
     offset: u32,
     declaration: &Declaration,
 ) -> Result<(), AllocError>
-    ensures { OnOk result (string_bytes text.new ≡ string_bytes text.old
-        ++ external_lines globals.now offset declaration.now) }
+    ensures { OnOk result (Puts text.old text.new (external_lines globals.now offset declaration.now)) }
 {
     put_written(text, Wanted::ScalarsAndArrays, offset, declaration)?;
     if declaration.declared.place.offset == offset {
@@ -267,8 +253,7 @@ fn put_externals(
     offset: u32,
     externals: &[Declaration],
 ) -> Result<(), AllocError>
-    ensures { OnOk result (string_bytes text.new ≡ string_bytes text.old
-        ++ flat_map (external_lines globals.now offset) externals.now) }
+    ensures { OnOk result (Puts text.old text.new (flat_map (external_lines globals.now offset) externals.now)) }
 {
     'externals: for declaration in externals {
         put_external(text, globals, offset, declaration)?;
@@ -278,8 +263,7 @@ fn put_externals(
 
 // `F is BOOL (0..1)`, of a function.
 fn put_typed(text: &mut String, scalar: Scalar, name: &Named) -> Result<(), AllocError>
-    ensures { OnOk result (string_bytes text.new ≡ string_bytes text.old
-        ++ form_line (OfScalar scalar) name.now) }
+    ensures { OnOk result (Puts text.old text.new (form_line (OfScalar scalar) name.now)) }
 {
     text.push_str(name.name.as_str())?;
     text.push_str(" is ")?;
@@ -294,8 +278,7 @@ fn put_result(
     kind: UnitKind,
     name: &Named,
 ) -> Result<(), AllocError>
-    ensures { OnOk result (string_bytes text.new ≡ string_bytes text.old
-        ++ result_lines offset kind name.now) }
+    ensures { OnOk result (Puts text.old text.new (result_lines offset kind name.now)) }
 {
     match kind {
         UnitKind::Function(scalar, place) if place.offset == offset => {
@@ -323,8 +306,7 @@ fn put_unit(
     offset: u32,
     unit: &Unit,
 ) -> Result<(), AllocError>
-    ensures { OnOk result (string_bytes text.new ≡ string_bytes text.old
-        ++ unit_written globals.now offset unit.now) }
+    ensures { OnOk result (Puts text.old text.new (unit_written globals.now offset unit.now)) }
 {
     put_result(text, offset, unit.kind, &unit.name)?;
     put_declarations(text, Wanted::Scalars, offset, unit.inputs.as_slice())?;
@@ -341,8 +323,7 @@ fn put_units(
     offset: u32,
     units: &[Unit],
 ) -> Result<(), AllocError>
-    ensures { OnOk result (string_bytes text.new ≡ string_bytes text.old
-        ++ flat_map (unit_written globals.now offset) units.now) }
+    ensures { OnOk result (Puts text.old text.new (flat_map (unit_written globals.now offset) units.now)) }
 {
     'units: for unit in units {
         put_unit(text, globals, offset, unit)?;
@@ -356,8 +337,7 @@ pub(crate) fn put_misplaced(
     config: &Config,
     offset: u32,
 ) -> Result<(), AllocError>
-    ensures { OnOk result (string_bytes text.new ≡ string_bytes text.old
-        ++ misplaced_lines config.now offset) }
+    ensures { OnOk result (Puts text.old text.new (misplaced_lines config.now offset)) }
 {
     let globals = config.globals.as_slice();
     put_units(text, globals, offset, config.units.as_slice())?;

@@ -1,14 +1,14 @@
 // Pieces of text, one behind the other.
 
-ghost use Rattle.std.specs.Prelude.{◌≡◌, ◌++◌, OnOk, decimal, string_bytes};
+ghost use Rattle.std.specs.Prelude.{◌++◌, OnOk, decimal};
+ghost use Rattle.texts.specs.Puts.{Puts};
 
 use std::alloc::AllocError;
 
 /// Two pieces.
 #[tactic(auto, using(crate::proofs::Pieces::join))]
 pub(crate) fn put_two(text: &mut String, first: &str, second: &str) -> Result<(), AllocError>
-    ensures { OnOk result (string_bytes text.new ≡ string_bytes text.old
-        ++ (first.now ++ second.now)) }
+    ensures { OnOk result (Puts text.old text.new (first.now ++ second.now)) }
 {
     text.push_str(first)?;
     text.push_str(second)
@@ -21,8 +21,7 @@ pub(crate) fn put_three(
     second: &str,
     third: &str,
 ) -> Result<(), AllocError>
-    ensures { OnOk result (string_bytes text.new ≡ string_bytes text.old
-        ++ (first.now ++ (second.now ++ third.now))) }
+    ensures { OnOk result (Puts text.old text.new (first.now ++ (second.now ++ third.now))) }
 {
     text.push_str(first)?;
     put_two(text, second, third)
@@ -36,8 +35,7 @@ pub(crate) fn put_four(
     third: &str,
     fourth: &str,
 ) -> Result<(), AllocError>
-    ensures { OnOk result (string_bytes text.new ≡ string_bytes text.old
-        ++ (first.now ++ (second.now ++ (third.now ++ fourth.now)))) }
+    ensures { OnOk result (Puts text.old text.new (first.now ++ (second.now ++ (third.now ++ fourth.now)))) }
 {
     put_two(text, first, second)?;
     put_two(text, third, fourth)
@@ -45,15 +43,14 @@ pub(crate) fn put_four(
 
 /// A number.
 pub(crate) fn put_number(text: &mut String, number: u32) -> Result<(), AllocError>
-    ensures { OnOk result (string_bytes text.new ≡ string_bytes text.old ++ decimal number) }
+    ensures { OnOk result (Puts text.old text.new (decimal number)) }
 {
     write!(text, "{}", number)
 }
 
 /// A piece, and a number.
 pub(crate) fn put_numbered(text: &mut String, piece: &str, number: u32) -> Result<(), AllocError>
-    ensures { OnOk result (string_bytes text.new ≡ string_bytes text.old
-        ++ (piece.now ++ decimal number)) }
+    ensures { OnOk result (Puts text.old text.new (piece.now ++ decimal number)) }
 {
     text.push_str(piece)?;
     put_number(text, number)
@@ -67,8 +64,7 @@ pub(crate) fn put_in_line(
     number: u32,
     end: &str,
 ) -> Result<(), AllocError>
-    ensures { OnOk result (string_bytes text.new ≡ string_bytes text.old
-        ++ (first.now ++ (second.now ++ (decimal number ++ end.now)))) }
+    ensures { OnOk result (Puts text.old text.new (first.now ++ (second.now ++ (decimal number ++ end.now)))) }
 {
     put_two(text, first, second)?;
     put_number(text, number)?;

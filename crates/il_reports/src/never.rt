@@ -1,6 +1,7 @@
 // What a name is never.
 
-ghost use Rattle.std.specs.Prelude.{◌≡◌, ◌++◌, OnOk, string_bytes};
+ghost use Rattle.std.specs.Prelude.{◌≡◌, OnOk};
+ghost use Rattle.texts.specs.Puts.{Puts};
 ghost use Rattle.il_reports.specs.Warnings.{called_never, variable_never, output_never, never_of, never_line, never_text};
 
 use std::alloc::AllocError;
@@ -86,8 +87,7 @@ pub fn put_never(
     name: &str,
     never: Option<Never>,
 ) -> Result<(), AllocError>
-    ensures { OnOk result (string_bytes text.new ≡ string_bytes text.old
-        ++ never_text line name.now never) }
+    ensures { OnOk result (Puts text.old text.new (never_text line name.now never)) }
 {
     match never {
         Some(never) => put_never_line(text, line, name, never),
@@ -97,8 +97,7 @@ pub fn put_never(
 
 #[tactic(auto, unfolding(crate::specs::Warnings::never_line))]
 fn put_never_line(text: &mut String, line: u32, name: &str, never: Never) -> Result<(), AllocError>
-    ensures { OnOk result (string_bytes text.new ≡ string_bytes text.old
-        ++ never_line line name.now never) }
+    ensures { OnOk result (Puts text.old text.new (never_line line name.now never)) }
 {
     write!(text, "line {}: {} is never ", line, name)?;
     match never {

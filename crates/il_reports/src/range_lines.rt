@@ -1,6 +1,7 @@
 // The lines of a unit.
 
-ghost use Rattle.std.specs.Prelude.{◌≡◌, ◌++◌, [], OnOk, string_bytes};
+ghost use Rattle.std.specs.Prelude.{◌≡◌, [], OnOk, string_bytes};
+ghost use Rattle.texts.specs.Puts.{Puts};
 ghost use Rattle.il_reports.specs.RangeLines.{reached_text, not_reached_text, refused_text, kind_word, heading_text};
 
 use crate::range_values::{put_result, put_variables};
@@ -46,8 +47,7 @@ impl Witness for Lines {
 
 // `line L: result R`, and the variables that the instruction names.
 fn put_reached(text: &mut String, step: &Step, known: &PlaceFacts) -> Result<(), AllocError>
-    ensures { OnOk result (string_bytes text.new ≡ string_bytes text.old
-        ++ reached_text step.now known.now) }
+    ensures { OnOk result (Puts text.old text.new (reached_text step.now known.now)) }
 {
     write!(text, "line {}: result ", step.place.line)?;
     put_result(text, known.result())?;
@@ -57,16 +57,14 @@ fn put_reached(text: &mut String, step: &Step, known: &PlaceFacts) -> Result<(),
 
 // `line L: not reached`
 fn put_not_reached(text: &mut String, step: &Step) -> Result<(), AllocError>
-    ensures { OnOk result (string_bytes text.new ≡ string_bytes text.old
-        ++ not_reached_text step.now) }
+    ensures { OnOk result (Puts text.old text.new (not_reached_text step.now)) }
 {
     writeln!(text, "line {}: not reached", step.place.line)
 }
 
 /// `line L: refused 43`, where the unit is refused.
 pub fn put_refused(text: &mut String, found: &Option<Found<RangeFault>>) -> Result<(), AllocError>
-    ensures { OnOk result (string_bytes text.new ≡ string_bytes text.old
-        ++ refused_text found.now) }
+    ensures { OnOk result (Puts text.old text.new (refused_text found.now)) }
 {
     match found {
         Some(found) => {
@@ -90,7 +88,7 @@ fn kind_word(kind: UnitKind) -> &'static str
 
 /// `PROGRAM COUNTS line 1`
 pub fn put_heading(text: &mut String, unit: &Unit) -> Result<(), AllocError>
-    ensures { OnOk result (string_bytes text.new ≡ string_bytes text.old ++ heading_text unit.now) }
+    ensures { OnOk result (Puts text.old text.new (heading_text unit.now)) }
 {
     text.push_str(kind_word(unit.kind))?;
     text.push_str(" ")?;

@@ -1,6 +1,7 @@
 // Values and variables, as they are written.
 
-ghost use Rattle.std.specs.Prelude.{◌≡◌, ◌++◌, OnOk, string_bytes};
+ghost use Rattle.std.specs.Prelude.{◌≡◌, ◌++◌, OnOk};
+ghost use Rattle.texts.specs.Puts.{Puts};
 ghost use Rattle.il_reports.specs.RangeLines.{type_word, range_text, result_text, variable_text, index_text, reference_text, first_text, argument_text, operands_text, arguments_text, variables_text};
 
 use il_interval::Interval;
@@ -28,15 +29,14 @@ fn type_word(elementary: Elementary) -> &'static str
 // ` LO..HI`
 #[tactic(auto, unfolding(crate::specs::RangeLines::range_text))]
 fn put_range(text: &mut String, range: Interval) -> Result<(), AllocError>
-    ensures { OnOk result (string_bytes text.new ≡ string_bytes text.old ++ range_text range) }
+    ensures { OnOk result (Puts text.old text.new (range_text range)) }
 {
     write!(text, " {}..{}", range.lo, range.hi)
 }
 
 // A type and its range.
 fn put_ranged(text: &mut String, elementary: Elementary, range: Interval) -> Result<(), AllocError>
-    ensures { OnOk result (string_bytes text.new ≡ string_bytes text.old
-        ++ (type_word elementary ++ range_text range)) }
+    ensures { OnOk result (Puts text.old text.new (type_word elementary ++ range_text range)) }
 {
     text.push_str(type_word(elementary))?;
     put_range(text, range)
@@ -44,7 +44,7 @@ fn put_ranged(text: &mut String, elementary: Elementary, range: Interval) -> Res
 
 /// `none`, `BOOL`, or a type and its range.
 pub fn put_result(text: &mut String, found: Option<Known>) -> Result<(), AllocError>
-    ensures { OnOk result (string_bytes text.new ≡ string_bytes text.old ++ result_text found) }
+    ensures { OnOk result (Puts text.old text.new (result_text found)) }
 {
     match found {
         None => text.push_str("none"),
@@ -55,8 +55,7 @@ pub fn put_result(text: &mut String, found: Option<Known>) -> Result<(), AllocEr
 
 // `, NAME LO..HI`, where the variable has a range.
 fn put_variable(text: &mut String, known: &PlaceFacts, name: &str) -> Result<(), AllocError>
-    ensures { OnOk result (string_bytes text.new ≡ string_bytes text.old
-        ++ variable_text known.now name.now) }
+    ensures { OnOk result (Puts text.old text.new (variable_text known.now name.now)) }
 {
     match known.range(name) {
         Some(range) => {
@@ -70,8 +69,7 @@ fn put_variable(text: &mut String, known: &PlaceFacts, name: &str) -> Result<(),
 
 // The variable of an index.
 fn put_index(text: &mut String, known: &PlaceFacts, index: &Index) -> Result<(), AllocError>
-    ensures { OnOk result (string_bytes text.new ≡ string_bytes text.old
-        ++ index_text known.now index.now) }
+    ensures { OnOk result (Puts text.old text.new (index_text known.now index.now)) }
 {
     match index {
         Index::Number(_) => Ok(()),
@@ -85,8 +83,7 @@ fn put_reference(
     known: &PlaceFacts,
     reference: &Reference,
 ) -> Result<(), AllocError>
-    ensures { OnOk result (string_bytes text.new ≡ string_bytes text.old
-        ++ reference_text known.now reference.now) }
+    ensures { OnOk result (Puts text.old text.new (reference_text known.now reference.now)) }
 {
     match reference {
         Reference::Literal(_) => Ok(()),
@@ -102,8 +99,7 @@ fn put_first(
     known: &PlaceFacts,
     first: &Option<Operand>,
 ) -> Result<(), AllocError>
-    ensures { OnOk result (string_bytes text.new ≡ string_bytes text.old
-        ++ first_text known.now first.now) }
+    ensures { OnOk result (Puts text.old text.new (first_text known.now first.now)) }
 {
     match first {
         Some(operand) => put_reference(text, known, &operand.reference),
@@ -117,8 +113,7 @@ fn put_argument(
     known: &PlaceFacts,
     argument: &Argument,
 ) -> Result<(), AllocError>
-    ensures { OnOk result (string_bytes text.new ≡ string_bytes text.old
-        ++ argument_text known.now argument.now) }
+    ensures { OnOk result (Puts text.old text.new (argument_text known.now argument.now)) }
 {
     match argument {
         Argument::Input { operand, .. } => put_reference(text, known, &operand.reference),
@@ -132,8 +127,7 @@ fn put_operands(
     known: &PlaceFacts,
     operands: &[Operand],
 ) -> Result<(), AllocError>
-    ensures { OnOk result (string_bytes text.new ≡ string_bytes text.old
-        ++ operands_text known.now operands.now) }
+    ensures { OnOk result (Puts text.old text.new (operands_text known.now operands.now)) }
 {
     'operands: for operand in operands {
         put_reference(text, known, &operand.reference)?;
@@ -147,8 +141,7 @@ fn put_arguments(
     known: &PlaceFacts,
     arguments: &[Argument],
 ) -> Result<(), AllocError>
-    ensures { OnOk result (string_bytes text.new ≡ string_bytes text.old
-        ++ arguments_text known.now arguments.now) }
+    ensures { OnOk result (Puts text.old text.new (arguments_text known.now arguments.now)) }
 {
     'arguments: for argument in arguments {
         put_argument(text, known, argument)?;
@@ -162,8 +155,7 @@ pub fn put_variables(
     known: &PlaceFacts,
     instruction: &Instruction,
 ) -> Result<(), AllocError>
-    ensures { OnOk result (string_bytes text.new ≡ string_bytes text.old
-        ++ variables_text known.now instruction.now) }
+    ensures { OnOk result (Puts text.old text.new (variables_text known.now instruction.now)) }
 {
     match instruction {
         Instruction::Load { operand, .. } => put_reference(text, known, &operand.reference),

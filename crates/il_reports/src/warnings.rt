@@ -1,6 +1,7 @@
 // The warnings of a configuration.
 
-ghost use Rattle.std.specs.Prelude.{◌≡◌, ◌++◌, flat_map, IfOk, OnOk, string_bytes};
+ghost use Rattle.std.specs.Prelude.{◌≡◌, flat_map, IfOk, OnOk, string_bytes};
+ghost use Rattle.texts.specs.Puts.{Puts};
 ghost use Rattle.il_reports.specs.Names.{declared_names, name_shown};
 ghost use Rattle.il_reports.specs.Warnings.{name_never, names_text, outputs_text, unstored_text, unstored_line, unit_text, global_never, global_text, are_alike, task_line, task_text, tasks_text, warnings_text};
 
@@ -33,16 +34,14 @@ pub fn warnings_text(alloc: Global, config: &Config) -> Result<String, AllocErro
 }
 
 fn put_units(alloc: Global, text: &mut String, config: &Config) -> Result<(), AllocError>
-    ensures { OnOk result (string_bytes text.new ≡ string_bytes text.old
-        ++ flat_map (unit_text config.now) config.now.units) }
+    ensures { OnOk result (Puts text.old text.new (flat_map (unit_text config.now) config.now.units)) }
 {
     let needed = Needed::of(alloc, config)?;
     put_each_unit(alloc, text, &needed)
 }
 
 fn put_each_unit(alloc: Global, text: &mut String, needed: &Needed<'_>) -> Result<(), AllocError>
-    ensures { OnOk result (string_bytes text.new ≡ string_bytes text.old
-        ++ flat_map (unit_text needed.now.config.now) needed.now.config.now.units) }
+    ensures { OnOk result (Puts text.old text.new (flat_map (unit_text needed.now.config.now) needed.now.config.now.units)) }
 {
     let units = needed.config.units.as_slice();
     'units: for unit in units {
@@ -57,8 +56,7 @@ fn put_unit(
     needed: &Needed<'_>,
     unit: &Unit,
 ) -> Result<(), AllocError>
-    ensures { OnOk result (string_bytes text.new ≡ string_bytes text.old
-        ++ unit_text needed.now.config.now unit.now) }
+    ensures { OnOk result (Puts text.old text.new (unit_text needed.now.config.now unit.now)) }
 {
     let uses = UnitUses::of(alloc, unit)?;
     put_unit_uses(text, needed, &uses)
@@ -69,8 +67,7 @@ fn put_unit_uses(
     needed: &Needed<'_>,
     uses: &UnitUses<'_>,
 ) -> Result<(), AllocError>
-    ensures { OnOk result (string_bytes text.new ≡ string_bytes text.old
-        ++ unit_text needed.now.config.now uses.now.unit.now) }
+    ensures { OnOk result (Puts text.old text.new (unit_text needed.now.config.now uses.now.unit.now)) }
 {
     let unit = uses.unit;
     let name = unit.name.name.as_str();
@@ -90,8 +87,7 @@ fn put_names(
     uses: &UnitUses<'_>,
     declarations: &[Declaration],
 ) -> Result<(), AllocError>
-    ensures { OnOk result (string_bytes text.new ≡ string_bytes text.old
-        ++ names_text origin uses.now.unit.now.body.steps declarations.now) }
+    ensures { OnOk result (Puts text.old text.new (names_text origin uses.now.unit.now.body.steps declarations.now)) }
 {
     'names: for name in declared_names(declarations) {
         let never = name_never(origin, uses, &name);
@@ -114,8 +110,7 @@ fn name_never(origin: Origin, uses: &UnitUses<'_>, name: &Declared<'_>) -> Optio
 
 // What the program of a car does not store.
 fn put_outputs(text: &mut String, config: &Config, uses: &UnitUses<'_>) -> Result<(), AllocError>
-    ensures { OnOk result (string_bytes text.new ≡ string_bytes text.old
-        ++ outputs_text config.now uses.now.unit.now) }
+    ensures { OnOk result (Puts text.old text.new (outputs_text config.now uses.now.unit.now)) }
 {
     let unit = uses.unit;
     let programs = config.programs.as_slice();
@@ -127,8 +122,7 @@ fn put_outputs(text: &mut String, config: &Config, uses: &UnitUses<'_>) -> Resul
 }
 
 fn put_unstored(text: &mut String, uses: &UnitUses<'_>, name: &str) -> Result<(), AllocError>
-    ensures { OnOk result (string_bytes text.new ≡ string_bytes text.old
-        ++ unstored_text uses.now.unit.now name.now) }
+    ensures { OnOk result (Puts text.old text.new (unstored_text uses.now.unit.now name.now)) }
 {
     if uses.is_used(Manner::Written, name) {
         return Ok(());
@@ -138,8 +132,7 @@ fn put_unstored(text: &mut String, uses: &UnitUses<'_>, name: &str) -> Result<()
 
 #[tactic(auto, unfolding(crate::specs::Warnings::unstored_line))]
 fn put_unstored_line(text: &mut String, unit: &Unit, name: &str) -> Result<(), AllocError>
-    ensures { OnOk result (string_bytes text.new ≡ string_bytes text.old
-        ++ unstored_line unit.now name.now) }
+    ensures { OnOk result (Puts text.old text.new (unstored_line unit.now name.now)) }
 {
     write!(text, "line {}: ", unit.place.line)?;
     writeln!(text, "{} never stores {}", unit.name.name.as_str(), name)
@@ -151,8 +144,7 @@ fn put_globals(
     units: &[Unit],
     globals: &[Declaration],
 ) -> Result<(), AllocError>
-    ensures { OnOk result (string_bytes text.new ≡ string_bytes text.old
-        ++ flat_map (global_text units.now) (declared_names globals.now)) }
+    ensures { OnOk result (Puts text.old text.new (flat_map (global_text units.now) (declared_names globals.now))) }
 {
     if globals.is_empty() {
         return Ok(());
@@ -166,8 +158,7 @@ fn put_each_global(
     uses: &GlobalUses<'_>,
     globals: &[Declaration],
 ) -> Result<(), AllocError>
-    ensures { OnOk result (string_bytes text.new ≡ string_bytes text.old
-        ++ flat_map (global_text uses.now.units.now) (declared_names globals.now)) }
+    ensures { OnOk result (Puts text.old text.new (flat_map (global_text uses.now.units.now) (declared_names globals.now))) }
 {
     'names: for name in declared_names(globals) {
         let never = global_never(uses, &name);
@@ -186,7 +177,7 @@ fn global_never(uses: &GlobalUses<'_>, name: &Declared<'_>) -> Option<Never>
 }
 
 fn put_tasks(text: &mut String, tasks: &[Task]) -> Result<(), AllocError>
-    ensures { OnOk result (string_bytes text.new ≡ string_bytes text.old ++ tasks_text tasks.now) }
+    ensures { OnOk result (Puts text.old text.new (tasks_text tasks.now)) }
 {
     match tasks.first() {
         Some(first) => put_unlike(text, first, tasks),
@@ -196,8 +187,7 @@ fn put_tasks(text: &mut String, tasks: &[Task]) -> Result<(), AllocError>
 
 // The tasks that are unlike the first.
 fn put_unlike(text: &mut String, first: &Task, tasks: &[Task]) -> Result<(), AllocError>
-    ensures { OnOk result (string_bytes text.new ≡ string_bytes text.old
-        ++ flat_map (task_text first.now) tasks.now) }
+    ensures { OnOk result (Puts text.old text.new (flat_map (task_text first.now) tasks.now)) }
 {
     'tasks: for task in tasks {
         if !are_alike(first, task) {
@@ -215,7 +205,7 @@ fn are_alike(task: &Task, other: &Task) -> bool
 }
 
 fn put_task(text: &mut String, task: &Task) -> Result<(), AllocError>
-    ensures { OnOk result (string_bytes text.new ≡ string_bytes text.old ++ task_line task.now) }
+    ensures { OnOk result (Puts text.old text.new (task_line task.now)) }
 {
     write!(text, "line {}: INTERVAL and PRIORITY of ", task.place.line)?;
     writeln!(

@@ -1,6 +1,7 @@
 // The cross reference of a configuration.
 
 ghost use Rattle.std.specs.Prelude.{◌≡◌, ◌++◌, ◌||◌, true, flat_map, IfOk, OnOk, string_bytes};
+ghost use Rattle.texts.specs.Puts.{Puts};
 ghost use Rattle.il_reports.specs.Names.{declared_names, name_shown};
 ghost use Rattle.il_reports.specs.Xref.{is_there, mark, behind, parts_text, manner_word, used_part, used_parts, use_lines, declared_line, declared_lines, other_line, other_lines, kind_word, heading, unit_text, global_places, global_line, globals_text, program_line, programs_text, xref_text};
 
@@ -26,8 +27,7 @@ pub fn xref_text(alloc: Global, config: &Config) -> Result<String, AllocError>
 }
 
 fn put_units(alloc: Global, text: &mut String, units: &[Unit]) -> Result<(), AllocError>
-    ensures { OnOk result (string_bytes text.new ≡ string_bytes text.old
-        ++ flat_map unit_text units.now) }
+    ensures { OnOk result (Puts text.old text.new (flat_map unit_text units.now)) }
 {
     'units: for unit in units {
         put_unit(alloc, text, unit)?;
@@ -36,15 +36,14 @@ fn put_units(alloc: Global, text: &mut String, units: &[Unit]) -> Result<(), All
 }
 
 fn put_unit(alloc: Global, text: &mut String, unit: &Unit) -> Result<(), AllocError>
-    ensures { OnOk result (string_bytes text.new ≡ string_bytes text.old ++ unit_text unit.now) }
+    ensures { OnOk result (Puts text.old text.new (unit_text unit.now)) }
 {
     let uses = UnitUses::of(alloc, unit)?;
     put_unit_uses(alloc, text, &uses)
 }
 
 fn put_unit_uses(alloc: Global, text: &mut String, uses: &UnitUses<'_>) -> Result<(), AllocError>
-    ensures { OnOk result (string_bytes text.new ≡ string_bytes text.old
-        ++ unit_text uses.now.unit.now) }
+    ensures { OnOk result (Puts text.old text.new (unit_text uses.now.unit.now)) }
 {
     let unit = uses.unit;
     put_heading(text, unit)?;
@@ -57,7 +56,7 @@ fn put_unit_uses(alloc: Global, text: &mut String, uses: &UnitUses<'_>) -> Resul
 
 #[tactic(auto, unfolding(crate::specs::Xref::heading))]
 fn put_heading(text: &mut String, unit: &Unit) -> Result<(), AllocError>
-    ensures { OnOk result (string_bytes text.new ≡ string_bytes text.old ++ heading unit.now) }
+    ensures { OnOk result (Puts text.old text.new (heading unit.now)) }
 {
     put_kind(text, unit.kind)?;
     writeln!(
@@ -69,7 +68,7 @@ fn put_heading(text: &mut String, unit: &Unit) -> Result<(), AllocError>
 }
 
 fn put_kind(text: &mut String, kind: UnitKind) -> Result<(), AllocError>
-    ensures { OnOk result (string_bytes text.new ≡ string_bytes text.old ++ kind_word kind) }
+    ensures { OnOk result (Puts text.old text.new (kind_word kind)) }
 {
     match kind {
         UnitKind::Function(_, _) => text.push_str("FUNCTION"),
@@ -84,8 +83,7 @@ fn put_declared(
     uses: &UnitUses<'_>,
     declarations: &[Declaration],
 ) -> Result<(), AllocError>
-    ensures { OnOk result (string_bytes text.new ≡ string_bytes text.old
-        ++ declared_lines uses.now.unit.now.body.steps declarations.now) }
+    ensures { OnOk result (Puts text.old text.new (declared_lines uses.now.unit.now.body.steps declarations.now)) }
 {
     'names: for name in declared_names(declarations) {
         put_declared_line(text, uses, &name)?;
@@ -99,8 +97,7 @@ fn put_declared_line(
     uses: &UnitUses<'_>,
     name: &Declared<'_>,
 ) -> Result<(), AllocError>
-    ensures { OnOk result (string_bytes text.new ≡ string_bytes text.old
-        ++ declared_line uses.now.unit.now.body.steps (name_shown name.now)) }
+    ensures { OnOk result (Puts text.old text.new (declared_line uses.now.unit.now.body.steps (name_shown name.now))) }
 {
     write!(text, "  {}: declared {}", name.name, name.line)?;
     put_uses(text, uses, name.name, true)?;
@@ -109,8 +106,7 @@ fn put_declared_line(
 
 // The names that a unit uses and does not declare, each at its first use.
 fn put_others(alloc: Global, text: &mut String, unit: &UnitUses<'_>) -> Result<(), AllocError>
-    ensures { OnOk result (string_bytes text.new ≡ string_bytes text.old
-        ++ other_lines unit.now.unit.now) }
+    ensures { OnOk result (Puts text.old text.new (other_lines unit.now.unit.now)) }
 {
     let mut seen = name_table(alloc, unit.unit)?;
     'uses: for used in uses(unit.unit.body.steps.as_slice()) {
@@ -124,8 +120,7 @@ fn put_others(alloc: Global, text: &mut String, unit: &UnitUses<'_>) -> Result<(
 
 #[tactic(auto, unfolding(crate::specs::Xref::other_line))]
 fn put_other_line(text: &mut String, uses: &UnitUses<'_>, name: &str) -> Result<(), AllocError>
-    ensures { OnOk result (string_bytes text.new ≡ string_bytes text.old
-        ++ other_line uses.now.unit.now.body.steps name.now) }
+    ensures { OnOk result (Puts text.old text.new (other_line uses.now.unit.now.body.steps name.now)) }
 {
     write!(text, "  {}", name)?;
     put_uses(text, uses, name, false)?;
@@ -139,8 +134,7 @@ fn put_uses(
     name: &str,
     begun: bool,
 ) -> Result<(), AllocError>
-    ensures { OnOk result (string_bytes text.new ≡ string_bytes text.old
-        ++ parts_text begun (used_parts (use_lines uses.now.unit.now.body.steps name.now))) }
+    ensures { OnOk result (Puts text.old text.new (parts_text begun (used_parts (use_lines uses.now.unit.now.body.steps name.now)))) }
 {
     let begun = put_used(text, Manner::Read, uses.lines(Manner::Read, name), begun)?;
     let begun = put_used(
@@ -165,8 +159,7 @@ fn put_used(
     places: &str,
     begun: bool,
 ) -> Result<bool, AllocError>
-    ensures text { OnOk result (string_bytes text.new ≡ string_bytes text.old
-        ++ behind (mark begun) (used_part manner places.now)) }
+    ensures text { OnOk result (Puts text.old text.new (behind (mark begun) (used_part manner places.now))) }
     ensures begun { IfOk result (λ b. b ≡ (begun || is_there (used_part manner places.now))) }
 {
     if places.is_empty() {
@@ -179,8 +172,7 @@ fn put_used(
 
 // The word of a manner, behind its mark.
 fn put_word(text: &mut String, manner: Manner, begun: bool) -> Result<(), AllocError>
-    ensures { OnOk result (string_bytes text.new ≡ string_bytes text.old
-        ++ (mark begun ++ manner_word manner)) }
+    ensures { OnOk result (Puts text.old text.new (mark begun ++ manner_word manner)) }
 {
     text.push_str(if begun { "," } else { ":" })?;
     match manner {
@@ -196,8 +188,7 @@ fn put_globals(
     units: &[Unit],
     globals: &[Declaration],
 ) -> Result<(), AllocError>
-    ensures { OnOk result (string_bytes text.new ≡ string_bytes text.old
-        ++ globals_text units.now globals.now) }
+    ensures { OnOk result (Puts text.old text.new (globals_text units.now globals.now)) }
 {
     if globals.is_empty() {
         return Ok(());
@@ -212,8 +203,7 @@ fn put_global_parts(
     units: &[Unit],
     globals: &[Declaration],
 ) -> Result<(), AllocError>
-    ensures { OnOk result (string_bytes text.new ≡ string_bytes text.old
-        ++ flat_map (global_line units.now) (declared_names globals.now)) }
+    ensures { OnOk result (Puts text.old text.new (flat_map (global_line units.now) (declared_names globals.now))) }
 {
     let uses = GlobalUses::of(alloc, units)?;
     put_global_lines(text, &uses, globals)
@@ -224,8 +214,7 @@ fn put_global_lines(
     uses: &GlobalUses<'_>,
     globals: &[Declaration],
 ) -> Result<(), AllocError>
-    ensures { OnOk result (string_bytes text.new ≡ string_bytes text.old
-        ++ flat_map (global_line uses.now.units.now) (declared_names globals.now)) }
+    ensures { OnOk result (Puts text.old text.new (flat_map (global_line uses.now.units.now) (declared_names globals.now))) }
 {
     'names: for name in declared_names(globals) {
         put_global_line(text, uses, &name)?;
@@ -239,8 +228,7 @@ fn put_global_line(
     uses: &GlobalUses<'_>,
     name: &Declared<'_>,
 ) -> Result<(), AllocError>
-    ensures { OnOk result (string_bytes text.new ≡ string_bytes text.old
-        ++ global_line uses.now.units.now (name_shown name.now)) }
+    ensures { OnOk result (Puts text.old text.new (global_line uses.now.units.now (name_shown name.now))) }
 {
     write!(text, "  {}: declared {}", name.name, name.line)?;
     put_global_uses(text, uses, name.name)?;
@@ -249,8 +237,7 @@ fn put_global_line(
 
 // Where units use a global, in each manner, behind the line where it is declared.
 fn put_global_uses(text: &mut String, uses: &GlobalUses<'_>, name: &str) -> Result<(), AllocError>
-    ensures { OnOk result (string_bytes text.new ≡ string_bytes text.old
-        ++ parts_text true (used_parts (global_places uses.now.units.now name.now))) }
+    ensures { OnOk result (Puts text.old text.new (parts_text true (used_parts (global_places uses.now.units.now name.now)))) }
 {
     let begun = put_used(text, Manner::Read, uses.places(Manner::Read, name), true)?;
     let begun = put_used(
@@ -269,8 +256,7 @@ fn put_global_uses(text: &mut String, uses: &GlobalUses<'_>, name: &str) -> Resu
 }
 
 fn put_programs(text: &mut String, programs: &[ProgramLine]) -> Result<(), AllocError>
-    ensures { OnOk result (string_bytes text.new ≡ string_bytes text.old
-        ++ programs_text programs.now) }
+    ensures { OnOk result (Puts text.old text.new (programs_text programs.now)) }
 {
     if programs.is_empty() {
         return Ok(());
@@ -280,8 +266,7 @@ fn put_programs(text: &mut String, programs: &[ProgramLine]) -> Result<(), Alloc
 }
 
 fn put_program_lines(text: &mut String, programs: &[ProgramLine]) -> Result<(), AllocError>
-    ensures { OnOk result (string_bytes text.new ≡ string_bytes text.old
-        ++ flat_map program_line programs.now) }
+    ensures { OnOk result (Puts text.old text.new (flat_map program_line programs.now)) }
 {
     'lines: for line in programs {
         put_program_line(text, line)?;
@@ -291,7 +276,7 @@ fn put_program_lines(text: &mut String, programs: &[ProgramLine]) -> Result<(), 
 
 #[tactic(auto, unfolding(crate::specs::Xref::program_line))]
 fn put_program_line(text: &mut String, line: &ProgramLine) -> Result<(), AllocError>
-    ensures { OnOk result (string_bytes text.new ≡ string_bytes text.old ++ program_line line.now) }
+    ensures { OnOk result (Puts text.old text.new (program_line line.now)) }
 {
     write!(
         text,

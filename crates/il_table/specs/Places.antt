@@ -1,18 +1,22 @@
 -- Short names in a table: by number, each with a place (own rules).
-use Rattle.std.specs.Prelude.{◌≡◌, ℕ, ◌+◌, ◌*◌, ◌/◌, ◌%◌, ◌^◌, true, cond, List, [], ◌∷◌, Option, Some, nat_eq}
+use Rattle.std.specs.Prelude.{◌≡◌, ℕ, ◌+◌, ◌*◌, ◌/◌, ◌%◌, ◌^◌, true, cond, List, [], ◌∷◌, ◌++◌, Option, Some, nat_eq}
 use Rattle.std.proofs.Common.{ap}
 use Rattle.std.specs.Cmp.{unsigned_Decides}
 use Rattle.std.specs.Hash as fed
 use Rattle.std.specs.Ordering.{nat_cmp, is_eq}
 use Rattle.std.specs.Map.{lookup}
 
--- the place of a number: the upper eight bits of the product of its two halves' sum with an odd number
-unfoldable pub place : ℕ → ℕ
-place n = (((n % 2 ^ 64 + n / 2 ^ 64) % 2 ^ 64 * 0x9e37_79b9_7f4a_7c15) % 2 ^ 64) / 2 ^ 56
+-- a number, spread over sixteen bits: the upper ones of the product of its two halves' sum with an odd number
+unfoldable pub spread : ℕ → ℕ
+spread n = (((n % 2 ^ 64 + n / 2 ^ 64) % 2 ^ 64 * 0x9e37_79b9_7f4a_7c15) % 2 ^ 64) / 2 ^ 48
+
+-- two bytes, each written alone
+abbrev pub fed_bytes : ℕ → fed.HashWrites
+fed_bytes k = fed.u8 (k / 256) ++ fed.u8 (k % 256)
 
 -- equal numbers are hashed alike
-pub fed_alike : (x y : ℕ) → nat_eq x y ≡ true → fed.u8 (place x) ≡ fed.u8 (place y)
-fed_alike x y h = ap (λ n. fed.u8 (place n)) ((unsigned_Decides x y).0 h)
+pub fed_alike : (x y : ℕ) → nat_eq x y ≡ true → fed_bytes (spread x) ≡ fed_bytes (spread y)
+fed_alike x y h = ap (λ n. fed_bytes (spread n)) ((unsigned_Decides x y).0 h)
 
 -- the entry of a number
 abbrev pub find : {X : Type 0} → ℕ → List (ℕ × X) → Option X

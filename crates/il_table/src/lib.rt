@@ -80,7 +80,7 @@ fn put_short<X: Copy>(
     ensures err { OnErr result ((short.new.entries ≡ short.old.entries) × (crowded.new.entries ≡ crowded.old.entries)) }
 {
     let name = Short { number };
-    if places::is_full(taken.as_slice(), number) && !short.contains_key(&name) {
+    if places::is_full(taken.as_slice(), short.len(), number) && !short.contains_key(&name) {
         crowded.insert(number, entry)?;
         return Ok(());
     }

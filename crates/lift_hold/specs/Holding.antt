@@ -6,8 +6,8 @@ use Rattle.std_alloc.specs.Box.Ownership.{box_owns}
 use Rattle.std.specs.declared.alloc.Global.{Global}
 use Rattle.std.specs.contracts.impls.GlobalAllocator.TheImpl.{ghosts}
 use Rattle.lift_world.specs.Worlds.{WorldOf}
-use Rattle.lift_round.specs.declared.kept.Rounds.{Rounds}
-use Rattle.lift_round.specs.contracts.kept.Rounds.{the_row}
+use Rattle.lift_runs.specs.declared.kept.Rounds.{Rounds}
+use Rattle.lift_runs.specs.contracts.kept.Rounds.{the_row}
 
 -- the rounds of a world
 abbrev pub RoundsOf : WorldOf → Type 0

@@ -5,7 +5,7 @@ ghost use Rattle.std.specs.Coded.{coded_option};
 ghost use Rattle.lift_world.specs.Worlds.{WorldOf, world_of_code};
 
 use crate::unboxed::Unboxed;
-use lift_round::kept::Rounds;
+use lift_runs::kept::Rounds;
 use std::alloc::Global;
 use std::marker::Model;
 

@@ -1,6 +1,7 @@
 // What `calls` prints of each call.
 
-ghost use Rattle.std.specs.Prelude.{◌≡◌, ◌++◌, OnOk, IfOk, flat_map, string_bytes};
+ghost use Rattle.std.specs.Prelude.{◌≡◌, OnOk, IfOk, flat_map, string_bytes};
+ghost use Rattle.texts.specs.Puts.{Puts};
 ghost use Rattle.lift_journeys.specs.Lines.{number_text, truth_text, beginning_text, told_text, boarded_text, served_text, journey_text, lines_text};
 
 use crate::journey::{Journey, Moment, Served, Told};
@@ -19,8 +20,7 @@ pub fn lines_text(alloc: Global, journeys: &[Journey]) -> Result<String, AllocEr
 }
 
 fn put_journeys(text: &mut String, journeys: &[Journey]) -> Result<(), AllocError>
-    ensures { OnOk result (string_bytes text.new ≡ string_bytes text.old
-        ++ flat_map journey_text journeys.now) }
+    ensures { OnOk result (Puts text.old text.new (flat_map journey_text journeys.now)) }
 {
     'journeys: for journey in journeys {
         put_journey(text, *journey)?;
@@ -29,7 +29,7 @@ fn put_journeys(text: &mut String, journeys: &[Journey]) -> Result<(), AllocErro
 }
 
 fn put_journey(text: &mut String, journey: Journey) -> Result<(), AllocError>
-    ensures { OnOk result (string_bytes text.new ≡ string_bytes text.old ++ journey_text journey) }
+    ensures { OnOk result (Puts text.old text.new (journey_text journey)) }
 {
     put_beginning(text, journey)?;
     put_told(text, journey.told)?;
@@ -41,8 +41,7 @@ fn put_journey(text: &mut String, journey: Journey) -> Result<(), AllocError>
 // The ticket, the floors, and the rounds of the press and of the entry.
 #[tactic(auto, unfolding(crate::specs::Lines::beginning_text))]
 fn put_beginning(text: &mut String, journey: Journey) -> Result<(), AllocError>
-    ensures { OnOk result (string_bytes text.new ≡ string_bytes text.old
-        ++ beginning_text journey) }
+    ensures { OnOk result (Puts text.old text.new (beginning_text journey)) }
 {
     let call = journey.call;
     write!(text, "{},{},{}", journey.ticket, call.from, call.to)?;
@@ -51,7 +50,7 @@ fn put_beginning(text: &mut String, journey: Journey) -> Result<(), AllocError>
 }
 
 fn put_number(text: &mut String, number: Option<u32>) -> Result<(), AllocError>
-    ensures { OnOk result (string_bytes text.new ≡ string_bytes text.old ++ number_text number) }
+    ensures { OnOk result (Puts text.old text.new (number_text number)) }
 {
     match number {
         Some(number) => write!(text, ",{}", number),
@@ -60,7 +59,7 @@ fn put_number(text: &mut String, number: Option<u32>) -> Result<(), AllocError>
 }
 
 fn put_truth(text: &mut String, truth: Option<bool>) -> Result<(), AllocError>
-    ensures { OnOk result (string_bytes text.new ≡ string_bytes text.old ++ truth_text truth) }
+    ensures { OnOk result (Puts text.old text.new (truth_text truth)) }
 {
     match truth {
         Some(true) => text.push_str(",TRUE"),
@@ -70,7 +69,7 @@ fn put_truth(text: &mut String, truth: Option<bool>) -> Result<(), AllocError>
 }
 
 fn put_told(text: &mut String, told: Option<Told>) -> Result<(), AllocError>
-    ensures { OnOk result (string_bytes text.new ≡ string_bytes text.old ++ told_text told) }
+    ensures { OnOk result (Puts text.old text.new (told_text told)) }
 {
     match told {
         Some(told) => write!(text, ",{},{}", told.round, told.car),
@@ -79,7 +78,7 @@ fn put_told(text: &mut String, told: Option<Told>) -> Result<(), AllocError>
 }
 
 fn put_boarded(text: &mut String, boarded: Option<Moment>) -> Result<(), AllocError>
-    ensures { OnOk result (string_bytes text.new ≡ string_bytes text.old ++ boarded_text boarded) }
+    ensures { OnOk result (Puts text.old text.new (boarded_text boarded)) }
 {
     match boarded {
         Some(at) => put_number(text, Some(at.round)),
@@ -88,7 +87,7 @@ fn put_boarded(text: &mut String, boarded: Option<Moment>) -> Result<(), AllocEr
 }
 
 fn put_served(text: &mut String, served: Option<Served>) -> Result<(), AllocError>
-    ensures { OnOk result (string_bytes text.new ≡ string_bytes text.old ++ served_text served) }
+    ensures { OnOk result (Puts text.old text.new (served_text served)) }
 {
     match served {
         Some(served) => {

@@ -2,6 +2,7 @@
 
 ghost use Rattle.std.specs.Prelude.{◌≡◌, ◌++◌, ◌<◌, ◌≤◌, ◌*◌, ◌/◌, ℕ, OnOk, IfOk, count_by, length, sum, string_bytes, slice_index, IsPermutation, IsSorted, take, codes};
 ghost use Rattle.std.specs.Ordering.{nat_cmp};
+ghost use Rattle.texts.specs.Puts.{Puts};
 ghost use Rattle.lift_journeys.specs.Summaries.{is_told, is_boarded, is_served, ended_elsewhere, is_elsewhere, is_open, count_text, begun_text, ended_text, counts_text, time_between, waiting_time, journey_time, waiting_times, journey_times, AreOrdered, ranked, mean_of, seconds_text, middle_text, greatest_text, figures_text, IsTimesText, IsSummaryOf};
 
 use crate::journey::{Journey, Moment, Served};
@@ -22,8 +23,7 @@ pub fn summary_text(alloc: Global, pressed: u32, journeys: &[Journey]) -> Result
 }
 
 fn put_counts(text: &mut String, pressed: u32, journeys: &[Journey]) -> Result<(), AllocError>
-    ensures { OnOk result (string_bytes text.new ≡ string_bytes text.old
-        ++ counts_text pressed journeys.now) }
+    ensures { OnOk result (Puts text.old text.new (counts_text pressed journeys.now)) }
 {
     put_begun(text, pressed, journeys)?;
     put_ended(text, journeys)
@@ -31,8 +31,7 @@ fn put_counts(text: &mut String, pressed: u32, journeys: &[Journey]) -> Result<(
 
 #[tactic(auto, unfolding(crate::specs::Summaries::begun_text))]
 fn put_begun(text: &mut String, pressed: u32, journeys: &[Journey]) -> Result<(), AllocError>
-    ensures { OnOk result (string_bytes text.new ≡ string_bytes text.old
-        ++ begun_text pressed journeys.now) }
+    ensures { OnOk result (Puts text.old text.new (begun_text pressed journeys.now)) }
 {
     put_count(text, "pressed", pressed as usize)?;
     put_count(text, "entered", journeys.len())?;
@@ -42,8 +41,7 @@ fn put_begun(text: &mut String, pressed: u32, journeys: &[Journey]) -> Result<()
 
 #[tactic(auto, unfolding(crate::specs::Summaries::ended_text))]
 fn put_ended(text: &mut String, journeys: &[Journey]) -> Result<(), AllocError>
-    ensures { OnOk result (string_bytes text.new ≡ string_bytes text.old
-        ++ ended_text journeys.now) }
+    ensures { OnOk result (Puts text.old text.new (ended_text journeys.now)) }
 {
     put_count(text, "served", served(journeys))?;
     put_count(text, "served elsewhere", elsewhere(journeys))?;
@@ -53,8 +51,7 @@ fn put_ended(text: &mut String, journeys: &[Journey]) -> Result<(), AllocError>
 // A line of a name and a number.
 #[tactic(auto, unfolding(crate::specs::Summaries::count_text))]
 fn put_count(text: &mut String, name: &str, count: usize) -> Result<(), AllocError>
-    ensures { OnOk result (string_bytes text.new ≡ string_bytes text.old
-        ++ count_text name.now count) }
+    ensures { OnOk result (Puts text.old text.new (count_text name.now count)) }
 {
     writeln!(text, "{} {}", name, count)
 }
@@ -158,8 +155,7 @@ fn journey_times(alloc: Global, journeys: &[Journey]) -> Result<Vec<u32>, AllocE
 // A line of a name and the figures of times, which are left in order.
 fn put_times(text: &mut String, name: &str, times: &mut [u32]) -> Result<(), AllocError>
     ensures order { AreOrdered times.old times.new }
-    ensures text { OnOk result (string_bytes text.new ≡ string_bytes text.old
-        ++ (name.now ++ figures_text times.new)) }
+    ensures text { OnOk result (Puts text.old text.new (name.now ++ figures_text times.new)) }
 {
     times.sort_unstable();
     text.push_str(name)?;
@@ -167,8 +163,7 @@ fn put_times(text: &mut String, name: &str, times: &mut [u32]) -> Result<(), All
 }
 
 fn put_figures(text: &mut String, times: &[u32]) -> Result<(), AllocError>
-    ensures { OnOk result (string_bytes text.new ≡ string_bytes text.old
-        ++ figures_text times.now) }
+    ensures { OnOk result (Puts text.old text.new (figures_text times.now)) }
 {
     if times.is_empty() {
         text.push_str(" none\n")
@@ -179,8 +174,7 @@ fn put_figures(text: &mut String, times: &[u32]) -> Result<(), AllocError>
 
 fn put_some_figures(text: &mut String, times: &[u32]) -> Result<(), AllocError>
     requires { 0 < length times.now }
-    ensures { OnOk result (string_bytes text.new ≡ string_bytes text.old
-        ++ (middle_text times.now ++ greatest_text times.now)) }
+    ensures { OnOk result (Puts text.old text.new (middle_text times.now ++ greatest_text times.now)) }
 {
     put_middle(text, times)?;
     put_greatest(text, times)
@@ -189,7 +183,7 @@ fn put_some_figures(text: &mut String, times: &[u32]) -> Result<(), AllocError>
 #[tactic(auto, unfolding(crate::specs::Summaries::middle_text))]
 fn put_middle(text: &mut String, times: &[u32]) -> Result<(), AllocError>
     requires { 0 < length times.now }
-    ensures { OnOk result (string_bytes text.new ≡ string_bytes text.old ++ middle_text times.now) }
+    ensures { OnOk result (Puts text.old text.new (middle_text times.now)) }
 {
     put_figure(text, " mean ", mean_of(times))?;
     put_figure(text, " median ", ranked(50, times))
@@ -198,8 +192,7 @@ fn put_middle(text: &mut String, times: &[u32]) -> Result<(), AllocError>
 #[tactic(auto, unfolding(crate::specs::Summaries::greatest_text))]
 fn put_greatest(text: &mut String, times: &[u32]) -> Result<(), AllocError>
     requires { 0 < length times.now }
-    ensures { OnOk result (string_bytes text.new ≡ string_bytes text.old
-        ++ greatest_text times.now) }
+    ensures { OnOk result (Puts text.old text.new (greatest_text times.now)) }
 {
     put_figure(text, " p95 ", ranked(95, times))?;
     put_figure(text, " greatest ", ranked(100, times))?;
@@ -207,8 +200,7 @@ fn put_greatest(text: &mut String, times: &[u32]) -> Result<(), AllocError>
 }
 
 fn put_figure(text: &mut String, name: &str, time: u64) -> Result<(), AllocError>
-    ensures { OnOk result (string_bytes text.new ≡ string_bytes text.old
-        ++ (name.now ++ seconds_text time)) }
+    ensures { OnOk result (Puts text.old text.new (name.now ++ seconds_text time)) }
 {
     text.push_str(name)?;
     put_seconds(text, time)
@@ -217,7 +209,7 @@ fn put_figure(text: &mut String, name: &str, time: u64) -> Result<(), AllocError
 // Milliseconds as seconds with three decimals.
 #[tactic(auto, unfolding(crate::specs::Summaries::seconds_text))]
 fn put_seconds(text: &mut String, time: u64) -> Result<(), AllocError>
-    ensures { OnOk result (string_bytes text.new ≡ string_bytes text.old ++ seconds_text time) }
+    ensures { OnOk result (Puts text.old text.new (seconds_text time)) }
 {
     write!(text, "{}.{}", time / 1000, time / 100 % 10)?;
     write!(text, "{}{}", time / 10 % 10, time % 10)

@@ -1,6 +1,7 @@
 // Lines as JSON.
 
-ghost use Rattle.std.specs.Prelude.{◌≡◌, ◌++◌, IfOk, OnOk, string_bytes};
+ghost use Rattle.std.specs.Prelude.{◌≡◌, IfOk, OnOk, string_bytes};
+ghost use Rattle.texts.specs.Puts.{Puts};
 ghost use Rattle.lift_json.specs.Lines.{json_text, line_text, is_object, gap, words_text};
 ghost use Rattle.lift_json.specs.Pieces.{pieces};
 
@@ -25,8 +26,7 @@ pub fn json_lines(alloc: Global, form: Form, text: &str) -> Result<String, Alloc
 }
 
 fn put_line(json: &mut String, form: Form, line: &str) -> Result<(), AllocError>
-    ensures { OnOk result (string_bytes json.new ≡ string_bytes json.old
-        ++ line_text form line.now) }
+    ensures { OnOk result (Puts json.old json.new (line_text form line.now)) }
 {
     if !is_object(form, line) {
         return Ok(());
@@ -63,8 +63,7 @@ fn gap(form: Form) -> Cut
 }
 
 fn put_words(json: &mut String, first: State, gap: Cut, line: &str) -> Result<(), AllocError>
-    ensures { OnOk result (string_bytes json.new ≡ string_bytes json.old
-        ++ words_text first (pieces gap line.now)) }
+    ensures { OnOk result (Puts json.old json.new (words_text first (pieces gap line.now))) }
 {
     let mut here = first;
     let mut rest = Some(line);

@@ -1,6 +1,7 @@
 // What is written of a word.
 
-ghost use Rattle.std.specs.Prelude.{◌≡◌, ◌++◌, OnOk, string_bytes};
+ghost use Rattle.std.specs.Prelude.{◌≡◌, ◌++◌, OnOk};
+ghost use Rattle.texts.specs.Puts.{Puts};
 ghost use Rattle.lift_json.specs.Pieces.{front};
 ghost use Rattle.lift_json.specs.Lines.{quoted, key_text, value_text, pair_text, pair_end, limits_text, type_text, what_text, range_text, range_end, used_text, name_text, line_mark, unit_mark, line_or_unit, place_end, place_text, denial_text, denial_end, column_key, cell_text, word_text, end_text};
 
@@ -10,8 +11,7 @@ use std::alloc::AllocError;
 
 /// Writes a word.
 pub fn put_word(json: &mut String, here: State, word: &str) -> Result<(), AllocError>
-    ensures { OnOk result (string_bytes json.new ≡ string_bytes json.old
-        ++ word_text here word.now) }
+    ensures { OnOk result (Puts json.old json.new (word_text here word.now)) }
 {
     match here {
         State::Pairs(here) => put_pair(json, here, word),
@@ -25,7 +25,7 @@ pub fn put_word(json: &mut String, here: State, word: &str) -> Result<(), AllocE
 
 /// Ends what was begun.
 pub fn put_end(json: &mut String, here: State) -> Result<(), AllocError>
-    ensures { OnOk result (string_bytes json.new ≡ string_bytes json.old ++ end_text here) }
+    ensures { OnOk result (Puts json.old json.new (end_text here)) }
 {
     match here {
         State::Pairs(here) => json.push_str(pair_end(here)),
@@ -39,8 +39,7 @@ pub fn put_end(json: &mut String, here: State) -> Result<(), AllocError>
 
 // Writes a word in quotes behind a text.
 fn put_quoted(json: &mut String, text: &str, word: &str) -> Result<(), AllocError>
-    ensures { OnOk result (string_bytes json.new ≡ string_bytes json.old
-        ++ (text.now ++ quoted word.now)) }
+    ensures { OnOk result (Puts json.old json.new (text.now ++ quoted word.now)) }
 {
     json.push_str(text)?;
     json.push_str("\"")?;
@@ -50,8 +49,7 @@ fn put_quoted(json: &mut String, text: &str, word: &str) -> Result<(), AllocErro
 
 // Writes a word behind a text.
 fn put_behind(json: &mut String, text: &str, word: &str) -> Result<(), AllocError>
-    ensures { OnOk result (string_bytes json.new ≡ string_bytes json.old
-        ++ (text.now ++ word.now)) }
+    ensures { OnOk result (Puts json.old json.new (text.now ++ word.now)) }
 {
     json.push_str(text)?;
     json.push_str(word)
@@ -59,7 +57,7 @@ fn put_behind(json: &mut String, text: &str, word: &str) -> Result<(), AllocErro
 
 // Writes a key behind others.
 fn put_key(json: &mut String, key: &str) -> Result<(), AllocError>
-    ensures { OnOk result (string_bytes json.new ≡ string_bytes json.old ++ key_text key.now) }
+    ensures { OnOk result (Puts json.old json.new (key_text key.now)) }
 {
     json.push_str(",\"")?;
     json.push_str(key)?;
@@ -68,16 +66,14 @@ fn put_key(json: &mut String, key: &str) -> Result<(), AllocError>
 
 // Writes a first key.
 fn put_first(json: &mut String, key: &str) -> Result<(), AllocError>
-    ensures { OnOk result (string_bytes json.new ≡ string_bytes json.old
-        ++ pair_text Pairs.First key.now) }
+    ensures { OnOk result (Puts json.old json.new (pair_text Pairs.First key.now)) }
 {
     put_quoted(json, "", key)?;
     json.push_str(":")
 }
 
 fn put_pair(json: &mut String, here: Pairs, word: &str) -> Result<(), AllocError>
-    ensures { OnOk result (string_bytes json.new ≡ string_bytes json.old
-        ++ pair_text here word.now) }
+    ensures { OnOk result (Puts json.old json.new (pair_text here word.now)) }
 {
     match here {
         Pairs::First => put_first(json, word),
@@ -90,8 +86,7 @@ fn put_pair(json: &mut String, here: Pairs, word: &str) -> Result<(), AllocError
 }
 
 fn put_pair_key(json: &mut String, word: &str) -> Result<(), AllocError>
-    ensures { OnOk result (string_bytes json.new ≡ string_bytes json.old
-        ++ pair_text Pairs.Key word.now) }
+    ensures { OnOk result (Puts json.old json.new (pair_text Pairs.Key word.now)) }
 {
     if is_word(word, "path") {
         json.push_str(",\"path\":[")
@@ -101,8 +96,7 @@ fn put_pair_key(json: &mut String, word: &str) -> Result<(), AllocError>
 }
 
 fn put_value(json: &mut String, word: &str) -> Result<(), AllocError>
-    ensures { OnOk result (string_bytes json.new ≡ string_bytes json.old
-        ++ value_text word.now) }
+    ensures { OnOk result (Puts json.old json.new (value_text word.now)) }
 {
     if is_number(word) {
         json.push_str(word)
@@ -125,8 +119,7 @@ fn pair_end(here: Pairs) -> &'static str
 }
 
 fn put_range(json: &mut String, here: Ranges, word: &str) -> Result<(), AllocError>
-    ensures { OnOk result (string_bytes json.new ≡ string_bytes json.old
-        ++ range_text here word.now) }
+    ensures { OnOk result (Puts json.old json.new (range_text here word.now)) }
 {
     match here {
         Ranges::Begin => put_begin(json, word),
@@ -142,8 +135,7 @@ fn put_range(json: &mut String, here: Ranges, word: &str) -> Result<(), AllocErr
 }
 
 fn put_begin(json: &mut String, word: &str) -> Result<(), AllocError>
-    ensures { OnOk result (string_bytes json.new ≡ string_bytes json.old
-        ++ range_text Ranges.Begin word.now) }
+    ensures { OnOk result (Puts json.old json.new (range_text Ranges.Begin word.now)) }
 {
     if is_word(word, "line") {
         json.push_str("\"line\":")
@@ -166,7 +158,7 @@ fn what_text(word: &str) -> &'static str
 }
 
 fn put_type(json: &mut String, name: &str) -> Result<(), AllocError>
-    ensures { OnOk result (string_bytes json.new ≡ string_bytes json.old ++ type_text name.now) }
+    ensures { OnOk result (Puts json.old json.new (type_text name.now)) }
 {
     if is_word(name, "none") {
         return json.push_str(",\"result\":null,\"variables\":[");
@@ -181,8 +173,7 @@ fn put_type(json: &mut String, name: &str) -> Result<(), AllocError>
 // The ends of `LO..HI`, behind which a comma may stand.
 #[tactic(auto, unfolding(crate::specs::Lines::limits_text))]
 fn put_limits(json: &mut String, range: &str) -> Result<(), AllocError>
-    ensures { OnOk result (string_bytes json.new ≡ string_bytes json.old
-        ++ limits_text range.now) }
+    ensures { OnOk result (Puts json.old json.new (limits_text range.now)) }
 {
     json.push_str(",\"from\":")?;
     json.push_str(front(Cut::Dot, range))?;
@@ -193,8 +184,7 @@ fn put_limits(json: &mut String, range: &str) -> Result<(), AllocError>
 }
 
 fn put_result_limits(json: &mut String, range: &str) -> Result<(), AllocError>
-    ensures { OnOk result (string_bytes json.new ≡ string_bytes json.old
-        ++ range_text Ranges.Limits range.now) }
+    ensures { OnOk result (Puts json.old json.new (range_text Ranges.Limits range.now)) }
 {
     put_limits(json, range)?;
     json.push_str(",\"variables\":[")
@@ -217,8 +207,7 @@ fn range_end(here: Ranges) -> &'static str
 }
 
 fn put_name(json: &mut String, here: Names, word: &str) -> Result<(), AllocError>
-    ensures { OnOk result (string_bytes json.new ≡ string_bytes json.old
-        ++ name_text here word.now) }
+    ensures { OnOk result (Puts json.old json.new (name_text here word.now)) }
 {
     match here {
         Names::Begin => put_margin(json, word),
@@ -232,8 +221,7 @@ fn put_name(json: &mut String, here: Names, word: &str) -> Result<(), AllocError
 }
 
 fn put_margin(json: &mut String, word: &str) -> Result<(), AllocError>
-    ensures { OnOk result (string_bytes json.new ≡ string_bytes json.old
-        ++ name_text Names.Begin word.now) }
+    ensures { OnOk result (Puts json.old json.new (name_text Names.Begin word.now)) }
 {
     if is_word(word, "") {
         Ok(())
@@ -243,7 +231,7 @@ fn put_margin(json: &mut String, word: &str) -> Result<(), AllocError>
 }
 
 fn put_used(json: &mut String, word: &str) -> Result<(), AllocError>
-    ensures { OnOk result (string_bytes json.new ≡ string_bytes json.old ++ used_text word.now) }
+    ensures { OnOk result (Puts json.old json.new (used_text word.now)) }
 {
     if is_word(word, "") {
         return Ok(());
@@ -256,8 +244,7 @@ fn put_used(json: &mut String, word: &str) -> Result<(), AllocError>
 }
 
 fn put_manner(json: &mut String, word: &str) -> Result<(), AllocError>
-    ensures { OnOk result (string_bytes json.new ≡ string_bytes json.old
-        ++ name_text Names.Manner word.now) }
+    ensures { OnOk result (Puts json.old json.new (name_text Names.Manner word.now)) }
 {
     put_key(json, word)?;
     json.push_str("[")
@@ -298,8 +285,7 @@ fn place_end(here: Places) -> &'static str
 
 // A line, or the name of a unit.
 fn put_line_or_unit(json: &mut String, here: Places, word: &str) -> Result<(), AllocError>
-    ensures { OnOk result (string_bytes json.new ≡ string_bytes json.old
-        ++ line_or_unit here word.now) }
+    ensures { OnOk result (Puts json.old json.new (line_or_unit here word.now)) }
 {
     if is_number(word) {
         return put_behind(json, line_mark(here), front(Cut::Comma, word));
@@ -310,8 +296,7 @@ fn put_line_or_unit(json: &mut String, here: Places, word: &str) -> Result<(), A
 }
 
 fn put_place(json: &mut String, here: Places, word: &str) -> Result<(), AllocError>
-    ensures { OnOk result (string_bytes json.new ≡ string_bytes json.old
-        ++ place_text here word.now) }
+    ensures { OnOk result (Puts json.old json.new (place_text here word.now)) }
 {
     put_line_or_unit(json, here, word)?;
     if has(Cut::Comma, word) {
@@ -322,8 +307,7 @@ fn put_place(json: &mut String, here: Places, word: &str) -> Result<(), AllocErr
 }
 
 fn put_denial(json: &mut String, here: Denials, word: &str) -> Result<(), AllocError>
-    ensures { OnOk result (string_bytes json.new ≡ string_bytes json.old
-        ++ denial_text here word.now) }
+    ensures { OnOk result (Puts json.old json.new (denial_text here word.now)) }
 {
     match here {
         Denials::Begin => put_first(json, word),
@@ -390,8 +374,7 @@ fn cell_text(word: &str) -> &str
 }
 
 fn put_cell(json: &mut String, column: Column, word: &str) -> Result<(), AllocError>
-    ensures { OnOk result (string_bytes json.new ≡ string_bytes json.old
-        ++ (column_key column ++ cell_text word.now)) }
+    ensures { OnOk result (Puts json.old json.new (column_key column ++ cell_text word.now)) }
 {
     put_behind(json, column_key(column), cell_text(word))
 }

@@ -1,6 +1,7 @@
 // What `check` prints.
 
-ghost use Rattle.std.specs.Prelude.{◌≡◌, ◌++◌, flat_map, IfOk, OnOk, string_bytes};
+ghost use Rattle.std.specs.Prelude.{◌≡◌, flat_map, IfOk, OnOk, string_bytes};
+ghost use Rattle.texts.specs.Puts.{Puts};
 ghost use Rattle.il_machine.specs.Listing.{task_lines, unit_lines, task_shown, unit_shown};
 ghost use Rattle.lift_output.specs.Listing.{task_text, unit_text, path_text, listing};
 
@@ -21,8 +22,7 @@ pub fn check_text(alloc: Global, verified: &Verified) -> Result<String, AllocErr
 }
 
 fn put_tasks(text: &mut String, verified: &Verified) -> Result<(), AllocError>
-    ensures { OnOk result (string_bytes text.new ≡ string_bytes text.old
-        ++ flat_map task_text (task_lines verified.now)) }
+    ensures { OnOk result (Puts text.old text.new (flat_map task_text (task_lines verified.now))) }
 {
     'tasks: for task in verified.tasks() {
         put_task(text, task)?;
@@ -31,8 +31,7 @@ fn put_tasks(text: &mut String, verified: &Verified) -> Result<(), AllocError>
 }
 
 fn put_units(text: &mut String, verified: &Verified) -> Result<(), AllocError>
-    ensures { OnOk result (string_bytes text.new ≡ string_bytes text.old
-        ++ flat_map unit_text (unit_lines verified.now.config.units verified.now.costs)) }
+    ensures { OnOk result (Puts text.old text.new (flat_map unit_text (unit_lines verified.now.config.units verified.now.costs))) }
 {
     'units: for unit in verified.units() {
         put_unit(text, unit)?;
@@ -42,8 +41,7 @@ fn put_units(text: &mut String, verified: &Verified) -> Result<(), AllocError>
 
 #[tactic(auto, unfolding(crate::specs::Listing::task_text))]
 fn put_task(text: &mut String, task: TaskInfo<'_>) -> Result<(), AllocError>
-    ensures { OnOk result (string_bytes text.new ≡ string_bytes text.old
-        ++ task_text (task_shown task.entry)) }
+    ensures { OnOk result (Puts text.old text.new (task_text (task_shown task.entry))) }
 {
     write!(text, "task {} interval {}", task.name, task.interval)?;
     write!(text, " priority {} program {}", task.priority, task.program)?;
@@ -52,8 +50,7 @@ fn put_task(text: &mut String, task: TaskInfo<'_>) -> Result<(), AllocError>
 
 #[tactic(auto, unfolding(crate::specs::Listing::unit_text))]
 fn put_unit(text: &mut String, unit: UnitInfo<'_>) -> Result<(), AllocError>
-    ensures { OnOk result (string_bytes text.new ≡ string_bytes text.old
-        ++ unit_text (unit_shown unit.entry)) }
+    ensures { OnOk result (Puts text.old text.new (unit_text (unit_shown unit.entry))) }
 {
     write!(text, "unit {} cost {} path", unit.name, unit.cost)?;
     put_path(text, unit.path)?;
@@ -61,7 +58,7 @@ fn put_unit(text: &mut String, unit: UnitInfo<'_>) -> Result<(), AllocError>
 }
 
 fn put_path(text: &mut String, path: &[u32]) -> Result<(), AllocError>
-    ensures { OnOk result (string_bytes text.new ≡ string_bytes text.old ++ path_text path.now) }
+    ensures { OnOk result (Puts text.old text.new (path_text path.now)) }
 {
     let mut digits = Buffer::new();
     'lines: for line in path {

@@ -1,6 +1,7 @@
 // What `replay` prints.
 
-ghost use Rattle.std.specs.Prelude.{◌≡◌, ◌++◌, ◌∷◌, [], length, IfOk, OnOk, string_bytes};
+ghost use Rattle.std.specs.Prelude.{◌≡◌, ◌∷◌, [], length, IfOk, OnOk, string_bytes};
+ghost use Rattle.texts.specs.Puts.{Puts};
 ghost use Rattle.il_table.specs.NameMap.{get};
 ghost use Rattle.il_layout.specs.declared.flat.Cell.{Cell as CellOf};
 ghost use Rattle.il_layout.specs.Program.{global_cells};
@@ -50,8 +51,7 @@ fn digit(set: bool) -> &'static str
 
 #[tactic(auto, unfolding(crate::specs::ImageText::fields_text))]
 fn put_fields(text: &mut String, fields: &Fields) -> Result<(), AllocError>
-    ensures { OnOk result (string_bytes text.new ≡ string_bytes text.old
-        ++ fields_text fields.now) }
+    ensures { OnOk result (Puts text.old text.new (fields_text fields.now)) }
 {
     write!(text, "NOW {}\nRUNLIMIT {}", fields.time, fields.run_limit)?;
     writeln!(text, "\nFIRE {}", truth(fields.fire))
@@ -59,7 +59,7 @@ fn put_fields(text: &mut String, fields: &Fields) -> Result<(), AllocError>
 
 // LEVEL, TOP, BOTTOM, LOCKED and OPENED.
 fn put_flags(text: &mut String, car: &CarFields) -> Result<(), AllocError>
-    ensures { OnOk result (string_bytes text.new ≡ string_bytes text.old ++ flags car.now) }
+    ensures { OnOk result (Puts text.old text.new (flags car.now)) }
 {
     text.push_str(digit(car.level))?;
     text.push_str(digit(car.top))?;
@@ -86,8 +86,7 @@ fn put_car(
     car: &CarFields,
     outputs: &CarOutputs,
 ) -> Result<(), AllocError>
-    ensures { OnOk result (string_bytes text.new ≡ string_bytes text.old
-        ++ car_text number car.now outputs.now) }
+    ensures { OnOk result (Puts text.old text.new (car_text number car.now outputs.now)) }
 {
     write!(text, "CAR {} {} ", number, car.pos)?;
     put_flags(text, car)?;
@@ -101,8 +100,7 @@ fn put_car(
 
 fn put_cars(text: &mut String, cars: &[CarFields], outputs: &[CarOutputs]) -> Result<(), AllocError>
     requires { length outputs.now ≡ length cars.now }
-    ensures { OnOk result (string_bytes text.new ≡ string_bytes text.old
-        ++ cars_text 1 cars.now outputs.now) }
+    ensures { OnOk result (Puts text.old text.new (cars_text 1 cars.now outputs.now)) }
 {
     'cars: for index in 0..cars.len() {
         put_car(text, index + 1, &cars[index], &outputs[index])?;
@@ -112,8 +110,7 @@ fn put_cars(text: &mut String, cars: &[CarFields], outputs: &[CarOutputs]) -> Re
 
 #[tactic(auto, unfolding(crate::specs::ImageText::slot_text))]
 fn put_slot(text: &mut String, number: usize, slot: &Slot) -> Result<(), AllocError>
-    ensures { OnOk result (string_bytes text.new ≡ string_bytes text.old
-        ++ slot_text number slot.now) }
+    ensures { OnOk result (Puts text.old text.new (slot_text number slot.now)) }
 {
     match slot {
         Slot::Free => writeln!(text, "SLOT {} FREE", number),
@@ -129,8 +126,7 @@ fn put_slot(text: &mut String, number: usize, slot: &Slot) -> Result<(), AllocEr
 }
 
 fn put_slots(text: &mut String, slots: &[Slot]) -> Result<(), AllocError>
-    ensures { OnOk result (string_bytes text.new ≡ string_bytes text.old
-        ++ slots_text 1 slots.now) }
+    ensures { OnOk result (Puts text.old text.new (slots_text 1 slots.now)) }
 {
     'slots: for index in 0..slots.len() {
         put_slot(text, index + 1, &slots[index])?;
@@ -140,8 +136,7 @@ fn put_slots(text: &mut String, slots: &[Slot]) -> Result<(), AllocError>
 
 #[tactic(auto, unfolding(crate::specs::ImageText::global_text))]
 fn put_global(text: &mut String, path: &str, value: Option<Value>) -> Result<(), AllocError>
-    ensures { OnOk result (string_bytes text.new ≡ string_bytes text.old
-        ++ global_text path.now value) }
+    ensures { OnOk result (Puts text.old text.new (global_text path.now value)) }
 {
     match value {
         Some(Value::Boolean(value)) => writeln!(text, "VAR {} {}", path, truth(value)),
@@ -151,8 +146,7 @@ fn put_global(text: &mut String, path: &str, value: Option<Value>) -> Result<(),
 }
 
 fn put_globals(text: &mut String, world: &World) -> Result<(), AllocError>
-    ensures { OnOk result (string_bytes text.new ≡ string_bytes text.old
-        ++ globals_text world.now.world.group.globals (global_cells world.now.program.config)) }
+    ensures { OnOk result (Puts text.old text.new (globals_text world.now.world.group.globals (global_cells world.now.program.config))) }
 {
     let cells = world.verified().globals();
     'globals: for cell in cells {

@@ -1,6 +1,7 @@
 // How much of each limit a configuration uses.
 
-ghost use Rattle.std.specs.Prelude.{◌≡◌, ◌≤◌, ◌<◌, ◌+◌, ◌++◌, IfOk, OnOk, None, Some, false, length, map, option_map, string_bytes};
+ghost use Rattle.std.specs.Prelude.{◌≡◌, ◌≤◌, ◌<◌, ◌+◌, IfOk, OnOk, None, Some, false, length, map, option_map};
+ghost use Rattle.texts.specs.Puts.{Puts};
 ghost use Rattle.il_spec.specs.Grammar.{depth_after, greatest_depth};
 ghost use Rattle.il_machine.specs.Listing.{unit_lines};
 ghost use Rattle.il_order.specs.Counted.{number_at};
@@ -57,8 +58,7 @@ pub fn put_limits(
     verified: &Verified,
     bytes: usize,
 ) -> Result<(), AllocError>
-    ensures { OnOk result (string_bytes text.new ≡ string_bytes text.old
-        ++ limits_text verified.now bytes) }
+    ensures { OnOk result (Puts text.old text.new (limits_text verified.now bytes)) }
 {
     put_unit_limits(text, verified.config(), bytes)?;
     put_run_limits(alloc, text, verified)
@@ -67,8 +67,7 @@ pub fn put_limits(
 // Of a text of so many bytes, and of its units.
 #[tactic(auto, unfolding(crate::specs::Limits::unit_limits))]
 fn put_unit_limits(text: &mut String, config: &Config, bytes: usize) -> Result<(), AllocError>
-    ensures { OnOk result (string_bytes text.new ≡ string_bytes text.old
-        ++ unit_limits config.now bytes) }
+    ensures { OnOk result (Puts text.old text.new (unit_limits config.now bytes)) }
 {
     let units = config.units.as_slice();
     put_limit(text, "bytes", bytes, MOST_BYTES)?;
@@ -82,8 +81,7 @@ fn put_unit_limits(text: &mut String, config: &Config, bytes: usize) -> Result<(
 // Of chains, slots and costs.
 #[tactic(auto, unfolding(crate::specs::Limits::run_limits))]
 fn put_run_limits(alloc: Global, text: &mut String, verified: &Verified) -> Result<(), AllocError>
-    ensures { OnOk result (string_bytes text.new ≡ string_bytes text.old
-        ++ run_limits verified.now) }
+    ensures { OnOk result (Puts text.old text.new (run_limits verified.now)) }
 {
     let chain = longest_chain(alloc, verified.names())?;
     put_limit(text, "chain", chain, MOST_CHAIN)?;
@@ -94,16 +92,14 @@ fn put_run_limits(alloc: Global, text: &mut String, verified: &Verified) -> Resu
 
 // `limit NAME used N of N`.
 fn put_words(text: &mut String, name: &str, used: usize, most: usize) -> Result<(), AllocError>
-    ensures { OnOk result (string_bytes text.new ≡ string_bytes text.old
-        ++ limit_words name.now used most) }
+    ensures { OnOk result (Puts text.old text.new (limit_words name.now used most)) }
 {
     write!(text, "limit {} used {} of {}", name, used, most)
 }
 
 #[tactic(auto, unfolding(crate::specs::Limits::limit_line))]
 fn put_limit(text: &mut String, name: &str, used: usize, most: usize) -> Result<(), AllocError>
-    ensures { OnOk result (string_bytes text.new ≡ string_bytes text.old
-        ++ limit_line name.now used most) }
+    ensures { OnOk result (Puts text.old text.new (limit_line name.now used most)) }
 {
     put_words(text, name, used, most)?;
     text.push_str("\n")
@@ -116,8 +112,7 @@ fn put_most(
     unit: Option<Usage<'_>>,
     most: usize,
 ) -> Result<(), AllocError>
-    ensures { OnOk result (string_bytes text.new ≡ string_bytes text.old
-        ++ most_line name.now (option_map use_shown unit.entry) most) }
+    ensures { OnOk result (Puts text.old text.new (most_line name.now (option_map use_shown unit.entry) most)) }
 {
     match unit {
         Some(unit) => {
@@ -293,8 +288,7 @@ fn number_at(numbers: &Items<usize>, at: usize) -> usize
 
 // The slots of each task.
 fn put_slots(text: &mut String, verified: &Verified) -> Result<(), AllocError>
-    ensures { OnOk result (string_bytes text.new ≡ string_bytes text.old
-        ++ slots_text verified.now.config) }
+    ensures { OnOk result (Puts text.old text.new (slots_text verified.now.config)) }
 {
     'cars: for before in 0..verified.sizes().cars {
         put_task_slots(text, verified, before + 1)?;
@@ -305,8 +299,7 @@ fn put_slots(text: &mut String, verified: &Verified) -> Result<(), AllocError>
 // The slots of a task, if the group has it.
 fn put_task_slots(text: &mut String, verified: &Verified, task: u8) -> Result<(), AllocError>
     requires { task ≤ (sizes_of verified.now.config).cars }
-    ensures { OnOk result (string_bytes text.new ≡ string_bytes text.old
-        ++ task_slots verified.now.config task) }
+    ensures { OnOk result (Puts text.old text.new (task_slots verified.now.config task)) }
 {
     let _config = verified.config();
     if !verified.has_task(task) {
@@ -318,8 +311,7 @@ fn put_task_slots(text: &mut String, verified: &Verified, task: u8) -> Result<()
 
 #[tactic(auto, unfolding(crate::specs::Limits::slots_words))]
 fn put_slots_words(text: &mut String, task: u8, slots: usize) -> Result<(), AllocError>
-    ensures { OnOk result (string_bytes text.new ≡ string_bytes text.old
-        ++ slots_words task slots) }
+    ensures { OnOk result (Puts text.old text.new (slots_words task slots)) }
 {
     put_words(text, "slots", slots, MOST_SLOTS)?;
     text.push_str(" in ")?;
@@ -329,7 +321,7 @@ fn put_slots_words(text: &mut String, task: u8, slots: usize) -> Result<(), Allo
 
 // The name of a task: 0 is GROUP, k is CARk.
 fn put_task(text: &mut String, task: u8) -> Result<(), AllocError>
-    ensures { OnOk result (string_bytes text.new ≡ string_bytes text.old ++ task_name task) }
+    ensures { OnOk result (Puts text.old text.new (task_name task)) }
 {
     match task {
         0 => text.push_str("GROUP"),

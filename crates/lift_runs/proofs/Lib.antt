@@ -1,6 +1,8 @@
+pub mod Doing
+pub mod Driving
+pub mod Few
 pub mod Fronts
 pub mod Grouping
-pub mod Driving
 pub mod Showing
 pub mod Stepping
 pub mod Taking

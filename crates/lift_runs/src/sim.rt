@@ -20,6 +20,7 @@ ghost use Rattle.lift_runs.specs.Shown.{Commit, IsShown, ScansCommit, RoundShown
 use crate::ahead::{at_first, presses_by_round, presses_due, set_in, settings_by_round};
 use crate::observer::{Nobody, Observer};
 use crate::scan::scan;
+use crate::steps::{gather_all, tasks_in};
 use il_machine::Verified;
 use il_spec::fault::Refusal;
 use lift_host::press::{Press, Setting};
@@ -76,19 +77,6 @@ fn press_all(world: &mut World, presses: &[Press], report: &mut Report)
     }
 }
 
-/// What the desk has from each floor is gathered.
-pub fn gather_all(world: &mut World, report: &mut Report)
-    ensures taken { Happen world.old.program.config world.old.world
-        (map GatherOf (floors_rising world.old.program.config)) world.new.world }
-    ensures same { world.new.program ≡ world.old.program }
-{
-    let _config = world.verified().config();
-    let Sizes { floors, .. } = world.sizes();
-    'floors: for below in 0..floors {
-        world.apply(&Event::Gather(below + 1), report);
-    }
-}
-
 // The presses of a round, and the gatherings. Where nothing was pressed so far, there is nothing to gather.
 fn desk(world: &mut World, due: Due<'_>, report: &mut Report)
     requires calls { ArePressed (sizes_of world.old.program.config) due.presses.now }
@@ -123,13 +111,9 @@ fn refresh(
 {
     let _config = world.verified().config();
     entries.reserve(1)?;
-    let event = Event::Refresh(fields);
-    world.apply(&event, report);
+    world.refresh(&fields, report);
     let calls = calls_of(report.entered.as_slice());
-    match event {
-        Event::Refresh(fields) => entries.push_reserved(Entry::Refresh { fields, calls }),
-        _ => unreachable!(),
-    }
+    entries.push_reserved(Entry::Refresh { fields, calls });
     Ok(())
 }
 
@@ -205,23 +189,6 @@ fn round<O: Observer>(
     Ok(())
 }
 
-// The tasks that the group has, in the order in which a round runs them: CAR1 to CARn, and then GROUP.
-fn tasks_of(alloc: Global, verified: &Verified) -> Result<Vec<u8>, AllocError>
-    ensures { IfOk result (λ tasks. tasks.items ≡ tasks_in_order verified.now.config) }
-{
-    let _config = verified.config();
-    let mut tasks = Vec::new(alloc);
-    'cars: for below in 0..verified.sizes().cars {
-        if verified.has_task(below + 1) {
-            tasks.push(below + 1)?;
-        }
-    }
-    if verified.has_task(0) {
-        tasks.push(0)?;
-    }
-    Ok(tasks)
-}
-
 // So many rounds of a world that opens. Its presses and settings are copied by their rounds, so that each round takes its own from the front.
 fn run_rounds<O: Observer>(
     alloc: Global,
@@ -293,9 +260,10 @@ pub fn simulate_on<O: Observer>(
         drive.entry.settings.now rounds entries.items text) }
 {
     let _config = world.verified().config();
-    let tasks = tasks_of(alloc, world.verified())?;
+    let tasks = tasks_in(world.verified());
+    let tasks = tasks.as_slice();
     let mut entries = Vec::with_capacity(alloc, usize::from(rounds) * (1 + 2 * tasks.len()))?;
-    run_rounds(alloc, world, drive, rounds, &tasks, &mut entries, observer)?;
+    run_rounds(alloc, world, drive, rounds, tasks, &mut entries, observer)?;
     Ok(entries)
 }
 

@@ -1,7 +1,8 @@
 // The line of a step.
 
-ghost use Rattle.std.specs.Prelude.{◌≡◌, ◌≤◌, ◌++◌, flat_map, length, map, option_copied, option_map, replicate, OnOk, string_bytes};
+ghost use Rattle.std.specs.Prelude.{◌≡◌, ◌≤◌, flat_map, length, map, option_copied, option_map, replicate, OnOk};
 ghost use Rattle.std.specs.List.{prefix_len};
+ghost use Rattle.texts.specs.Puts.{Puts};
 ghost use Rattle.lift_messages.specs.Places.{shown};
 ghost use Rattle.lift_scan.specs.Stands.{of_stand, reference_text};
 ghost use Rattle.lift_scan.specs.Lines.{is_within_line, shown_front, source_text, front_text, results_text, of_before, out_text, output_text, argument_text, instruction_text, step_text, call_text, left_by, left_text, names_text, line_text};
@@ -24,8 +25,7 @@ pub fn put_line(
     before: &Before,
     after: &View<'_>,
 ) -> Result<(), AllocError>
-    ensures { OnOk result (string_bytes text.new ≡ string_bytes text.old
-        ++ line_text after.now.config source.now (of_before before.now) after.now.state) }
+    ensures { OnOk result (Puts text.old text.new (line_text after.now.config source.now (of_before before.now) after.now.state)) }
 {
     put_front(text, source, before)?;
     put_results(text, before, after)?;
@@ -35,8 +35,7 @@ pub fn put_line(
 
 // The front of a line: the step.
 fn put_front(text: &mut String, source: &[u8], before: &Before) -> Result<(), AllocError>
-    ensures { OnOk result (string_bytes text.new ≡ string_bytes text.old
-        ++ front_text source.now (of_before before.now)) }
+    ensures { OnOk result (Puts text.old text.new (front_text source.now (of_before before.now))) }
 {
     put_blanks(text, before.depth.saturating_sub(1))?;
     put_blanks(text, before.depth.saturating_sub(1))?;
@@ -47,8 +46,7 @@ fn put_front(text: &mut String, source: &[u8], before: &Before) -> Result<(), Al
 
 // The current result before a step and behind it.
 fn put_results(text: &mut String, before: &Before, after: &View<'_>) -> Result<(), AllocError>
-    ensures { OnOk result (string_bytes text.new ≡ string_bytes text.old
-        ++ results_text (of_before before.now) after.now.state) }
+    ensures { OnOk result (Puts text.old text.new (results_text (of_before before.now) after.now.state)) }
 {
     put_result(text, before.result)?;
     text.push_str(" -> ")?;
@@ -57,7 +55,7 @@ fn put_results(text: &mut String, before: &Before, after: &View<'_>) -> Result<(
 
 // So many blanks.
 fn put_blanks(text: &mut String, count: usize) -> Result<(), AllocError>
-    ensures { OnOk result (string_bytes text.new ≡ string_bytes text.old ++ replicate count 32) }
+    ensures { OnOk result (Puts text.old text.new (replicate count 32)) }
 {
     'blanks: for _ in 0..count {
         text.push_str(" ")?;
@@ -67,8 +65,7 @@ fn put_blanks(text: &mut String, count: usize) -> Result<(), AllocError>
 
 // What is shown of the text from a place on.
 fn put_source(text: &mut String, source: &[u8], offset: usize) -> Result<(), AllocError>
-    ensures { OnOk result (string_bytes text.new ≡ string_bytes text.old
-        ++ source_text source.now offset) }
+    ensures { OnOk result (Puts text.old text.new (source_text source.now offset)) }
 {
     let (_, rest) = source.split_at(offset.min(source.len()));
     put_first(text, rest)
@@ -76,8 +73,7 @@ fn put_source(text: &mut String, source: &[u8], offset: usize) -> Result<(), All
 
 // The front of a text, up to the end of its first line.
 fn put_first(text: &mut String, bytes: &[u8]) -> Result<(), AllocError>
-    ensures { OnOk result (string_bytes text.new ≡ string_bytes text.old
-        ++ shown_front bytes.now) }
+    ensures { OnOk result (Puts text.old text.new (shown_front bytes.now)) }
 {
     let (front, _) = bytes.split_at(line_length(bytes).min(MOST_BYTES));
     put_shown(text, front)
@@ -85,7 +81,7 @@ fn put_first(text: &mut String, bytes: &[u8]) -> Result<(), AllocError>
 
 // Bytes as they are shown.
 fn put_shown(text: &mut String, bytes: &[u8]) -> Result<(), AllocError>
-    ensures { OnOk result (string_bytes text.new ≡ string_bytes text.old ++ map shown bytes.now) }
+    ensures { OnOk result (Puts text.old text.new (map shown bytes.now)) }
 {
     'bytes: for byte in bytes {
         text.push(char::from(shown(*byte)))?;
@@ -112,8 +108,7 @@ fn put_names(
     before: &Before,
     after: &View<'_>,
 ) -> Result<(), AllocError>
-    ensures { OnOk result (string_bytes text.new ≡ string_bytes text.old
-        ++ names_text after.now.config (of_before before.now) after.now.state) }
+    ensures { OnOk result (Puts text.old text.new (names_text after.now.config (of_before before.now) after.now.state)) }
 {
     let depth = after.depth();
     if depth < before.depth {
@@ -138,9 +133,7 @@ fn put_left(
     view: &View<'_>,
     caller: Option<&Stand>,
 ) -> Result<(), AllocError>
-    ensures { OnOk result (string_bytes text.new ≡ string_bytes text.old
-        ++ left_text view.now.config view.now.state.values
-        (option_map (λ s. of_stand s.now) caller.entry)) }
+    ensures { OnOk result (Puts text.old text.new (left_text view.now.config view.now.state.values (option_map (λ s. of_stand s.now) caller.entry))) }
 {
     let Some(caller) = caller else {
         return Ok(());
@@ -159,8 +152,7 @@ fn put_call(
     path: &str,
     instruction: &Instruction,
 ) -> Result<(), AllocError>
-    ensures { OnOk result (string_bytes text.new ≡ string_bytes text.old
-        ++ call_text view.now.state.values path.now instruction.now) }
+    ensures { OnOk result (Puts text.old text.new (call_text view.now.state.values path.now instruction.now)) }
 {
     let Instruction::Call {
         instance,
@@ -189,8 +181,7 @@ fn put_outs(
     instance: &str,
     arguments: &[Argument],
 ) -> Result<(), AllocError>
-    ensures { OnOk result (string_bytes text.new ≡ string_bytes text.old
-        ++ flat_map (out_text view.now.state.values path.now instance.now) arguments.now) }
+    ensures { OnOk result (Puts text.old text.new (flat_map (out_text view.now.state.values path.now instance.now) arguments.now)) }
 {
     'arguments: for argument in arguments {
         put_out(alloc, text, view, path, instance, argument)?;
@@ -207,8 +198,7 @@ fn put_out(
     instance: &str,
     argument: &Argument,
 ) -> Result<(), AllocError>
-    ensures { OnOk result (string_bytes text.new ≡ string_bytes text.old
-        ++ out_text view.now.state.values path.now instance.now argument.now) }
+    ensures { OnOk result (Puts text.old text.new (out_text view.now.state.values path.now instance.now argument.now)) }
 {
     let Argument::Output { word, target } = argument else {
         return Ok(());
@@ -227,8 +217,7 @@ fn put_argument(
     enters: bool,
     argument: &Argument,
 ) -> Result<(), AllocError>
-    ensures { OnOk result (string_bytes text.new ≡ string_bytes text.old
-        ++ argument_text view.now.state.values path.now instance.now enters argument.now) }
+    ensures { OnOk result (Puts text.old text.new (argument_text view.now.state.values path.now instance.now enters argument.now)) }
 {
     match argument {
         Argument::Input { word, .. } => {
@@ -253,8 +242,7 @@ fn put_step(
     enters: bool,
     step: Option<&Step>,
 ) -> Result<(), AllocError>
-    ensures { OnOk result (string_bytes text.new ≡ string_bytes text.old
-        ++ step_text view.now.state.values path.now enters (option_copied step.entry)) }
+    ensures { OnOk result (Puts text.old text.new (step_text view.now.state.values path.now enters (option_copied step.entry))) }
 {
     match step {
         Some(step) => put_instruction(alloc, text, view, path, enters, &step.instruction),
@@ -271,8 +259,7 @@ fn put_instruction(
     enters: bool,
     instruction: &Instruction,
 ) -> Result<(), AllocError>
-    ensures { OnOk result (string_bytes text.new ≡ string_bytes text.old
-        ++ instruction_text view.now.state.values path.now enters instruction.now) }
+    ensures { OnOk result (Puts text.old text.new (instruction_text view.now.state.values path.now enters instruction.now)) }
 {
     match instruction {
         Instruction::Load { operand, .. }
@@ -315,8 +302,7 @@ fn put_arguments(
     enters: bool,
     arguments: &[Argument],
 ) -> Result<(), AllocError>
-    ensures { OnOk result (string_bytes text.new ≡ string_bytes text.old ++ flat_map
-        (argument_text view.now.state.values path.now instance.now enters) arguments.now) }
+    ensures { OnOk result (Puts text.old text.new (flat_map (argument_text view.now.state.values path.now instance.now enters) arguments.now)) }
 {
     'arguments: for argument in arguments {
         put_argument(alloc, text, view, path, instance, enters, argument)?;
@@ -332,9 +318,7 @@ fn put_operands(
     path: &str,
     operands: &[Operand],
 ) -> Result<(), AllocError>
-    ensures { OnOk result (string_bytes text.new ≡ string_bytes text.old
-        ++ flat_map (λ o. reference_text view.now.state.values path.now o.reference)
-        operands.now) }
+    ensures { OnOk result (Puts text.old text.new (flat_map (λ o. reference_text view.now.state.values path.now o.reference) operands.now)) }
 {
     'operands: for operand in operands {
         put_reference(alloc, text, view, path, &operand.reference)?;

@@ -1,6 +1,7 @@
 // A scan, instruction by instruction.
 
 ghost use Rattle.std.specs.Prelude.{◌≡◌, ◌++◌, ℕ, List, IfOk, IfErr, OnOk, option_map, string_bytes, take};
+ghost use Rattle.texts.specs.Puts.{Puts};
 ghost use Rattle.lift_spec.specs.Snapshot.{task_name};
 ghost use Rattle.lift_spec.specs.World.{World as WorldOf, scan_at};
 ghost use Rattle.lift_scan.specs.Lines.{of_before};
@@ -89,7 +90,7 @@ fn heading(alloc: Global, asked: Asked, it: Chosen) -> Result<String, AllocError
 
 // The name of a task: 0 is GROUP, k is CARk.
 fn put_task(text: &mut String, task: u8) -> Result<(), AllocError>
-    ensures { OnOk result (string_bytes text.new ≡ string_bytes text.old ++ task_name task) }
+    ensures { OnOk result (Puts text.old text.new (task_name task)) }
 {
     match task {
         0 => text.push_str("GROUP"),
@@ -105,9 +106,7 @@ fn put_lines(
     source: &[u8],
     text: &mut String,
 ) -> Result<(), AllocError>
-    ensures lines { OnOk result (string_bytes text.new ≡ string_bytes text.old
-        ++ lines_text world.old.program.config asked.task asked.until source.now 1000000
-        world.old.world) }
+    ensures lines { OnOk result (Puts text.old text.new (lines_text world.old.program.config asked.task asked.until source.now 1000000 world.old.world)) }
     ensures same { world.new.program ≡ world.old.program }
 {
     let mut report = Report::new();
@@ -170,9 +169,7 @@ fn put_step(
     task: u8,
     before: &Before,
 ) -> Result<(), AllocError>
-    ensures { OnOk result (string_bytes text.new ≡ string_bytes text.old
-        ++ line_by world.now.program.config source.now (of_before before.now)
-        (scan_at world.now.world task)) }
+    ensures { OnOk result (Puts text.old text.new (line_by world.now.program.config source.now (of_before before.now) (scan_at world.now.world task))) }
 {
     match View::of(world, task) {
         Some(view) => put_line(alloc, text, source, before, &view),

@@ -1,6 +1,7 @@
 // Values, and the paths under which a scan has them.
 
-ghost use Rattle.std.specs.Prelude.{◌≡◌, ◌++◌, IfOk, OnOk, string_bytes};
+ghost use Rattle.std.specs.Prelude.{IfOk, OnOk, string_bytes};
+ghost use Rattle.texts.specs.Puts.{Puts};
 ghost use Rattle.il_run.specs.Meaning as meaning;
 ghost use Rattle.lift_scan.specs.Stands.{value_text, result_text, named_text, indexed_text, element_text, reference_text};
 
@@ -12,7 +13,7 @@ use std::alloc::{AllocError, Global};
 
 // A value.
 fn put_value(text: &mut String, value: Option<Value>) -> Result<(), AllocError>
-    ensures { OnOk result (string_bytes text.new ≡ string_bytes text.old ++ value_text value) }
+    ensures { OnOk result (Puts text.old text.new (value_text value)) }
 {
     match value {
         None => text.push_str("none"),
@@ -24,7 +25,7 @@ fn put_value(text: &mut String, value: Option<Value>) -> Result<(), AllocError>
 
 /// A current result.
 pub fn put_result(text: &mut String, current: Option<Content>) -> Result<(), AllocError>
-    ensures { OnOk result (string_bytes text.new ≡ string_bytes text.old ++ result_text current) }
+    ensures { OnOk result (Puts text.old text.new (result_text current)) }
 {
     match current {
         None => text.push_str("none"),
@@ -34,8 +35,7 @@ pub fn put_result(text: &mut String, current: Option<Content>) -> Result<(), All
 
 // A path and its value.
 fn put_named(text: &mut String, view: &View<'_>, path: &str) -> Result<(), AllocError>
-    ensures { OnOk result (string_bytes text.new ≡ string_bytes text.old
-        ++ named_text view.now.state.values path.now) }
+    ensures { OnOk result (Puts text.old text.new (named_text view.now.state.values path.now)) }
 {
     write!(text, ", {} ", path)?;
     put_value(text, view.value(path))
@@ -49,8 +49,7 @@ pub fn put_variable(
     path: &str,
     name: &str,
 ) -> Result<(), AllocError>
-    ensures { OnOk result (string_bytes text.new ≡ string_bytes text.old
-        ++ named_text view.now.state.values (meaning.under path.now name.now)) }
+    ensures { OnOk result (Puts text.old text.new (named_text view.now.state.values (meaning.under path.now name.now))) }
 {
     let path = under(String::from_str(alloc, path)?, name)?;
     put_named(text, view, path.as_str())
@@ -65,9 +64,7 @@ pub fn put_member(
     instance: &str,
     word: &str,
 ) -> Result<(), AllocError>
-    ensures { OnOk result (string_bytes text.new ≡ string_bytes text.old
-        ++ named_text view.now.state.values
-        (meaning.member_path (meaning.under path.now instance.now) word.now)) }
+    ensures { OnOk result (Puts text.old text.new (named_text view.now.state.values (meaning.member_path (meaning.under path.now instance.now) word.now))) }
 {
     let mut path = under(String::from_str(alloc, path)?, instance)?;
     path.push_str(".")?;
@@ -82,9 +79,7 @@ fn put_numbered(
     array: String,
     number: i64,
 ) -> Result<(), AllocError>
-    ensures { OnOk result (string_bytes text.new ≡ string_bytes text.old
-        ++ named_text view.now.state.values
-        (meaning.element_path (string_bytes array) number)) }
+    ensures { OnOk result (Puts text.old text.new (named_text view.now.state.values (meaning.element_path (string_bytes array) number))) }
 {
     let mut path = array;
     write!(path, "[{}]", number)?;
@@ -98,8 +93,7 @@ fn put_indexed(
     array: String,
     index: Option<Value>,
 ) -> Result<(), AllocError>
-    ensures { OnOk result (string_bytes text.new ≡ string_bytes text.old
-        ++ indexed_text view.now.state.values (string_bytes array) index) }
+    ensures { OnOk result (Puts text.old text.new (indexed_text view.now.state.values (string_bytes array) index)) }
 {
     match index {
         Some(Value::Integer(number)) => put_numbered(text, view, array, number),
@@ -116,8 +110,7 @@ fn put_element(
     name: &str,
     index: &Index,
 ) -> Result<(), AllocError>
-    ensures { OnOk result (string_bytes text.new ≡ string_bytes text.old
-        ++ element_text view.now.state.values path.now name.now index.now) }
+    ensures { OnOk result (Puts text.old text.new (element_text view.now.state.values path.now name.now index.now)) }
 {
     let array = under(String::from_str(alloc, path)?, name)?;
     match index {
@@ -137,8 +130,7 @@ pub fn put_reference(
     path: &str,
     reference: &Reference,
 ) -> Result<(), AllocError>
-    ensures { OnOk result (string_bytes text.new ≡ string_bytes text.old
-        ++ reference_text view.now.state.values path.now reference.now) }
+    ensures { OnOk result (Puts text.old text.new (reference_text view.now.state.values path.now reference.now)) }
 {
     match reference {
         Reference::Literal(_) => Ok(()),

@@ -13,8 +13,8 @@ use Rattle.lift_spec.specs.Limits.{most_cars}
 use Rattle.lift_spec.specs.Settle.{rule_number}
 use Rattle.lift_spec.specs.Snapshot.{motor_number}
 use Rattle.lift_runs.proofs.Driving.{take_next}
-use Rattle.lift_round.specs.declared.notice.Notice.{Notice}
-use Rattle.lift_round.specs.declared.notice.TheConstants.{MOST_NOTICES}
+use Rattle.lift_runs.specs.declared.notice.Notice.{Notice}
+use Rattle.lift_runs.specs.declared.notice.TheConstants.{MOST_NOTICES}
 use Rattle.lift_spec.specs.declared.event.EventFault.{EventFault}
 use Rattle.lift_spec.specs.declared.event.EventFault.TheVariants.{FieldOutOfRange, NoOpenScan, AlreadyOpen, NotAtEnd, NoSuchActor, SameFloor}
 use Rattle.lift_spec.specs.EventFaults.{event_fault_number}

@@ -21,8 +21,8 @@ use Rattle.lift_trace.proofs.Writes.{events_append}
 use Rattle.lift_journal.specs.Journal.{AreAccepted, IsAccepted}
 use Rattle.lift_journal.specs.Rounds.{Happen, TakesAll, floors_rising, tasks_in_order}
 use Rattle.lift_journal.proofs.Taking.{happen_one}
-use Rattle.lift_round.specs.declared.notice.Notice.{Notice}
-use Rattle.lift_round.specs.Rounds.{IsRoundOf, ScansNoticed}
+use Rattle.lift_runs.specs.declared.notice.Notice.{Notice}
+use Rattle.lift_runs.specs.Rounds.{IsRoundOf, ScansNoticed}
 use Rattle.lift_serve.specs.declared.said.Said.{Said}
 use Rattle.lift_serve.specs.declared.said.Said.TheVariants.{Round, Press, End}
 use Rattle.lift_serve.specs.Saying.{events_of, scan_events, is_call}

@@ -14,10 +14,10 @@ use Rattle.lift_spec.specs.Settle.{rule_number}
 use Rattle.lift_spec.specs.Snapshot.{motor_number}
 use Rattle.lift_spec.specs.World.{World, happens, opening_group}
 use Rattle.lift_trace.specs.Text.{flag}
-use Rattle.lift_round.specs.declared.notice.Notice.{Notice}
-use Rattle.lift_round.specs.declared.notice.TheConstants.{MOST_NOTICES}
-use Rattle.lift_round.specs.declared.notice.Notice.TheVariants.{Entered, Denied, Told, Served}
-use Rattle.lift_round.specs.Rounds.{IsRoundOf}
+use Rattle.lift_runs.specs.declared.notice.Notice.{Notice}
+use Rattle.lift_runs.specs.declared.notice.TheConstants.{MOST_NOTICES}
+use Rattle.lift_runs.specs.declared.notice.Notice.TheVariants.{Entered, Denied, Told, Served}
+use Rattle.lift_runs.specs.Rounds.{IsRoundOf}
 use Rattle.lift_serve.specs.declared.said.Said.{Said}
 use Rattle.lift_serve.specs.declared.said.Said.TheVariants as said
 

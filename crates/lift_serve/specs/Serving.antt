@@ -23,13 +23,12 @@ use Rattle.lift_serve.specs.Coming.{greatest_line}
 use Rattle.lift_serve.specs.Saying.{Says, SaysNothing, events_of, scan_events, is_call}
 use Rattle.lift_serve.specs.Answers.{stop_line, greatest_answer, Acts}
 
--- what holds of every server: no scan is open, and it has the tasks and the texts of its group
+-- what holds of every server: no scan is open, and it has the texts of its group
 pub record IsServer (s : Server) : Type 0 where
-  pub closed : IsClosed s.world.world
-  pub tasks : s.tasks ≡ tasks_in_order s.world.program.config
-  pub gathers : string_bytes s.gathers ≡ events_text (map traced.Gather (floors_rising s.world.program.config))
-  pub scans : string_bytes s.scans ≡ events_text (flat_map scan_events (tasks_in_order s.world.program.config))
-  pub stop : string_bytes s.stop ≡ stop_line s.world.program.config
+  pub closed : IsClosed s.rounds.world.world
+  pub gathers : string_bytes s.gathers ≡ events_text (map traced.Gather (floors_rising s.rounds.world.program.config))
+  pub scans : string_bytes s.scans ≡ events_text (flat_map scan_events (tasks_in_order s.rounds.world.program.config))
+  pub stop : string_bytes s.stop ≡ stop_line s.rounds.world.program.config
   pub short : length (string_bytes s.stop) ≤ greatest_answer
 
 -- THE BLACK BOX

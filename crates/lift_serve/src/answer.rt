@@ -1,12 +1,13 @@
 // What is answered, written.
 
-ghost use Rattle.std.specs.Prelude.{◌≡◌, ◌≤◌, ◌*◌, ◌++◌, ◌∷◌, [], OnOk, length, string_bytes, flat_map};
+ghost use Rattle.std.specs.Prelude.{◌≡◌, ◌≤◌, ◌*◌, ◌∷◌, [], OnOk, length, flat_map};
+ghost use Rattle.texts.specs.Puts.{Puts};
 ghost use Rattle.lift_spec.specs.Snapshot.{motor_number};
 ghost use Rattle.lift_spec.specs.Replies.{reply_with};
 ghost use Rattle.lift_trace.specs.Text.{flag};
 ghost use Rattle.lift_serve.specs.Answers.{entered_line, denied_line, told_line, served_line, notice_line, output_part, outputs_line, press_line, press_word};
 
-use lift_round::notice::Notice;
+use lift_runs::notice::Notice;
 use lift_spec::calls::Call;
 use lift_spec::event::Reply;
 use lift_spec::report::{Denial, EnteredCall, Report, Rule};
@@ -33,7 +34,7 @@ fn digit(set: bool) -> &'static str
 
 #[tactic(auto, unfolding(crate::specs::Answers::output_part))]
 fn put_output(text: &mut String, outputs: CarOutputs) -> Result<(), AllocError>
-    ensures { OnOk result (string_bytes text.new ≡ string_bytes text.old ++ output_part outputs) }
+    ensures { OnOk result (Puts text.old text.new (output_part outputs)) }
 {
     write!(
         text,
@@ -44,8 +45,7 @@ fn put_output(text: &mut String, outputs: CarOutputs) -> Result<(), AllocError>
 }
 
 fn put_each(text: &mut String, outputs: &[CarOutputs]) -> Result<(), AllocError>
-    ensures { OnOk result (string_bytes text.new ≡ string_bytes text.old
-        ++ flat_map output_part outputs.now) }
+    ensures { OnOk result (Puts text.old text.new (flat_map output_part outputs.now)) }
 {
     'cars: for car in outputs {
         put_output(text, *car)?;
@@ -55,8 +55,7 @@ fn put_each(text: &mut String, outputs: &[CarOutputs]) -> Result<(), AllocError>
 
 /// The outputs of all cars.
 pub(crate) fn put_outputs(text: &mut String, outputs: &[CarOutputs]) -> Result<(), AllocError>
-    ensures { OnOk result (string_bytes text.new ≡ string_bytes text.old
-        ++ outputs_line outputs.now) }
+    ensures { OnOk result (Puts text.old text.new (outputs_line outputs.now)) }
 {
     text.push_str("outputs")?;
     put_each(text, outputs)?;
@@ -65,13 +64,7 @@ pub(crate) fn put_outputs(text: &mut String, outputs: &[CarOutputs]) -> Result<(
 
 #[tactic(auto, unfolding(crate::specs::Answers::entered_line))]
 fn put_entered(text: &mut String, ticket: u64, slot: u8, from: u8, to: u8) -> Result<(), AllocError>
-    ensures line { OnOk result (string_bytes text.new ≡ string_bytes text.old
-        ++ entered_line (record {
-          slot = slot;
-          ticket = ticket;
-          call = record
-              { from = from; to = to };
-        })) }
+    ensures line { OnOk result (Puts text.old text.new (entered_line (record { slot = slot; ticket = ticket; call = record { from = from; to = to } }))) }
     ensures few { length (entered_line (record
         { slot = slot; ticket = ticket; call = record { from = from; to = to } })) ≤ 41 }
 {
@@ -81,8 +74,7 @@ fn put_entered(text: &mut String, ticket: u64, slot: u8, from: u8, to: u8) -> Re
 
 #[tactic(auto, unfolding(crate::specs::Answers::denied_line))]
 fn put_denied(text: &mut String, car: u8, rule: Rule) -> Result<(), AllocError>
-    ensures line { OnOk result (string_bytes text.new ≡ string_bytes text.old
-        ++ denied_line (record { car = car; rule = rule })) }
+    ensures line { OnOk result (Puts text.old text.new (denied_line (record { car = car; rule = rule }))) }
     ensures few { length (denied_line (record { car = car; rule = rule })) ≤ 41 }
 {
     writeln!(text, "denied {} {}", car, rule.number())
@@ -90,8 +82,7 @@ fn put_denied(text: &mut String, car: u8, rule: Rule) -> Result<(), AllocError>
 
 #[tactic(auto, unfolding(crate::specs::Answers::told_line))]
 fn put_told(text: &mut String, ticket: u64, car: u8) -> Result<(), AllocError>
-    ensures line { OnOk result (string_bytes text.new ≡ string_bytes text.old
-        ++ told_line ticket car) }
+    ensures line { OnOk result (Puts text.old text.new (told_line ticket car)) }
     ensures few { length (told_line ticket car) ≤ 41 }
 {
     writeln!(text, "told {} {}", ticket, car)
@@ -99,16 +90,14 @@ fn put_told(text: &mut String, ticket: u64, car: u8) -> Result<(), AllocError>
 
 #[tactic(auto, unfolding(crate::specs::Answers::served_line))]
 fn put_served(text: &mut String, ticket: u64, car: u8) -> Result<(), AllocError>
-    ensures line { OnOk result (string_bytes text.new ≡ string_bytes text.old
-        ++ served_line ticket car) }
+    ensures line { OnOk result (Puts text.old text.new (served_line ticket car)) }
     ensures few { length (served_line ticket car) ≤ 41 }
 {
     writeln!(text, "served {} {}", ticket, car)
 }
 
 fn put_notice(text: &mut String, notice: Notice) -> Result<(), AllocError>
-    ensures line { OnOk result (string_bytes text.new ≡ string_bytes text.old
-        ++ notice_line notice) }
+    ensures line { OnOk result (Puts text.old text.new (notice_line notice)) }
     ensures few { length (notice_line notice) ≤ 41 }
 {
     match notice {
@@ -123,8 +112,7 @@ fn put_notice(text: &mut String, notice: Notice) -> Result<(), AllocError>
 
 /// A line for each notice, in their order.
 pub(crate) fn put_notices(text: &mut String, notices: &[Notice]) -> Result<(), AllocError>
-    ensures lines { OnOk result (string_bytes text.new ≡ string_bytes text.old
-        ++ flat_map notice_line notices.now) }
+    ensures lines { OnOk result (Puts text.old text.new (flat_map notice_line notices.now)) }
     ensures few { OnOk result (length (flat_map notice_line notices.now) ≤ 41 * length
         notices.now) }
 {
@@ -136,8 +124,7 @@ pub(crate) fn put_notices(text: &mut String, notices: &[Notice]) -> Result<(), A
 
 // What became of a press.
 fn put_word(text: &mut String, reply: Reply, report: &Report) -> Result<(), AllocError>
-    ensures { OnOk result (string_bytes text.new ≡ string_bytes text.old
-        ++ press_word (reply_with reply report.now)) }
+    ensures { OnOk result (Puts text.old text.new (press_word (reply_with reply report.now))) }
 {
     match reply {
         Reply::New => text.push_str("new"),
@@ -155,8 +142,7 @@ pub(crate) fn put_press(
     reply: Reply,
     report: &Report,
 ) -> Result<(), AllocError>
-    ensures { OnOk result (string_bytes text.new ≡ string_bytes text.old
-        ++ press_line call (reply_with reply report.now)) }
+    ensures { OnOk result (Puts text.old text.new (press_line call (reply_with reply report.now))) }
 {
     write!(text, "press {} {} ", call.from, call.to)?;
     put_word(text, reply, report)?;

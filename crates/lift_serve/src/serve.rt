@@ -44,13 +44,13 @@ pub fn serve<R: Read, O: Sink, T: Sink>(
 ) -> Result<(), Stopped>
     requires server { IsServer server.old }
     requires room { 128 ≤ vec_capacity line.old }
-    ensures served { OnOk result (IsServed server.old.world.program.config server.old.world.world
-        server.old.count server.new.world.world server.new.count
+    ensures served { OnOk result (IsServed server.old.rounds.world.program.config server.old.rounds.world.world
+        server.old.count server.new.rounds.world.world server.new.count
         (Consumes (R.remaining reader.old) (R.remaining reader.new))
         (Appends (O.contents out.old) (O.contents out.new))
         (Appends (T.contents trace.old) (T.contents trace.new))) }
-    ensures stopped { IfErr result (λ s. IsStopped server.old.world.program.config
-        server.old.world.world server.old.count (at_stop (R.remaining reader.new)
+    ensures stopped { IfErr result (λ s. IsStopped server.old.rounds.world.program.config
+        server.old.rounds.world.world server.old.count (at_stop (R.remaining reader.new)
         (O.has_failed out.new) (T.has_failed trace.new)) (Consumes (R.remaining reader.old) (R.remaining reader.new))
         (Appends (O.contents out.old) (O.contents out.new))
         (AppendsFront (O.contents out.old) (O.contents out.new))

@@ -2,6 +2,7 @@
 
 ghost use Rattle.std.specs.Prelude.{◌≡◌, ◌≢◌, ◌≤◌, ◌⊎◌, ◌++◌, ◌+◌, ◌∷◌, [], ℕ, List, Bool, true, length, OnOk, OnErr, IfOk, IfErr, None, string_bytes, map, flat_map};
 ghost use Rattle.std.specs.Io.KnownBytes.{Appends};
+ghost use Rattle.texts.specs.Puts.{Puts};
 ghost use Rattle.lift_spec.specs.World.{opening};
 ghost use Rattle.lift_spec.specs.declared.trace.TraceEvent.TheVariants.{Gather};
 ghost use Rattle.lift_spec.specs.Image.{sizes_of, FieldsInRange, Obeys};
@@ -14,17 +15,15 @@ ghost use Rattle.lift_serve.specs.Answers.{Acts, greatest_answer, outputs_line};
 ghost use Rattle.lift_serve.specs.Serving.{IsServer, Hears, Unheard, IsUntraced, traced_text, record_text, is_end};
 ghost use Rattle.lift_serve.specs.declared.said.Said.{Said as SaidOf};
 
-use crate::act::{Scratch, act};
+use crate::act::act;
 use crate::answer::put_outputs;
 use crate::said::{Said, WrongLine, is_call, read_said};
 use il_machine::Verified;
 use il_spec::fault::Refusal;
 use itoa::Buffer;
 use lift_host::sink::{Sink, put_all};
-use lift_round::notice::Notices;
-use lift_round::tasks_in;
-use lift_spec::report::Report;
-use lift_spec::{Bounded, Sizes, TASK_PLACES};
+use lift_runs::kept::Rounds;
+use lift_spec::Sizes;
 use lift_world::World;
 use std::alloc::{AllocError, Global};
 use thiserror::Error;
@@ -48,14 +47,12 @@ pub enum ServeFault {
 /// A group behind lines: with what is traced of each of its rounds, with the stop, and with room for an answer and for what is traced of a
 /// line.
 pub struct Server {
-    pub world: World,
-    pub tasks: Bounded<u8, TASK_PLACES>,
+    pub rounds: Rounds,
     pub gathers: String,
     pub scans: String,
     pub stop: String,
     pub answer: String,
     pub traced: Vec<u8>,
-    pub scratch: Scratch,
     pub count: u64,
 }
 
@@ -63,14 +60,12 @@ pub struct Server {
 impl Drop for Server {
     fn drop(self) {
         let Server {
-            world: _world,
-            tasks: _tasks,
+            rounds: _rounds,
             gathers: _gathers,
             scans: _scans,
             stop: _stop,
             answer: _answer,
             traced: _traced,
-            scratch: _scratch,
             count: _count,
         } = self;
     }
@@ -91,16 +86,14 @@ fn gathers_text(alloc: Global, floors: u8) -> Result<String, AllocError>
 
 #[tactic(auto, unfolding(lift_trace::specs::Text::line_of))]
 fn put_gather(text: &mut String, floor: u8) -> Result<(), AllocError>
-    ensures { OnOk result (string_bytes text.new ≡ string_bytes text.old
-        ++ events_text (Gather floor ∷ [])) }
+    ensures { OnOk result (Puts text.old text.new (events_text (Gather floor ∷ []))) }
 {
     writeln!(text, "G {}", floor)
 }
 
 #[tactic(auto, unfolding(lift_trace::specs::Text::line_of))]
 fn put_scan(text: &mut String, task: u8) -> Result<(), AllocError>
-    ensures { OnOk result (string_bytes text.new ≡ string_bytes text.old
-        ++ events_text (scan_events task)) }
+    ensures { OnOk result (Puts text.old text.new (events_text (scan_events task))) }
 {
     writeln!(text, "S {}", task)?;
     writeln!(text, "C {}", task)
@@ -170,29 +163,22 @@ impl Server {
     /// A group that opens.
     pub fn new(alloc: Global, verified: Verified) -> Result<Server, Refusal>
         ensures server { IfOk result IsServer }
-        ensures opening { IfOk result (λ s. (s.world.program ≡ verified)
-            × (s.world.world ≡ opening verified.config) × (s.count ≡ 0)) }
+        ensures opening { IfOk result (λ s. (s.rounds.world.program ≡ verified)
+            × (s.rounds.world.world ≡ opening verified.config) × (s.count ≡ 0)) }
     {
-        let _config = verified.config();
-        let tasks = tasks_in(&verified);
-        let gathers = gathers_text(alloc, verified.sizes().floors)?;
-        let scans = scans_text(alloc, tasks.as_slice())?;
-        let answer = String::with_capacity(alloc, 8192)?;
-        let traced = Vec::with_capacity(alloc, 4096)?;
         let world = World::new(alloc, verified)?;
-        let stop = stop_of(alloc, &world)?;
+        let rounds = Rounds::of(world);
+        let _config = rounds.world.verified().config();
+        let gathers = gathers_text(alloc, rounds.world.sizes().floors)?;
+        let scans = scans_text(alloc, rounds.tasks.as_slice())?;
+        let stop = stop_of(alloc, &rounds.world)?;
         Ok(Server {
-            world,
-            tasks,
+            rounds,
             gathers,
             scans,
             stop,
-            answer,
-            traced,
-            scratch: Scratch {
-                notices: Notices::new(),
-                report: Report::new(),
-            },
+            answer: String::with_capacity(alloc, 8192)?,
+            traced: Vec::with_capacity(alloc, 4096)?,
             count: 0,
         })
     }
@@ -200,14 +186,15 @@ impl Server {
     // How many events are traced of it.
     fn events_in(&self, said: &Said) -> u64
         requires { IsServer self.now }
-        ensures { result ≡ length (events_of self.now.world.program.config said.now) }
+        ensures { result ≡ length (events_of self.now.rounds.world.program.config said.now) }
     {
-        let _config = self.world.verified().config();
+        let _config = self.rounds.world.verified().config();
         match said {
             Said::Round(_) => {
-                u64::from(self.world.sizes().floors) + (1 + 2 * self.tasks.len() as u64)
+                u64::from(self.rounds.world.sizes().floors)
+                    + (1 + 2 * self.rounds.tasks.len() as u64)
             }
-            Said::Press(call) => u64::from(is_call(*call, self.world.sizes())),
+            Said::Press(call) => u64::from(is_call(*call, self.rounds.world.sizes())),
             Said::End => 0,
         }
     }
@@ -220,17 +207,17 @@ impl Server {
         trace: &mut T,
     ) -> Result<(), ServeFault>
         requires server { IsServer self.old }
-        requires says { Says self.old.world.program.config line.now said.now }
+        requires says { Says self.old.rounds.world.program.config line.now said.now }
         ensures traced { OnOk result (Appends (T.contents trace.old) (T.contents trace.new)
-            (traced_text self.old.world.program.config said.now self.old.count)) }
+            (traced_text self.old.rounds.world.program.config said.now self.old.count)) }
         ensures counted { OnOk result (self.new.count
-            ≡ self.old.count + length (events_of self.old.world.program.config said.now)) }
-        ensures fault { IfErr result (λ fault. IsUntraced self.old.world.program.config said.now
+            ≡ self.old.count + length (events_of self.old.rounds.world.program.config said.now)) }
+        ensures fault { IfErr result (λ fault. IsUntraced self.old.rounds.world.program.config said.now
             self.old.count (T.contents trace.old) (T.contents trace.new) (T.has_failed trace.new)
             fault) }
         ensures silent { T.contents trace.old ≡ None → T.contents trace.new ≡ None }
         ensures made { T.made trace.new ≡ T.made trace.old }
-        ensures same { self.new.world ≡ self.old.world }
+        ensures same { self.new.rounds ≡ self.old.rounds }
         ensures stop { self.new.stop ≡ self.old.stop }
         ensures server { IsServer self.new }
     {
@@ -240,7 +227,7 @@ impl Server {
         self.traced.clear();
         let gathers = self.gathers.as_bytes();
         let scans = self.scans.as_bytes();
-        let sizes = self.world.sizes();
+        let sizes = self.rounds.world.sizes();
         let count_before = self.count;
         if put_said(
             &mut self.traced,
@@ -265,31 +252,24 @@ impl Server {
     // What is said is done, and answered.
     fn answer_said<O: Sink>(&mut self, said: Said, out: &mut O) -> Result<(), ServeFault>
         requires server { IsServer self.old }
-        requires numbers { IsSpelled self.old.world.program.config said }
-        requires taken { IsTaken self.old.world.program.config said }
+        requires numbers { IsSpelled self.old.rounds.world.program.config said }
+        requires taken { IsTaken self.old.rounds.world.program.config said }
         ensures answered { OnOk result ((text : List ℕ)
-            × Acts self.old.world.program.config said self.old.world.world self.new.world.world
+            × Acts self.old.rounds.world.program.config said self.old.rounds.world.world self.new.rounds.world.world
             text × Appends (O.contents out.old) (O.contents out.new) text) }
         ensures fault { IfErr result (λ fault. ((fault ≡ ServeFault.Memory)
             × Appends (O.contents out.old) (O.contents out.new) [])
             ⊎ ((fault ≡ ServeFault.Output) × (O.has_failed out.new ≡ true)
-            × ((text : List ℕ) × Acts self.old.world.program.config said self.old.world.world
-            self.new.world.world text
+            × ((text : List ℕ) × Acts self.old.rounds.world.program.config said self.old.rounds.world.world
+            self.new.rounds.world.world text
             × AppendsFront (O.contents out.old) (O.contents out.new) text))) }
-        ensures same { self.new.world.program ≡ self.old.world.program }
+        ensures same { self.new.rounds.world.program ≡ self.old.rounds.world.program }
         ensures count { self.new.count ≡ self.old.count }
         ensures stop { self.new.stop ≡ self.old.stop }
         ensures server { OnOk result (IsServer self.new) }
     {
         self.answer.clear();
-        let acted = act(
-            &mut self.world,
-            self.tasks.as_slice(),
-            said,
-            self.stop.as_str(),
-            &mut self.answer,
-            &mut self.scratch,
-        );
+        let acted = act(&mut self.rounds, said, self.stop.as_str(), &mut self.answer);
         if acted.is_err() {
             return Err(ServeFault::Memory);
         }
@@ -308,32 +288,32 @@ impl Server {
     ) -> Result<bool, ServeFault>
         requires { IsServer self.old }
         ensures heard { IfOk result (λ ended. (said : SaidOf) × (text : List ℕ)
-            × (events : List ℕ) × Hears self.old.world.program.config line.now said
-            self.old.world.world self.new.world.world self.old.count self.new.count text events
+            × (events : List ℕ) × Hears self.old.rounds.world.program.config line.now said
+            self.old.rounds.world.world self.new.rounds.world.world self.old.count self.new.count text events
             × Appends (O.contents out.old) (O.contents out.new) text
             × Appends (T.contents trace.old) (T.contents trace.new) events
             × (ended ≡ is_end said)) }
-        ensures unheard { IfErr result (λ fault. Unheard self.old.world.program.config line.now
-            self.old.world.world self.old.count (O.has_failed out.new) (T.has_failed trace.new)
+        ensures unheard { IfErr result (λ fault. Unheard self.old.rounds.world.program.config line.now
+            self.old.rounds.world.world self.old.count (O.has_failed out.new) (T.has_failed trace.new)
             (Appends (O.contents out.old) (O.contents out.new))
             (AppendsFront (O.contents out.old) (O.contents out.new))
             (Appends (T.contents trace.old) (T.contents trace.new))
             (AppendsFront (T.contents trace.old) (T.contents trace.new)) fault) }
         ensures silent { T.contents trace.old ≡ None → T.contents trace.new ≡ None }
         ensures made { T.made trace.new ≡ T.made trace.old }
-        ensures same { self.new.world.program ≡ self.old.world.program }
+        ensures same { self.new.rounds.world.program ≡ self.old.rounds.world.program }
         ensures stop { self.new.stop ≡ self.old.stop }
         ensures server { OnOk result (IsServer self.new) }
         // the events that are traced of the line lead to the world behind it
         ensures replays { OnOk result ((said : SaidOf)
-            × Says self.old.world.program.config line.now said
-            × TakesAll self.old.world.program.config self.old.world.world
-            (events_of self.old.world.program.config said) self.new.world.world) }
-        ensures ranges { OnOk result (FieldsInRange (sizes_of self.old.world.program.config)
-            self.new.world.world.group.image.fields) }
-        ensures obeys { OnOk result (Obeys self.new.world.world.group.image) }
+            × Says self.old.rounds.world.program.config line.now said
+            × TakesAll self.old.rounds.world.program.config self.old.rounds.world.world
+            (events_of self.old.rounds.world.program.config said) self.new.rounds.world.world) }
+        ensures ranges { OnOk result (FieldsInRange (sizes_of self.old.rounds.world.program.config)
+            self.new.rounds.world.world.group.image.fields) }
+        ensures obeys { OnOk result (Obeys self.new.rounds.world.world.group.image) }
     {
-        let said = match read_said(&self.world, line) {
+        let said = match read_said(&self.rounds.world, line) {
             Ok(said) => said,
             Err(why) => return Err(ServeFault::WrongLine(why)),
         };
@@ -342,7 +322,7 @@ impl Server {
         if let Err(fault) = self.answer_said(said, out) {
             return Err(fault);
         }
-        let _image = self.world.image();
+        let _image = self.rounds.world.image();
         Ok(ended)
     }
 }

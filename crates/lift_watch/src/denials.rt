@@ -1,6 +1,7 @@
 // What `denials` prints.
 
-ghost use Rattle.std.specs.Prelude.{◌≡◌, ◌++◌, [], OnOk, string_bytes};
+ghost use Rattle.std.specs.Prelude.{◌≡◌, [], OnOk, string_bytes};
+ghost use Rattle.texts.specs.Puts.{Puts};
 ghost use Rattle.lift_watch.specs.Denials.{denial_text, refresh_denial_text, refresh_text, is_end_stop, undone_text, answer_text, denials_text, answers_text, denied};
 ghost use Rattle.lift_spec.specs.Snapshot.{task_name};
 
@@ -64,8 +65,7 @@ pub fn put_refresh(
     round: u32,
     denials: &[Denial],
 ) -> Result<(), AllocError>
-    ensures { OnOk result (string_bytes text.new ≡ string_bytes text.old
-        ++ refresh_text all round denials.now) }
+    ensures { OnOk result (Puts text.old text.new (refresh_text all round denials.now)) }
 {
     'denials: for denial in denials {
         put_refresh_denial(text, all, round, *denial)?;
@@ -79,8 +79,7 @@ fn put_refresh_denial(
     round: u32,
     denial: Denial,
 ) -> Result<(), AllocError>
-    ensures { OnOk result (string_bytes text.new ≡ string_bytes text.old
-        ++ refresh_denial_text all round denial) }
+    ensures { OnOk result (Puts text.old text.new (refresh_denial_text all round denial)) }
 {
     if all || !is_end_stop(denial.rule) {
         put_denial(text, "refresh", round, denial)
@@ -105,8 +104,7 @@ fn is_end_stop(rule: Rule) -> bool
 
 /// The denials of a commit.
 pub fn put_denials(text: &mut String, round: u32, denials: &[Denial]) -> Result<(), AllocError>
-    ensures { OnOk result (string_bytes text.new ≡ string_bytes text.old
-        ++ denials_text round denials.now) }
+    ensures { OnOk result (Puts text.old text.new (denials_text round denials.now)) }
 {
     'denials: for denial in denials {
         put_denial(text, "commit", round, *denial)?;
@@ -116,8 +114,7 @@ pub fn put_denials(text: &mut String, round: u32, denials: &[Denial]) -> Result<
 
 #[tactic(auto, unfolding(crate::specs::Denials::denial_text))]
 fn put_denial(text: &mut String, event: &str, round: u32, denial: Denial) -> Result<(), AllocError>
-    ensures { OnOk result (string_bytes text.new ≡ string_bytes text.old
-        ++ denial_text event.now round denial) }
+    ensures { OnOk result (Puts text.old text.new (denial_text event.now round denial)) }
 {
     let rule = denial.rule;
     write!(text, "round {} {} CAR{}", round, event, denial.car)?;
@@ -131,8 +128,7 @@ pub fn put_answers(
     task: u8,
     answers: &[Answered],
 ) -> Result<(), AllocError>
-    ensures { OnOk result (string_bytes text.new ≡ string_bytes text.old
-        ++ answers_text round task answers.now) }
+    ensures { OnOk result (Puts text.old text.new (answers_text round task answers.now)) }
 {
     'answers: for answer in answers {
         put_answer(text, round, task, answer.slot, answer.answer)?;
@@ -147,8 +143,7 @@ fn put_answer(
     slot: u8,
     answer: Answer,
 ) -> Result<(), AllocError>
-    ensures { OnOk result (string_bytes text.new ≡ string_bytes text.old
-        ++ answer_text round task slot answer) }
+    ensures { OnOk result (Puts text.old text.new (answer_text round task slot answer)) }
 {
     match answer {
         Answer::Done => Ok(()),
@@ -167,8 +162,7 @@ fn put_undone(
     slot: u8,
     answer: &str,
 ) -> Result<(), AllocError>
-    ensures { OnOk result (string_bytes text.new ≡ string_bytes text.old
-        ++ undone_text round task slot answer.now) }
+    ensures { OnOk result (Puts text.old text.new (undone_text round task slot answer.now)) }
 {
     write!(text, "round {} commit ", round)?;
     put_task(text, task)?;
@@ -177,7 +171,7 @@ fn put_undone(
 
 // The name of a task: 0 is GROUP, k is CARk.
 fn put_task(text: &mut String, task: u8) -> Result<(), AllocError>
-    ensures { OnOk result (string_bytes text.new ≡ string_bytes text.old ++ task_name task) }
+    ensures { OnOk result (Puts text.old text.new (task_name task)) }
 {
     match task {
         0 => text.push_str("GROUP"),

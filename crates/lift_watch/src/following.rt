@@ -1,6 +1,7 @@
 // What `denials` and `watch` print along a trace.
 
 ghost use Rattle.std.specs.Prelude.{◌≡◌, ◌+◌, ◌++◌, ◌^◌, ◌<◌, ℕ, List, length, IfErr, IfOk, OnOk, string_bytes};
+ghost use Rattle.texts.specs.Puts.{Puts};
 ghost use Rattle.lift_runs.specs.Along.{IsStopped};
 ghost use Rattle.lift_spec.specs.Replies.{reply_with};
 ghost use Rattle.lift_watch.specs.Asked.{asked_at, asked_by};
@@ -110,8 +111,7 @@ fn put_denied(
     report: &Report,
     round: u32,
 ) -> Result<(), AllocError>
-    ensures { OnOk result (string_bytes text.new ≡ string_bytes text.old
-        ++ denied_at all event.now (reply_with reply report.now) round) }
+    ensures { OnOk result (Puts text.old text.new (denied_at all event.now (reply_with reply report.now) round)) }
 {
     match event {
         TraceEvent::Refresh(_) => put_refresh(text, all, round, denials_in(reply, report)),
@@ -150,8 +150,7 @@ fn put_row_before(
     asked: &Asked,
     world: &World,
 ) -> Result<(), AllocError>
-    ensures { OnOk result (string_bytes text.new ≡ string_bytes text.old
-        ++ row_before watched.now event.now round asked.now world.now.world) }
+    ensures { OnOk result (Puts text.old text.new (row_before watched.now event.now round asked.now world.now.world)) }
 {
     match event {
         TraceEvent::Refresh(_) => put_row_of(text, watched, round, asked, world),
@@ -167,8 +166,7 @@ fn put_row_of(
     asked: &Asked,
     world: &World,
 ) -> Result<(), AllocError>
-    ensures { OnOk result (string_bytes text.new ≡ string_bytes text.old
-        ++ row_of watched.now round asked.now world.now.world) }
+    ensures { OnOk result (Puts text.old text.new (row_of watched.now round asked.now world.now.world)) }
 {
     if round == 0 {
         return Ok(());

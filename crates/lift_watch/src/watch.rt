@@ -1,6 +1,7 @@
 // What `watch` prints.
 
-ghost use Rattle.std.specs.Prelude.{◌≡◌, ◌++◌, [], None, flat_map, IfOk, IfErr, OnOk, is_some, map, string_bytes, codes, pos};
+ghost use Rattle.std.specs.Prelude.{◌≡◌, [], None, flat_map, IfOk, IfErr, OnOk, is_some, map, string_bytes, codes, pos};
+ghost use Rattle.texts.specs.Puts.{Puts};
 ghost use Rattle.lift_spec.specs.Snapshot.{from_of, to_of, car_of};
 ghost use Rattle.lift_spec.specs.World.{task_at};
 ghost use Rattle.lift_watch.specs.Asked.{nothing_asked};
@@ -110,8 +111,7 @@ fn header(alloc: Global, names: &[String]) -> Result<String, AllocError>
 }
 
 fn put_names(text: &mut String, names: &[String]) -> Result<(), AllocError>
-    ensures { OnOk result (string_bytes text.new ≡ string_bytes text.old
-        ++ names_text (map string_bytes names.now)) }
+    ensures { OnOk result (Puts text.old text.new (names_text (map string_bytes names.now))) }
 {
     'names: for name in names {
         text.push_str(",")?;
@@ -128,8 +128,7 @@ pub fn put_row(
     world: &World,
     watched: &[Watched<'_>],
 ) -> Result<(), AllocError>
-    ensures { OnOk result (string_bytes text.new ≡ string_bytes text.old
-        ++ row_text watched.now round asked.now world.now.world) }
+    ensures { OnOk result (Puts text.old text.new (row_text watched.now round asked.now world.now.world)) }
 {
     write!(text, "{}", round)?;
     put_values(text, asked, world, watched)?;
@@ -142,8 +141,7 @@ fn put_values(
     world: &World,
     watched: &[Watched<'_>],
 ) -> Result<(), AllocError>
-    ensures { OnOk result (string_bytes text.new ≡ string_bytes text.old
-        ++ values_text watched.now asked.now world.now.world) }
+    ensures { OnOk result (Puts text.old text.new (values_text watched.now asked.now world.now.world)) }
 {
     'values: for it in watched {
         put_value(text, value_of(world, asked, *it))?;
@@ -152,7 +150,7 @@ fn put_values(
 }
 
 fn put_value(text: &mut String, value: Option<Value>) -> Result<(), AllocError>
-    ensures { OnOk result (string_bytes text.new ≡ string_bytes text.old ++ value_text value) }
+    ensures { OnOk result (Puts text.old text.new (value_text value)) }
 {
     match value {
         None => text.push_str(","),

@@ -1,10 +1,10 @@
 // A lift group: what the tasks share, where their scans stand, and its calls.
 
-ghost use Rattle.std.specs.Prelude.{◌≡◌, ◌≢◌, ℕ, suc, ◌+◌, ◌≤◌, [], length, slice_get, is_some, option_and_then, option_map, Some, None, Ok, IfOk, IfErr, IfSome, IsSome};
+ghost use Rattle.std.specs.Prelude.{◌≡◌, ◌≢◌, true, ℕ, suc, ◌+◌, ◌≤◌, [], length, slice_get, is_some, option_and_then, option_map, Some, None, Ok, IfOk, IfErr, IfSome, IsSome};
 ghost use Rattle.il_machine.specs.Scanning.{HasTask};
 ghost use Rattle.il_machine.specs.Standing.{Standing, IsOf, StillHas, opening_variables_by};
 ghost use Rattle.il_table.specs.NameMap as values;
-ghost use Rattle.lift_spec.specs.Image.{sizes_of, FieldsInRange, Obeys};
+ghost use Rattle.lift_spec.specs.Image.{sizes_of, fields_in_range, FieldsInRange, Obeys};
 ghost use Rattle.lift_spec.specs.declared.event.EventFault.TheVariants.{NoOpenScan};
 ghost use Rattle.lift_spec.specs.declared.event.Event.TheVariants as event;
 ghost use Rattle.lift_spec.specs.declared.report.Report.{Report as ReportOf};
@@ -318,7 +318,24 @@ impl Controller {
         Reply::Committed
     }
 
-    // Refresh: the image takes the plant's fields, and the calls of the hand enter.
+    /// A refresh with fields in range: the image takes them, and the calls of the hand enter.
+    #[inline(always)]
+    pub fn refresh_in_range(&mut self, fields: &Fields, report: &mut Report)
+        requires world { IsController self.old }
+        requires inside { fields_in_range (sizes_of self.old.verified.config) fields.now ≡ true }
+        ensures model { Happens self.old (event.Refresh fields.now) self.new
+            (replies.Refreshed report.new) }
+        ensures same { self.new.verified ≡ self.old.verified }
+        ensures core { self.new.core.config ≡ self.old.core.config }
+        ensures stores { StoresFit self.old.verified.config self.new.core.group.tasks
+            self.new.stores.items }
+        ensures variables { KeepVariables self.new.core.group.tasks self.new.stores.items }
+        ensures world { IsController self.new }
+    {
+        refresh(&mut self.core, fields, &mut self.hand, report);
+    }
+
+    // Refresh: the fields are taken where they lie in their ranges.
     fn refresh(&mut self, fields: &Fields, report: &mut Report) -> Reply
         requires { IsController self.old }
         ensures model { Happens self.old (event.Refresh fields.now) self.new
@@ -334,7 +351,7 @@ impl Controller {
         if !in_range(fields, self.verified.sizes()) {
             return Reply::Refused(EventFault::FieldOutOfRange);
         }
-        refresh(&mut self.core, fields, &mut self.hand, report);
+        self.refresh_in_range(fields, report);
         Reply::Refreshed
     }
 

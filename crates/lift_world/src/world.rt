@@ -9,8 +9,8 @@ ghost use Rattle.il_machine.specs.Scanning.{HasTask};
 ghost use Rattle.il_machine.specs.Standing.{IsOf};
 ghost use Rattle.lift_spec.specs.Calls.{slot_at};
 ghost use Rattle.lift_spec.specs.Image.{sizes_of, FieldsInRange, Obeys};
-ghost use Rattle.lift_spec.specs.Replies.{reply_with, Refused};
-ghost use Rattle.lift_spec.specs.declared.event.Event.TheVariants.{Instruction};
+ghost use Rattle.lift_spec.specs.Replies.{reply_with, Refreshed, Refused};
+ghost use Rattle.lift_spec.specs.declared.event.Event.TheVariants.{Instruction, Refresh};
 ghost use Rattle.lift_spec.specs.Snapshot.{program_of};
 ghost use Rattle.lift_spec.specs.World as model;
 ghost use Rattle.lift_run_laws.specs.Tasks.{budget_of};
@@ -26,7 +26,7 @@ use il_spec::fault::Refusal;
 use lift_spec::calls::Slot;
 use lift_spec::event::{Event, EventFault, Reply};
 use lift_spec::report::Report;
-use lift_spec::{Bounded, Image, SLOT_PLACES, Sizes};
+use lift_spec::{Bounded, Fields, Image, SLOT_PLACES, Sizes};
 use std::alloc::Global;
 use std::marker::Model;
 
@@ -152,6 +152,21 @@ impl World {
         ensures printed { PrintsEachBudget self.old.program }
     {
         self.group.scan_whole(task, report);
+    }
+
+    /// A refresh with fields in range: the image takes them, and the calls of the hand enter. It writes the report.
+    #[inline(always)]
+    pub fn refresh(&mut self, fields: &Fields, report: &mut Report)
+        requires inside { FieldsInRange (sizes_of self.old.program.config) fields.now }
+        ensures model { model.happens self.old.program.config self.old.world (Refresh fields.now)
+            ≡ Ok (self.new.world, Refreshed report.new) }
+        ensures same { self.new.program ≡ self.old.program }
+        ensures well { CallGoesWell self.old.program.config self.old.world
+            (Refresh fields.now ∷ []) }
+        ensures reached { IsReached self.old.program.config self.old.world }
+        ensures printed { PrintsEachBudget self.old.program }
+    {
+        self.group.refresh_in_range(fields, report);
     }
 
     /// The image. It lies in its ranges and obeys the interlock.

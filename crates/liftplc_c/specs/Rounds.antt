@@ -3,8 +3,8 @@ use Rattle.std.specs.Prelude.{◌≡◌, List}
 use Rattle.lift_spec.specs.declared.image.Fields.{Fields}
 use Rattle.lift_spec.specs.Image.{sizes_of, FieldsInRange}
 use Rattle.lift_world.specs.Worlds.{WorldOf}
-use Rattle.lift_round.specs.declared.notice.Notice.{Notice}
-use Rattle.lift_round.specs.Rounds.{IsRoundOf}
+use Rattle.lift_runs.specs.declared.notice.Notice.{Notice}
+use Rattle.lift_runs.specs.Rounds.{IsRoundOf}
 use Rattle.liftplc_c.specs.declared.outputs.RoundOutputs.{RoundOutputs}
 use Rattle.liftplc_c.specs.Outputs.{TellsCars, TellsSlots, TellsNotices}
 

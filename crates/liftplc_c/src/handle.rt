@@ -5,7 +5,7 @@ ghost use Rattle.std.specs.Option.{ForSome};
 ghost use Rattle.liftplc_c.specs.Handles.{Rests};
 
 use lift_hold::Held;
-use lift_round::kept::Rounds;
+use lift_runs::kept::Rounds;
 use std::alloc::Global;
 use std::mem::replace;
 

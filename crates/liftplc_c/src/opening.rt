@@ -17,7 +17,7 @@ use crate::handle::Handle;
 use crate::history::led;
 use crate::status::Status;
 use lift_load::load;
-use lift_round::kept::Rounds;
+use lift_runs::kept::Rounds;
 use lift_world::{Refusal, World};
 use std::alloc::Global;
 

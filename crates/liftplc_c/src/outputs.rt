@@ -4,7 +4,7 @@ ghost use Rattle.std.specs.Prelude.{◌≡◌, ◌≤◌, length, map, take};
 ghost use Rattle.liftplc_c.specs.Outputs.{car_output, slot_output, TellsCars, TellsNotices, TellsSlots};
 
 use crate::notices::{NoticeOutput, put_notices};
-use lift_round::notice::{MOST_NOTICES, Notices};
+use lift_runs::notice::{MOST_NOTICES, Notices};
 use lift_spec::calls::Slot;
 use lift_spec::{CAR_PLACES, CarOutputs, Motor, SLOT_PLACES};
 use lift_world::World;

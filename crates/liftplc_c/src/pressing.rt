@@ -11,7 +11,7 @@ ghost use Rattle.liftplc_c.specs.Presses.{press_status, refusal_status, Presses}
 use crate::handle::Handle;
 use crate::history::led;
 use crate::status::Status;
-use lift_round::kept::Rounds;
+use lift_runs::kept::Rounds;
 use lift_spec::calls::Call;
 use lift_spec::event::{Event, EventFault, Reply};
 use std::alloc::Global;

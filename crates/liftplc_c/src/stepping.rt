@@ -12,7 +12,7 @@ use crate::handle::Handle;
 use crate::history::led;
 use crate::outputs::{RoundOutputs, put};
 use crate::status::Status;
-use lift_round::kept::Rounds;
+use lift_runs::kept::Rounds;
 use lift_spec::Fields;
 use std::alloc::Global;
 

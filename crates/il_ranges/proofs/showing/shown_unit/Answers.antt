@@ -1,12 +1,15 @@
 use Rattle.std.proofs.Common.{sym, ap, ◌∙◌}
 use Rattle.il_spec.specs.declared.tree.Unit.{Unit as ProgramUnit}
 use Rattle.il_range_laws.specs.Facts.{Names}
-use Rattle.il_ranges.proofs.Verdict.{fine_in, setting_of, if_ok}
+use Rattle.il_ranges.proofs.Verdict.{fine_in, ranges_in, setting_of, if_ok}
 use Rattle.il_ranges.proofs.Shown.{shown_in}
 use Rattle.il_ranges.proofs.showing.shown_unit.Goals as goal
 
-pub of-scope-requires : goal.of-scope-requires
-of-scope-requires g c = fine_in c.args.names.now c.args.unit.now c.args.at c.requires.unit c.requires.declared c.of-named.result c.of-named.ensures.config c.of-named.ensures.unit
+pub of-scope-requires-clause-fine : goal.of-scope-requires-clause-fine
+of-scope-requires-clause-fine g c = fine_in c.args.names.now c.args.unit.now c.args.at c.requires.unit c.requires.declared c.of-named.result c.of-named.ensures.config c.of-named.ensures.unit
+
+pub of-scope-requires-clause-ranges : goal.of-scope-requires-clause-ranges
+of-scope-requires-clause-ranges g c = ranges_in c.args.names.now c.args.unit.now c.args.at c.of-named.result c.in_ok-numbering.numbering.numbers c.in_ok-numbering.numbering.declared c.requires.unit c.requires.declared c.of-named.ensures.config c.of-named.ensures.unit c.in_ok-numbering.ensures
 
 pub showing_fault-requires-clause-steps : goal.showing_fault-requires-clause-steps
 showing_fault-requires-clause-steps g c = c.as_slice.ensures ∙ ap (λ (u : ProgramUnit). u.body.steps) (sym (ap (λ (n : Names). n.unit) c.of-scope.ensures ∙ c.of-named.ensures.unit))

@@ -3,22 +3,17 @@ use Rattle.il_machine.specs.Scanning.{Program, IsRunnable}
 use Rattle.lift_journal.specs.Entered.{calls, AllHaveWords}
 use Rattle.lift_spec.specs.declared.report.EnteredCall.{EnteredCall}
 use Rattle.lift_spec.specs.Hands.{IsInOrder}
-use Rattle.lift_runs.proofs.Taking.{refreshes, entered_fit}
+use Rattle.lift_runs.proofs.Taking.{entered_fit}
 use Rattle.lift_runs.proofs.sim.refresh.Goals as goal
 
 pub calls_of-calls-requires-clause-words : goal.calls_of-calls-requires-clause-words
 calls_of-calls-requires-clause-words c =
     let config = c.args.world.now.program.config in
-    let done = refreshes config c.args.world.now.world c.apply.new.self.world c.args.fields c.apply.result c.apply.new.report c.requires.inside c.apply.ensures.model in
     subst (λ (l : List EnteredCall). AllHaveWords l) (sym c.as_slice.ensures)
-    (entered_fit config (subst (λ (p : Program). IsRunnable p.config) c.verified.ensures c.config-config.ensures.runnable) c.args.world.now.world c.apply.new.self.world c.args.fields c.apply.new.report c.apply.ensures.reached done).0
+    (entered_fit config (subst (λ (p : Program). IsRunnable p.config) c.verified.ensures c.config-config.ensures.runnable) c.args.world.now.world c.refresh.new.self.world c.args.fields c.refresh.new.report c.refresh.ensures.reached c.refresh.ensures.model).0
 
 pub calls_of-calls-requires-clause-order : goal.calls_of-calls-requires-clause-order
 calls_of-calls-requires-clause-order c =
     let config = c.args.world.now.program.config in
-    let done = refreshes config c.args.world.now.world c.apply.new.self.world c.args.fields c.apply.result c.apply.new.report c.requires.inside c.apply.ensures.model in
     subst (λ (l : List EnteredCall). IsInOrder (calls l)) (sym c.as_slice.ensures)
-    (entered_fit config (subst (λ (p : Program). IsRunnable p.config) c.verified.ensures c.config-config.ensures.runnable) c.args.world.now.world c.apply.new.self.world c.args.fields c.apply.new.report c.apply.ensures.reached done).1
-
-pub returns-clause-taken : goal.returns-clause-taken
-returns-clause-taken c = refreshes c.args.world.now.program.config c.args.world.now.world c.apply.new.self.world c.args.fields c.apply.result c.apply.new.report c.requires.inside c.apply.ensures.model
+    (entered_fit config (subst (λ (p : Program). IsRunnable p.config) c.verified.ensures c.config-config.ensures.runnable) c.args.world.now.world c.refresh.new.self.world c.args.fields c.refresh.new.report c.refresh.ensures.reached c.refresh.ensures.model).1

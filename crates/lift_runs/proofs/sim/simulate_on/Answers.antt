@@ -8,7 +8,7 @@ use Rattle.lift_runs.proofs.sim.simulate_on.Goals as goal
 pub overflow_mul-from : goal.overflow_mul-from
 overflow_mul-from g c =
     let fit = sizes_fit c.args.world.now.program.config (subst (λ (p : Program). IsRunnable p.config) c.verified.ensures c.config-config.ensures.runnable) in
-    let nine = entries_fit c.args.world.now.program.config c.in_ok-tasks.tasks.items (c.in_ok-tasks.ensures ∙ ap (λ (p : Program). tasks_in_order p.config) c.verified-2.ensures) fit.0.1 in
+    let nine = entries_fit c.args.world.now.program.config c.as_slice-tasks.result.now (c.as_slice-tasks.ensures ∙ c.tasks_in-tasks.ensures ∙ ap (λ (p : Program). tasks_in_order p.config) c.verified-2.ensures) fit.0.1 in
     let long = c.len.ensures in
     let few = c.ranges.rounds.fits in
     let rounds = c.from.ensures in

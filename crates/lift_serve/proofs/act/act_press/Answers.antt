@@ -6,7 +6,7 @@ use Rattle.lift_serve.proofs.Few.{on_ok, press_few}
 use Rattle.lift_serve.proofs.act.act_press.Goals as goal
 
 pub returns-clause-closed : goal.returns-clause-closed
-returns-clause-closed c = press_closes c.args.world.now.program.config c.args.world.now.world c.apply-reply.new.self.world c.args.call (reply_with c.apply-reply.result c.apply-reply.new.report) c.apply-reply.ensures.model c.requires.closed
+returns-clause-closed c = press_closes c.args.rounds.now.world.program.config c.args.rounds.now.world.world c.apply-reply.new.self.world c.args.call (reply_with c.apply-reply.result c.apply-reply.new.report) c.apply-reply.ensures.model c.requires.closed
 
 pub returns-clause-room : goal.returns-clause-room
 returns-clause-room c =

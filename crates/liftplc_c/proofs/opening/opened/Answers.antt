@@ -3,7 +3,7 @@ use Rattle.std.specs.Prelude.{is_some}
 use Rattle.lift_run_laws.proofs.Openings.{no_scan_open}
 use Rattle.lift_spec.specs.World.{World, scan_at}
 use Rattle.lift_world.specs.Worlds.{WorldOf}
-use Rattle.lift_round.specs.declared.kept.Rounds.{Rounds}
+use Rattle.lift_runs.specs.declared.kept.Rounds.{Rounds}
 use Rattle.liftplc_c.specs.Handles.{IsLed}
 use Rattle.il_spec.specs.declared.fault.Refusal.TheVariants.{Fault}
 use Rattle.liftplc_c.proofs.Refusing.{memory_at, no_fault}

@@ -27,7 +27,7 @@ use Rattle.std.specs.contracts.impls.GlobalAllocator.TheImpl.{ghosts}
 use Rattle.std.specs.declared.alloc.Global.{Global}
 use Rattle.std_alloc.specs.Box.Ownership.{box_owns}
 use Rattle.lift_world.specs.Worlds.{WorldOf}
-use Rattle.lift_round.specs.contracts.kept.Rounds as rounds
+use Rattle.lift_runs.specs.contracts.kept.Rounds as rounds
 use Rattle.lift_hold.specs.Holding.{RoundsOf, holds}
 use Rattle.lift_hold.specs.contracts.held.Held as held
 use Rattle.lift_hold.proofs.Values.{both, Unboxed, unboxed_good, unboxed_in}

@@ -24,7 +24,7 @@ use Rattle.std.proofs.alloc.Global.TheLaws as heap_laws
 use Rattle.std.specs.contracts.impls.GlobalAllocator.TheImpl.{ghosts}
 use Rattle.std.specs.declared.alloc.Global.{Global}
 use Rattle.lift_world.specs.Worlds.{WorldOf}
-use Rattle.lift_round.specs.contracts.kept.Rounds as rounds
+use Rattle.lift_runs.specs.contracts.kept.Rounds as rounds
 use Rattle.lift_hold.specs.Holding.{RoundsOf, boxes}
 use Rattle.lift_hold.proofs.Values.{both, Unboxed, unboxed_good, unboxed_out}
 use Rattle.lift_hold.proofs.HeldValues.{lone, held_in}

@@ -11,20 +11,20 @@ use Rattle.lift_serve.proofs.server.Server.events_in.Goals as goal
 
 pub overflow_add-result-in-Round : goal.overflow_add-result-in-Round
 overflow_add-result-in-Round c =
-    let p = c.args.self.now.world.program in
+    let p = c.args.self.now.rounds.world.program in
     let fit = sizes_fit p.config (subst (λ (x : Program). IsRunnable x.config) c.verified.ensures c.config-config.ensures.runnable) in
-    let few = entries_fit p.config c.args.self.now.tasks c.requires.tasks fit.0.1 in
+    let few = entries_fit p.config c.args.self.now.rounds.tasks c.args.self.now.rounds.fits fit.0.1 in
     let low = fit.1.1 in
     let floors : c.from.result ≡ (sizes_of p.config).floors = c.from.ensures ∙ ap (λ (s : Sizes). s.floors) c.sizes.ensures in
-    let many : c.len.result ≡ length c.args.self.now.tasks = search rules in
+    let many : c.len.result ≡ length c.args.self.now.rounds.tasks = search rules in
     omega (arith, few, low, floors, many)
 
 pub returns-in-Round : goal.returns-in-Round
 returns-in-Round c =
-    let p = c.args.self.now.world.program in
+    let p = c.args.self.now.rounds.world.program in
     let floors : c.from.result ≡ (sizes_of p.config).floors = c.from.ensures ∙ ap (λ (s : Sizes). s.floors) c.sizes.ensures in
-    let many : c.len.result ≡ length c.args.self.now.tasks = search rules in
-    let tasks = ap length c.requires.tasks in
+    let many : c.len.result ≡ length c.args.self.now.rounds.tasks = search rules in
+    let tasks = ap length c.args.self.now.rounds.fits in
     let events = ap (λ (s : Said). length (events_of p.config s)) c.in-Round.is in
     let all = round_length p.config c.in-Round.field-0 in
     omega (arith, floors, many, tasks, events, all)

@@ -12,4 +12,4 @@ returns-then-is_err-2-clause-fault g c =
     let front : AppendsFront old new c.deref.result.now = search rules in
     let text : c.deref.result.now ≡ record_text (string_bytes s.gathers) (string_bytes s.scans) c.args.line.now s.count c.sizes-sizes.result c.args.said.now = search rules in
     let failed : g.T.Sink.has_failed c.put_all.new.sink ≡ true = search rules in
-    (failed, subst (AppendsFront old new) (text ∙ record_is s.world.program.config c.args.line.now (string_bytes s.gathers) (string_bytes s.scans) s.count c.sizes-sizes.result c.args.said.now c.sizes-sizes.ensures c.requires.says c.requires.server.gathers c.requires.server.scans) front)
+    (failed, subst (AppendsFront old new) (text ∙ record_is s.rounds.world.program.config c.args.line.now (string_bytes s.gathers) (string_bytes s.scans) s.count c.sizes-sizes.result c.args.said.now c.sizes-sizes.ensures c.requires.says c.requires.server.gathers c.requires.server.scans) front)

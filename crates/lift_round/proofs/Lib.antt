@@ -1,2 +1,0 @@
-pub mod Doing
-pub mod Few

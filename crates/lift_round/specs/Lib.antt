@@ -1,2 +1,0 @@
-pub mod Notices
-pub mod Rounds
