@@ -33,13 +33,13 @@ use Rattle.il_rules.specs.Names.{Spelling, BlockVariables, Meaning, MeansVariabl
 use Rattle.il_rules.specs.Declarations as rule
 use Rattle.il_rules.specs.Declarations.{unless, scalar_numbers, scalar_form_numbers, array_numbers, array_form_numbers, called_numbers, called_form_numbers, index_name_numbers, member_numbers, member_form_numbers, reference_numbers, argument_name_numbers, short_form_name_numbers, name_numbers, is_visible, Admitted, ScalarsAlone, ScalarsAndArrays, has_value, subrange_numbers, bounds_numbers, admits_arrays, admits_instances, instance_numbers, type_numbers, types_in, admitted_variables, result_types, unit_types, written_types, global_form, IsNameBroken, IsTypeBroken, IsExternal, IsUnknown, unknown_type, unknown_global, unknown_name}
 use Rattle.il_rules.specs.Types.{instance_block, block_of, label_place, HasUnknownLabel, unknown_label}
-use Rattle.il_reasons.specs.declared.names_meant.Access.{Access}
-use Rattle.il_reasons.specs.declared.names_meant.Access.TheVariants.{Reads, Stores}
-use Rattle.il_reasons.specs.NamesNear.{Nearest, hint, ending, nearest}
-use Rattle.il_reasons.specs.NameSpots.{is_at}
-use Rattle.il_reasons.specs.NamesKnown.{variables_near, functions_near, blocks_near, globals_near}
-use Rattle.il_reasons.specs.NamesLabels.{missing_line, missing_text, labels_near, jump_text}
-use Rattle.il_reasons.specs.NamesUnknown.{unknown_variable, meant_by, meant_by_form, unknown_line, unseen_line, no_function_line, instance_line, unit_line, standard_line, no_instance_line, no_word, no_word_line, unknown_text, scalar_by, meaning_by, member_by, rule_access, reference_text, read_text, index_text, argument_text, short_form_text, function_text, instruction_text, form_text, type_text, global_text, external_text, externals_text, types_text, unit_text, unknown_lines}
+use Rattle.il_name_reasons.specs.declared.names_meant.Access.{Access}
+use Rattle.il_name_reasons.specs.declared.names_meant.Access.TheVariants.{Reads, Stores}
+use Rattle.il_name_reasons.specs.NamesNear.{Nearest, hint, ending, nearest}
+use Rattle.il_name_reasons.specs.NameSpots.{is_at}
+use Rattle.il_name_reasons.specs.NamesKnown.{variables_near, functions_near, blocks_near, globals_near}
+use Rattle.il_name_reasons.specs.NamesLabels.{missing_line, missing_text, labels_near, jump_text}
+use Rattle.il_name_reasons.specs.NamesUnknown.{unknown_variable, meant_by, meant_by_form, unknown_line, unseen_line, no_function_line, instance_line, unit_line, standard_line, no_instance_line, no_word, no_word_line, unknown_text, scalar_by, meaning_by, member_by, rule_access, reference_text, read_text, index_text, argument_text, short_form_text, function_text, instruction_text, form_text, type_text, global_text, external_text, externals_text, types_text, unit_text, unknown_lines}
 use Rattle.il_reasons.specs.NamesTold.{HasLine}
 use Rattle.il_reasons.specs.TreeReasons.{instruction_lines, step_lines, unit_lines, place_lines, tree_lines, AreToldOfTree}
 

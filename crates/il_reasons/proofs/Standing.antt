@@ -6,7 +6,7 @@ use Rattle.il_spec.specs.declared.token.Token.{Token}
 use Rattle.il_reasons.specs.declared.expected.Expected.{Expected}
 use Rattle.il_reasons.specs.ExpectedKinds.{ExpectedKind, kind_of, expected_kinds}
 use Rattle.il_reasons.specs.TokenReasons.{IsOfLanguage, going_on, CanStand, CanStandOf, token_at, found_line, expected_line, AreToldOfToken, AddsKind}
-use Rattle.il_reasons.proofs.TypeTexts.{take_next}
+use Rattle.il_name_reasons.proofs.TypeTexts.{take_next}
 
 -- the next kind is left out
 left_out : (text : List ℕ) (offset : ℕ) (kinds all : List ExpectedKind) (next : ExpectedKind) → CanStandOf text offset kinds all → CanStandOf text offset kinds (all ++ next ∷ [])

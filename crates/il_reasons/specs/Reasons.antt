@@ -8,7 +8,7 @@ use Rattle.il_spec.specs.Grammar.{Spells}
 use Rattle.lift_load.specs.Loading.{SpellsNone, HasTokens}
 use Rattle.il_reasons.specs.ChainReasons.{AreToldOfChains}
 use Rattle.il_reasons.specs.CostReasons.{AreToldOfCosts}
-use Rattle.il_reasons.specs.RangeReasons.{AreToldOfRanges}
+use Rattle.il_range_reasons.specs.RangeReasons.{AreToldOfRanges}
 use Rattle.il_reasons.specs.TokenReasons.{AreToldOfToken}
 use Rattle.il_reasons.specs.TreeReasons.{AreToldOfTree}
 

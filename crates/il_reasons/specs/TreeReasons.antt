@@ -5,16 +5,16 @@ use Rattle.il_spec.specs.declared.tree.Instruction.{Instruction}
 use Rattle.il_spec.specs.declared.tree.Place.{Place}
 use Rattle.il_spec.specs.declared.tree.Step.{Step}
 use Rattle.il_spec.specs.declared.tree.Unit.{Unit as ProgramUnit}
-use Rattle.il_reasons.specs.ArgumentReasons.{taken_lines}
-use Rattle.il_reasons.specs.InitialReasons.{initials_lines}
-use Rattle.il_reasons.specs.KindReasons.{kind_lines}
-use Rattle.il_reasons.specs.NamesAgain.{again_lines}
-use Rattle.il_reasons.specs.NamesLabels.{jump_text}
-use Rattle.il_reasons.specs.NamesTargets.{targets_text}
-use Rattle.il_reasons.specs.NamesUnknown.{instruction_text, unknown_lines}
-use Rattle.il_reasons.specs.ResultReasons.{IsResultToldIf}
-use Rattle.il_reasons.specs.TypeReasons.{is_type_number, type_lines}
-use Rattle.il_reasons.specs.WrittenReasons.{misplaced_lines}
+use Rattle.il_type_reasons.specs.ArgumentReasons.{taken_lines}
+use Rattle.il_type_reasons.specs.InitialReasons.{initials_lines}
+use Rattle.il_type_reasons.specs.KindReasons.{kind_lines}
+use Rattle.il_name_reasons.specs.NamesAgain.{again_lines}
+use Rattle.il_name_reasons.specs.NamesLabels.{jump_text}
+use Rattle.il_name_reasons.specs.NamesTargets.{targets_text}
+use Rattle.il_name_reasons.specs.NamesUnknown.{instruction_text, unknown_lines}
+use Rattle.il_type_reasons.specs.ResultReasons.{IsResultToldIf}
+use Rattle.il_type_reasons.specs.TypeReasons.{is_type_number, type_lines}
+use Rattle.il_type_reasons.specs.WrittenReasons.{misplaced_lines}
 
 -- of the names of an instruction
 abbrev pub named_lines : Config → ProgramUnit → ℕ → Instruction → List ℕ

@@ -5,8 +5,8 @@ ghost use Rattle.texts.specs.Puts.{Puts};
 ghost use Rattle.il_rules.specs.Names.{or_else};
 ghost use Rattle.il_reasons.specs.ChainReasons.{UsesIn, use_text, AreAdded, is_named, is_apart, is_number, is_own, is_call_of, is_type_of, call_line, instance_line, use_line};
 
-use crate::names_spots::unit_at;
-use crate::writing::{put_numbered, put_three};
+use il_name_reasons::names_spots::unit_at;
+use il_name_reasons::writing::{put_numbered, put_three};
 use il_scope::Scoped;
 use il_scope::entry::BlockType;
 use il_spec::tree::{Declaration, Form, Instruction, Step, Unit};

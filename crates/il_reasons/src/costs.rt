@@ -5,7 +5,7 @@ ghost use Rattle.texts.specs.Puts.{Puts};
 ghost use Rattle.il_verify.specs.Rounds.{unit_ways, line_at};
 ghost use Rattle.il_reasons.specs.CostReasons.{costs_of, places_by, is_callee, is_run_by, run_at, runs_of, costs_text, once_text, often_text, run_line, runs_lines, own_line, most_lines, heading_lines, AreToldOfCosts};
 
-use crate::writing::put_two;
+use il_name_reasons::writing::put_two;
 use il_scope::Scoped;
 use il_spec::tree::{Body, Place, Unit};
 use il_verify::costs::{all_ways, longest};

@@ -13,38 +13,8 @@ mod chains;
 mod costs;
 mod expected;
 mod expected_search;
-mod names_again;
-mod names_known;
-mod names_labels;
-mod names_meant;
-mod names_near;
-mod names_spots;
-mod names_stores;
-mod names_targets;
-mod names_tasks;
-mod names_unknown;
-mod range_arguments;
-mod range_divisors;
-mod range_indexes;
-mod range_inputs;
-mod range_operands;
-mod range_results;
-mod range_stores;
-mod range_words;
-mod ranges;
 mod tree;
-mod types;
-mod types_arguments;
-mod types_initials;
-mod types_inputs;
-mod types_kinds;
-mod types_operands;
-mod types_results;
-mod types_wanted;
-mod types_words;
-mod types_written;
 mod unexpected;
-mod writing;
 
 use il_parse::parse;
 use il_rules::Written;
@@ -53,14 +23,13 @@ use il_spec::fault::Refusal;
 use il_spec::tree::Place;
 use il_text::tokens;
 use std::alloc::{AllocError, Global};
-pub use types_wanted::result_must_be;
 
 /// What is told of the refusal of a text with a number at a place: lines, each with its line feed, or none (own rule).
 pub fn reason(alloc: Global, text: &[u8], number: u16, place: Place) -> Result<Vec<u8>, AllocError>
     ensures { IfOk result (λ lines. IsReason text.now number place lines.items) }
 {
     if is_of_ranges(number) {
-        ranges::told(alloc, text, number, place)
+        il_range_reasons::ranges::told(alloc, text, number, place)
     } else {
         of_tree(alloc, text, number, place)
     }

@@ -4,7 +4,8 @@ ghost use Rattle.std.specs.Prelude.{◌≡◌};
 ghost use Rattle.lift_journal.specs.Rounds.{tasks_in_order};
 
 use crate::notice::Notices;
-use crate::rounds::{round, tasks_in};
+use crate::rounds::round;
+use crate::steps::tasks_in;
 use lift_spec::report::Report;
 use lift_spec::{Bounded, Fields, TASK_PLACES};
 use lift_world::World;

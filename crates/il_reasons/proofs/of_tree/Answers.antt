@@ -1,5 +1,5 @@
 use Rattle.il_reasons.specs.Reasons.{spelled}
-use Rattle.il_reasons.proofs.Pieces.{if_ok}
+use Rattle.il_name_reasons.proofs.Pieces.{if_ok}
 use Rattle.il_reasons.proofs.of_tree.Goals as goal
 
 pub returns-in-Ok : goal.returns-in-Ok

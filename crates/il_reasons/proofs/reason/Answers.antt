@@ -1,6 +1,6 @@
 use Rattle.std.proofs.Common.{sym, ◌∙◌}
 use Rattle.il_reasons.specs.Reasons.{of_ranges}
-use Rattle.il_reasons.proofs.Pieces.{if_ok}
+use Rattle.il_name_reasons.proofs.Pieces.{if_ok}
 use Rattle.il_reasons.proofs.reason.Goals as goal
 
 pub returns-then-is_of_ranges : goal.returns-then-is_of_ranges

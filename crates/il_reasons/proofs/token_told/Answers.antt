@@ -1,4 +1,4 @@
-use Rattle.il_reasons.proofs.Pieces.{if_ok}
+use Rattle.il_name_reasons.proofs.Pieces.{if_ok}
 use Rattle.il_reasons.proofs.NothingSpelled.{no_tokens, token_told}
 use Rattle.il_reasons.proofs.token_told.Goals as goal
 

@@ -2,7 +2,7 @@ use Rattle.std.proofs.Common.{subst, sym, ◌∙◌}
 use Rattle.il_spec.specs.declared.tree.Config.{Config}
 use Rattle.il_reasons.specs.ChainReasons.{AreToldOfChains}
 use Rattle.il_reasons.specs.Reasons.{of_chains}
-use Rattle.il_reasons.proofs.Pieces.{if_ok}
+use Rattle.il_name_reasons.proofs.Pieces.{if_ok}
 use Rattle.il_reasons.proofs.told.Goals as goal
 
 pub returns-then-is_of_chains : goal.returns-then-is_of_chains

@@ -1,6 +1,6 @@
 use Rattle.std.proofs.Common.{sym, subst, string_bytes}
 use Rattle.il_reasons.specs.ChainReasons.{AreAdded}
-use Rattle.il_reasons.proofs.Pieces.{if_ok}
+use Rattle.il_name_reasons.proofs.Pieces.{if_ok}
 use Rattle.il_reasons.proofs.ChainUses.{next_added}
 use Rattle.il_reasons.proofs.chain_uses.+put_uses.Goals as goal
 

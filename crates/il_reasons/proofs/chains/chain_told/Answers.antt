@@ -1,6 +1,6 @@
 use Rattle.std.proofs.Common.{ap, string_bytes, rules, ◌≡◌, true}
 use Rattle.il_reasons.specs.ChainReasons.{is_apart}
-use Rattle.il_reasons.proofs.Pieces.{of_some}
+use Rattle.il_name_reasons.proofs.Pieces.{of_some}
 use Rattle.il_reasons.proofs.ChainUses.{along_told}
 use Rattle.il_reasons.proofs.chains.chain_told.Goals as goal
 

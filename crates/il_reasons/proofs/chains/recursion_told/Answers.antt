@@ -1,5 +1,5 @@
 use Rattle.std.proofs.Common.{ap, string_bytes}
-use Rattle.il_reasons.proofs.Pieces.{of_some}
+use Rattle.il_name_reasons.proofs.Pieces.{of_some}
 use Rattle.il_reasons.proofs.ChainUses.{around_told}
 use Rattle.il_reasons.proofs.chains.recursion_told.Goals as goal
 

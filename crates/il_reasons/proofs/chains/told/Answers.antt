@@ -1,7 +1,7 @@
 use Rattle.std.proofs.Common.{ap, ◌∙◌}
 use Rattle.il_spec.specs.declared.tree.Config.{Config}
 use Rattle.il_reasons.specs.ChainReasons.{recursion, long}
-use Rattle.il_reasons.proofs.Pieces.{if_ok}
+use Rattle.il_name_reasons.proofs.Pieces.{if_ok}
 use Rattle.il_reasons.proofs.ChainUses.{unit_is_at}
 use Rattle.il_reasons.proofs.chains.told.Goals as goal
 

@@ -4,7 +4,7 @@ use Rattle.std.specs.Prelude.{string_bytes}
 use Rattle.il_spec.specs.declared.tree.Config.{Config}
 use Rattle.il_scope.proofs.Seen.{read_at}
 use Rattle.il_reasons.specs.CostReasons.{heading_lines}
-use Rattle.il_reasons.proofs.TypeTexts.{item_more}
+use Rattle.il_name_reasons.proofs.TypeTexts.{item_more}
 use Rattle.il_reasons.proofs.PathRuns.{heading_is}
 use Rattle.il_reasons.proofs.costs.put_units.Goals as goal
 

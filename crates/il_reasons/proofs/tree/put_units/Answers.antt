@@ -4,7 +4,7 @@ use Rattle.std.specs.Prelude.{string_bytes}
 use Rattle.il_spec.specs.declared.tree.Config.{Config}
 use Rattle.il_scope.proofs.Seen.{read_at}
 use Rattle.il_reasons.specs.TreeReasons.{unit_lines}
-use Rattle.il_reasons.proofs.TypeTexts.{item_more}
+use Rattle.il_name_reasons.proofs.TypeTexts.{item_more}
 use Rattle.il_reasons.proofs.tree.put_units.Goals as goal
 
 pub units-preserved : goal.units-preserved

@@ -2,7 +2,7 @@ use Rattle.std.proofs.Common.{◌≡◌, ◌++◌, List, map, subst, sym}
 use Rattle.il_reasons.specs.declared.expected.Expected.{Expected}
 use Rattle.il_reasons.specs.ExpectedKinds.{kind_of}
 use Rattle.il_reasons.specs.TokenReasons.{expected_line}
-use Rattle.il_reasons.proofs.Pieces.{on_ok}
+use Rattle.il_name_reasons.proofs.Pieces.{on_ok}
 use Rattle.il_reasons.proofs.unexpected.put_expected.Goals as goal
 
 pub returns-in-Some : goal.returns-in-Some

@@ -1,5 +1,5 @@
 use Rattle.std.specs.Prelude.{codes}
-use Rattle.il_reasons.proofs.Pieces.{join, on_ok}
+use Rattle.il_name_reasons.proofs.Pieces.{join, on_ok}
 use Rattle.il_reasons.proofs.unexpected.put_first.Goals as goal
 
 pub returns : goal.returns

@@ -1,6 +1,6 @@
 use Rattle.std.proofs.Common.{◌∙◌}
 use Rattle.il_reasons.specs.ExpectedKinds.{kind_of}
-use Rattle.il_reasons.proofs.Pieces.{if_ok}
+use Rattle.il_name_reasons.proofs.Pieces.{if_ok}
 use Rattle.il_reasons.proofs.Standing.{stands}
 use Rattle.il_reasons.proofs.unexpected.spells_with.Goals as goal
 

@@ -1,0 +1,9 @@
+pub mod NameSpots
+pub mod NamesAgain
+pub mod NamesKnown
+pub mod NamesLabels
+pub mod NamesNear
+pub mod NamesStores
+pub mod NamesTargets
+pub mod NamesTasks
+pub mod NamesUnknown

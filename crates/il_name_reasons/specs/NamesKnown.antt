@@ -1,0 +1,43 @@
+-- The names that could have been meant (own rules).
+use Rattle.std.specs.Prelude.{if◌then◌else◌, List, [], ◌∷◌, ◌++◌, map, flat_map, is_some}
+use Rattle.il_spec.specs.declared.tree.Config.{Config}
+use Rattle.il_spec.specs.declared.tree.Unit.{Unit as ProgramUnit}
+use Rattle.il_rules.specs.Names.{Spelling, ImageName, image_of, variable_named, is_function, is_function_block, standard_functions, standard_blocks}
+use Rattle.il_rules.specs.Declarations.{names_in, unit_names}
+use Rattle.il_name_reasons.specs.NameSpots.{heading}
+use Rattle.il_name_reasons.specs.NamesNear.{Known, declared_name, predeclared_name}
+
+-- a unit that is a function
+abbrev pub own_function : ProgramUnit → List Known
+own_function unit = if is_function unit then declared_name (heading unit) ∷ [] else []
+
+-- a unit that is a function block
+abbrev pub own_block : ProgramUnit → List Known
+own_block unit = if is_function_block unit then declared_name (heading unit) ∷ [] else []
+
+-- a name of the image that means a variable in a unit
+unfoldable pub seen_image : Config → ProgramUnit → Spelling → List Known
+seen_image config unit name = if is_some (variable_named config unit name) then predeclared_name name ∷ [] else []
+
+-- the image names that a unit sees, in the order of their table
+unfoldable pub images_near : Config → ProgramUnit → List Known
+images_near config unit = flat_map (λ (i : ImageName). seen_image config unit i.variable.name) (image_of config.cars.value config.floors.value config.slots.value)
+
+-- the globals
+abbrev pub globals_near : Config → List Known
+globals_near config = map declared_name (names_in config.globals)
+
+-- the variables of a unit: a function's result, those that it declares, the globals, then the image names that it sees
+abbrev pub variables_near : Config → ProgramUnit → List Known
+variables_near config unit =
+    own_function unit
+    ++ (map declared_name (unit_names unit)
+    ++ (globals_near config ++ images_near config unit))
+
+-- the functions, own ones first
+abbrev pub functions_near : Config → List Known
+functions_near config = flat_map own_function config.units ++ map (λ f. predeclared_name f.0) standard_functions
+
+-- the function blocks, own ones first
+abbrev pub blocks_near : Config → List Known
+blocks_near config = flat_map own_block config.units ++ map (λ b. predeclared_name b.0) standard_blocks

@@ -1,0 +1,4 @@
+pub mod ArgumentTexts
+pub mod ResultPasses
+pub mod TypeInputs
+pub mod WantedLaws

@@ -1,0 +1,178 @@
+// The type of the current result at an instruction: one pass over its unit, up to it (IEC 61131-3:2003, 3.2.2).
+
+ghost use Rattle.std.specs.Prelude.{◌≡◌, ◌<◌, ℕ, None, Some, Option, IfOk, IfSome, OnOk, length, slice_get, string_bytes};
+ghost use Rattle.texts.specs.Puts.{Puts};
+ghost use Rattle.il_spec.specs.declared.tree.Step.{Step as StepOf};
+ghost use Rattle.il_rules.specs.Types.{opener, IsResultAt, IsDeferredAt};
+ghost use Rattle.il_type_reasons.specs.ResultReasons.{result_line, aside_line, deferred_lines, tested_line, result_lines, IsResultOf, IsResultTold};
+
+use crate::types_operands::type_word;
+use il_name_reasons::writing::put_three;
+use il_scope::{Scoped, UnitScope};
+use il_spec::tree::{Body, Condition, Elementary, Instruction, Operator, Step};
+use il_typed::places::{fresh, innermost, pass_on, result_at, set_aside};
+use il_typed::scope::Scope;
+use std::alloc::{AllocError, Global};
+
+// What types come to a place: of the current result, and of what waits for a `)`.
+#[derive(Clone, Copy)]
+struct Types {
+    result: Option<Elementary>,
+    deferred: Option<(Operator, Option<Elementary>)>,
+}
+
+// The types that come to a place.
+fn types_at<S: Scope>(
+    alloc: Global,
+    scope: &S,
+    body: &Body,
+    place: usize,
+) -> Result<Types, AllocError>
+    requires body { (S.unit scope.now).body ≡ body.now }
+    requires room { length body.now.steps < 4294967295 }
+    requires stands { place < length body.now.steps }
+    ensures result { IfOk result (λ t.
+        IsResultAt (S.config scope.now) (S.unit scope.now) place t.result) }
+    ensures waits { IfOk result (λ t. IsDeferredAt (S.config scope.now) (S.unit scope.now)
+        (opener (S.unit scope.now).body place) t.deferred) }
+{
+    let steps = body.steps.as_slice();
+    let mut table = fresh(alloc, steps.len())?;
+    let mut waiting = Vec::new(alloc);
+    for at in 0..place {
+        let step = &steps[at];
+        let arrival = table[at];
+        let deferred = innermost(waiting.as_slice());
+        pass_on(scope, at, &step.instruction, arrival, deferred, &mut table);
+        set_aside(&mut waiting, &step.instruction, result_at(arrival))?;
+    }
+    let reached = table[place];
+    let outer = innermost(waiting.as_slice());
+    Ok(Types {
+        result: result_at(reached),
+        deferred: outer,
+    })
+}
+
+// `the current result is INT`
+fn put_result(text: &mut String, found: Option<Elementary>) -> Result<(), AllocError>
+    ensures { OnOk result (Puts text.old text.new (result_line found)) }
+{
+    match found {
+        Some(found) => put_three(text, "the current result is ", type_word(found), "\n"),
+        None => text.push_str("there is no current result of one type on all paths\n"),
+    }
+}
+
+// `the result before the parenthesis is INT`
+fn put_aside(text: &mut String, found: Option<Elementary>) -> Result<(), AllocError>
+    ensures { OnOk result (Puts text.old text.new (aside_line found)) }
+{
+    match found {
+        Some(found) => put_three(
+            text,
+            "the result before the parenthesis is ",
+            type_word(found),
+            "\n",
+        ),
+        None => { text.push_str("before the parenthesis there is none of one type on all paths\n") }
+    }
+}
+
+// The same, where one was set aside.
+fn put_deferred(
+    text: &mut String,
+    deferred: Option<(Operator, Option<Elementary>)>,
+) -> Result<(), AllocError>
+    ensures { OnOk result (Puts text.old text.new (deferred_lines deferred)) }
+{
+    match deferred {
+        Some((_, found)) => put_aside(text, found),
+        None => Ok(()),
+    }
+}
+
+// The current result, where a condition tests it.
+fn put_tested(
+    text: &mut String,
+    condition: Condition,
+    found: Option<Elementary>,
+) -> Result<(), AllocError>
+    ensures { OnOk result (Puts text.old text.new (tested_line condition found)) }
+{
+    match condition {
+        Condition::Always => Ok(()),
+        _ => put_result(text, found),
+    }
+}
+
+// What an instruction takes of the current result.
+fn put_taken(text: &mut String, instruction: &Instruction, types: Types) -> Result<(), AllocError>
+    ensures { OnOk result (Puts text.old text.new (result_lines instruction.now types.result types.deferred)) }
+{
+    match instruction {
+        Instruction::Load { .. } => Ok(()),
+        Instruction::Evaluate => {
+            put_result(text, types.result)?;
+            put_deferred(text, types.deferred)
+        }
+        Instruction::Jump { condition, .. } => put_tested(text, *condition, types.result),
+        Instruction::Return { condition } => put_tested(text, *condition, types.result),
+        Instruction::Call { condition, .. } => put_tested(text, *condition, types.result),
+        _ => put_result(text, types.result),
+    }
+}
+
+// What is told of the instruction at a place.
+fn told_at(
+    alloc: Global,
+    scope: &UnitScope<'_>,
+    place: usize,
+    instruction: &Instruction,
+) -> Result<String, AllocError>
+    requires room { length scope.now.unit.body.steps < 4294967295 }
+    requires stands { place < length scope.now.unit.body.steps }
+    ensures { IfOk result (λ t.
+        IsResultOf scope.now.config scope.now.unit place instruction.now (string_bytes t)) }
+{
+    let types = types_at(alloc, scope, &scope.tree().body, place)?;
+    let mut text = String::new(alloc);
+    put_taken(&mut text, instruction, types)?;
+    Ok(text)
+}
+
+// The place of the first instruction that stands behind so many bytes.
+fn place_of(steps: &[Step], offset: u32) -> Option<usize>
+    ensures some { IfSome result (λ at. (step : StepOf)
+        × ((slice_get steps.now at ≡ Some step) × (step.place.offset ≡ offset))) }
+    ensures none { result ≡ None → (at : ℕ) (step : StepOf) → slice_get steps.now at ≡ Some step
+        → step.place.offset ≡ offset → ⊥ }
+{
+    'steps: for at in 0..steps.len() {
+        if steps[at].place.offset == offset {
+            return Some(at);
+        }
+    }
+    None
+}
+
+/// What is told of the current result at the instruction that stands behind so many bytes (own rule): its type, which all
+/// control paths to it give, and at a `)` that of the result that was set aside.
+pub fn result_told(alloc: Global, names: &Scoped, offset: u32) -> Result<String, AllocError>
+    ensures { IfOk result (λ t. IsResultTold names.now offset (string_bytes t)) }
+{
+    let _few = names.written().tree();
+    let units = names.config().units.as_slice();
+    'units: for at in 0..units.len() {
+        let unit = &units[at];
+        let steps = unit.body.steps.as_slice();
+        match place_of(steps, offset) {
+            Some(place) => {
+                let scope = UnitScope::of(names, at, unit);
+                return told_at(alloc, &scope, place, &steps[place].instruction);
+            }
+            None => {}
+        }
+    }
+    Ok(String::new(alloc))
+}
