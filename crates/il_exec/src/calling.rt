@@ -3,17 +3,17 @@
 ghost use Rattle.std.specs.Prelude.{◌≡◌, [], IsSome, Some, true};
 ghost use Rattle.il_spec.specs.declared.tree.Elementary.TheVariants.{Int};
 ghost use Rattle.il_layout.specs.Layout.{rows};
-ghost use Rattle.il_exec.specs.Effect.{with_some, operand, read, write, boolean_of, number_of};
+ghost use Rattle.il_step.specs.Effect.{with_some, operand, read, write, boolean_of, number_of};
 ghost use Rattle.il_exec.specs.Going.{acts, assigned, copied, passed};
 ghost use Rattle.il_exec.specs.Quick.{is_timer, flat_of, standard, called_behind};
-ghost use Rattle.il_exec.specs.Current.{left_of};
+ghost use Rattle.il_step.specs.Current.{left_of};
 
-use crate::blocks::call_block;
-use crate::current::Current;
 use crate::quick::{Quick, Wide};
-use crate::rows::{boolean_of, element, flag, number, number_of, put_flag, put_number, write};
 use il_layout::flat::{Assignment, Copied, Flat, Operand, Slot};
 use il_spec::tree::Condition;
+use il_step::blocks::call_block;
+use il_step::current::Current;
+use il_step::rows::{boolean_of, element, flag, number, number_of, put_flag, put_number, write};
 
 // The Boolean of a slot that has one.
 #[inline(always)]

@@ -2,16 +2,16 @@
 
 ghost use Rattle.std.specs.Prelude.{◌≡◌, ◌≢◌, ◌<◌, ◌≤◌, ◌↔◌, ◌∷◌, [], length, slice_get, option_map, IsSome, IsTrue, Some};
 ghost use Rattle.il_exec.specs.Going.{rest_of};
-ghost use Rattle.il_exec.specs.Effect.{with_some};
-ghost use Rattle.il_exec.specs.Current.{left_of};
+ghost use Rattle.il_step.specs.Effect.{with_some};
+ghost use Rattle.il_step.specs.Current.{left_of};
 ghost use Rattle.il_exec.specs.Frames.{pair_of, operator_of, truth_of, rest_of_pairs, frame_of, pairs_of};
 
-use crate::current::{Current, Kind, content_by};
 use crate::quick::Quick;
 use arrayvec::ArrayVec;
 use il_layout::flat::UnitCode;
 use il_run::value::Content;
 use il_spec::tree::{Elementary, Logic, Operator};
+use il_step::current::{Current, Kind, content_by};
 use lists::Items;
 use std::marker::Model;
 use std::mem;

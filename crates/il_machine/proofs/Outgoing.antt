@@ -32,7 +32,7 @@ use Rattle.il_layout.specs.Paths.{slot_at}
 use Rattle.il_layout.specs.Program.{own_cells, program_cells, program_code}
 use Rattle.il_layout.proofs.Paired.{stands_slot}
 use Rattle.il_layout.proofs.Tasks.{cells_once}
-use Rattle.il_exec.specs.Effect.{with_some}
+use Rattle.il_step.specs.Effect.{with_some}
 use Rattle.il_exec.specs.Going.{Stored}
 use Rattle.il_exec.specs.Framing.{state_by}
 use Rattle.lift_spec.specs.Image.{sizes_of}

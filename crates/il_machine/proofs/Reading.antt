@@ -11,7 +11,7 @@ use Rattle.il_layout.specs.declared.flat.Cell.{Cell}
 use Rattle.il_layout.specs.Layout.{Rows, rows, view_of, value_by}
 use Rattle.il_layout.specs.Paths.{slot_at}
 use Rattle.il_layout.proofs.Kept.{itself}
-use Rattle.il_exec.specs.Effect.{with_some}
+use Rattle.il_step.specs.Effect.{with_some}
 use Rattle.il_spec.specs.declared.tree.Config.{Config}
 use Rattle.il_layout.specs.Program.{own_cells, seen_cells, program_cells}
 use Rattle.il_machine.specs.Scanning.{value_at, own_view, variables_in, FitsOwn}

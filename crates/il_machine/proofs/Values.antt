@@ -12,7 +12,7 @@ use Rattle.il_machine.specs.Starting.{FitsTask}
 use Rattle.il_layout.specs.Layout.{Rows, Fits, value_by, view_of, view, AreOnce}
 use Rattle.il_layout.specs.Program.{program_cells}
 use Rattle.il_layout.proofs.Kept.{has}
-use Rattle.il_exec.specs.Effect.{with_some}
+use Rattle.il_step.specs.Effect.{with_some}
 use Rattle.il_exec.specs.Going.{Stored}
 use Rattle.lift_spec.specs.Snapshot.{Beginning, program_of, begins_by, scan_begins}
 use Rattle.lift_run_laws.specs.Tasks.{IsTaskOf}

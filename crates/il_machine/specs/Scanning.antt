@@ -18,7 +18,7 @@ use Rattle.il_rules.specs.Declarations.{declared_limits}
 use Rattle.il_run.specs.declared.value.Value.{Value}
 use Rattle.il_layout.specs.declared.flat.Cell.{Cell}
 use Rattle.il_layout.specs.Layout.{Rows, rows, Fits, view, value_by}
-use Rattle.il_exec.specs.Effect.{with_some}
+use Rattle.il_step.specs.Effect.{with_some}
 use Rattle.il_layout.specs.Program.{own_cells, seen_cells, program_code}
 use Rattle.il_exec.specs.Going.{Stored}
 use Rattle.il_exec.specs.Framing.{framed, all_frames, state_by, IsFramedScan}

@@ -7,7 +7,7 @@ ghost use Rattle.il_machine.specs.Starting.{shared_value, listed_values};
 
 use crate::rows::value;
 use crate::sharing::Transfer;
-use il_exec::rows::Rows;
+use il_step::rows::Rows;
 use il_layout::flat::Cell;
 use il_run::value::Value;
 use il_snapshot::rows::put;

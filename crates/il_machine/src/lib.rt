@@ -13,7 +13,7 @@ pub mod store;
 pub mod verified;
 
 pub use il_code::FirstRows;
-pub use il_exec::rows::Rows;
+pub use il_step::rows::Rows;
 pub use il_layout::flat::Cell;
 pub use il_run::value::Value;
 pub use il_snapshot::opening_image;

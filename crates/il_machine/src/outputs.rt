@@ -10,7 +10,7 @@ ghost use Rattle.il_machine.specs.Ran.{stands};
 
 use crate::verified::Verified;
 use il_exec::ScanState;
-use il_exec::rows::Rows;
+use il_step::rows::Rows;
 use il_layout::flat::Cell;
 use lift_spec::image::{Motor, SLOT_PLACES, Wishes};
 use lists::Bounded;

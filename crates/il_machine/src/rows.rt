@@ -7,7 +7,7 @@ ghost use Rattle.il_machine.specs.Scanning.{value_at, variables_in, FitsOwn};
 
 use crate::verified::Verified;
 use il_code::FirstRows;
-use il_exec::rows::Rows;
+use il_step::rows::Rows;
 use il_layout::flat::Cell;
 use il_rules::elementary::declared_limits;
 use il_run::value::Value;

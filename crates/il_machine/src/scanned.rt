@@ -9,7 +9,7 @@ use crate::store::Store;
 use crate::verified::Verified;
 use il_equal::same::Same;
 use il_exec::ScanState;
-use il_exec::rows::Rows;
+use il_step::rows::Rows;
 use il_layout::flat::Cell;
 use il_run::value::Value;
 use std::marker::Model;

@@ -25,7 +25,7 @@ use crate::store::Begin;
 use crate::verified::Verified;
 use il_exec::ScanState;
 use il_exec::frames::{Frame, Frames, Pairs};
-use il_exec::rows::Rows;
+use il_step::rows::Rows;
 use il_snapshot::image::write_image;
 use il_snapshot::opening_image;
 use lift_calls::book::CallBook;

@@ -11,11 +11,7 @@ use il_scope::UnitScope;
 use std::alloc::AllocError;
 
 /// A variable by its name, where it may not be stored into.
-pub fn put_variable(
-    text: &mut String,
-    here: &UnitScope<'_>,
-    name: &str,
-) -> Result<(), AllocError>
+pub fn put_variable(text: &mut String, here: &UnitScope<'_>, name: &str) -> Result<(), AllocError>
     ensures { OnOk result (Puts text.old text.new (variable_text here.now.config here.now.unit name.now)) }
 {
     put_origin(text, name, origin_named(here, name))

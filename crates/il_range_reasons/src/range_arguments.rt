@@ -7,13 +7,13 @@ ghost use Rattle.il_range_reasons.specs.RangeReasons.{of_text, input_text, input
 use crate::range_divisors::put_value;
 use crate::range_inputs::put_function;
 use crate::range_operands::{lies_in, range_at};
-use il_type_reasons::range_words::{put_line_of, put_scalar};
-use il_name_reasons::writing::{put_three, put_two};
 use il_interval::Interval;
+use il_name_reasons::writing::{put_three, put_two};
 use il_ranges::PlaceFacts;
 use il_rules::elementary::declared_limits;
 use il_scope::UnitScope;
 use il_spec::tree::{Argument, Instruction, Reference, Scalar, Subrange, Unit};
+use il_type_reasons::range_words::{put_line_of, put_scalar};
 use std::alloc::AllocError;
 
 // `input PV of C takes `

@@ -7,12 +7,12 @@ ghost use Rattle.il_type_reasons.specs.RangeWords.{ends_text, reference_text};
 ghost use Rattle.il_range_reasons.specs.RangeReasons.{operand_name, divided_by, inner_text, divisor_text, value_text};
 
 use crate::range_operands::range_at;
-use il_type_reasons::range_words::{put_range, put_reference};
 use il_interval::Interval;
 use il_ranges::PlaceFacts;
 use il_run::known::Known;
 use il_scope::UnitScope;
 use il_spec::tree::{Arithmetic, Instruction, Operator, Reference};
+use il_type_reasons::range_words::{put_range, put_reference};
 use std::alloc::AllocError;
 
 // ` D`

@@ -5,12 +5,12 @@ ghost use Rattle.texts.specs.Puts.{Puts};
 ghost use Rattle.il_range_reasons.specs.RangeReasons.{index_range, array_has_text, outside_text, element_text, operand_index_text, argument_index_text, operands_index_text, arguments_index_text, indexes_text};
 
 use crate::range_operands::{bounds_named, lies_within, only};
-use il_type_reasons::range_words::{put, put_ends, put_index_name, put_limits, put_line_of};
-use il_name_reasons::writing::put_three;
 use il_interval::Interval;
+use il_name_reasons::writing::put_three;
 use il_ranges::PlaceFacts;
 use il_scope::UnitScope;
 use il_spec::tree::{Argument, Index, Instruction, Operand, Reference, Subrange, Unit};
+use il_type_reasons::range_words::{put, put_ends, put_index_name, put_limits, put_line_of};
 use std::alloc::AllocError;
 
 // The range of an index.

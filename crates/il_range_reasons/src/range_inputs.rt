@@ -7,14 +7,14 @@ ghost use Rattle.il_range_reasons.specs.RangeReasons.{first_text, first_by, furt
 
 use crate::range_divisors::put_value;
 use crate::range_operands::{lies_in, range_at};
-use il_type_reasons::range_words::{put_range, put_scalar};
-use il_name_reasons::writing::put_three;
 use il_interval::Interval;
+use il_name_reasons::writing::put_three;
 use il_ranges::PlaceFacts;
 use il_rules::elementary::declared_limits;
 use il_run::known::Known;
 use il_scope::UnitScope;
 use il_spec::tree::{Operand, Reference, Scalar};
+use il_type_reasons::range_words::{put_range, put_scalar};
 use std::alloc::AllocError;
 
 // `the first input of F takes INT (0..9), and the result is 0..300`

@@ -136,11 +136,7 @@ fn declared_range(scalar: Option<Scalar>) -> Option<Interval>
 
 /// The range of an operand, as far as it is known: of a variable what is known of it, of an element and a member the
 /// declared range.
-pub fn range_at(
-    unit: &UnitScope,
-    known: &PlaceFacts,
-    reference: &Reference,
-) -> Option<Interval>
+pub fn range_at(unit: &UnitScope, known: &PlaceFacts, reference: &Reference) -> Option<Interval>
     ensures { result ≡ range_at unit.now known.now reference.now }
 {
     match reference {

@@ -9,7 +9,6 @@ ghost use Rattle.il_type_reasons.specs.RangeWords.{scalar_text};
 ghost use Rattle.il_range_reasons.specs.RangeReasons.{sign_text, is_end, is_operand, given_from, left_text, operated_text, operated_by, sides_text, operator_text, known_range, evaluated_text, converted_unless, absolute_text, absolute_of, function_text, invoked_text, overflow_text};
 
 use crate::range_operands::{lies_in, range_at};
-use il_type_reasons::range_words::{put, put_ends, put_range, put_scalar};
 use il_interval::Interval;
 use il_ranges::PlaceFacts;
 use il_rules::elementary::limits;
@@ -19,6 +18,7 @@ use il_scope::UnitScope;
 use il_scope::functions::standard_function;
 use il_spec::tree::{Arithmetic, Elementary, Instruction, Operator, Reference, Scalar};
 use il_transfer::may_be_zero;
+use il_type_reasons::range_words::{put, put_ends, put_range, put_scalar};
 use std::alloc::AllocError;
 
 // An elementary type without a subrange.

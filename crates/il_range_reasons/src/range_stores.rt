@@ -5,12 +5,12 @@ ghost use Rattle.texts.specs.Puts.{Puts};
 ghost use Rattle.il_range_reasons.specs.RangeReasons.{into_text, stored_text, result_text, store_text};
 
 use crate::range_operands::scalar_named;
-use il_type_reasons::range_words::{put, put_ends, put_reference, put_scalar, put_where};
 use il_interval::Interval;
 use il_ranges::PlaceFacts;
 use il_run::known::Known;
 use il_scope::UnitScope;
 use il_spec::tree::{Instruction, Reference, Scalar, Unit};
+use il_type_reasons::range_words::{put, put_ends, put_reference, put_scalar, put_where};
 use std::alloc::AllocError;
 
 // ` into V : INT (0..9), declared in line 3`

@@ -200,12 +200,7 @@ fn fault_told(
 /// What is told of a text that was refused with a number at a place, by the ranges that are known there (own rule): of 40
 /// both sides of an operator with what it gives, of 41 the divisor, of 42 each index that may lie outside with the array's
 /// bounds, of 43 what is stored and the target with its type, of 44 each argument of an instance that may lie outside.
-pub fn told(
-    alloc: Global,
-    text: &[u8],
-    number: u16,
-    place: Place,
-) -> Result<Vec<u8>, AllocError>
+pub fn told(alloc: Global, text: &[u8], number: u16, place: Place) -> Result<Vec<u8>, AllocError>
     ensures { IfOk result (λ lines. AreToldOfRanges text.now number place lines.items) }
 {
     match numbered(number) {

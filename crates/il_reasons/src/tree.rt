@@ -15,14 +15,14 @@ use il_name_reasons::names_again::put_again_at;
 use il_name_reasons::names_labels::put_jump;
 use il_name_reasons::names_targets::put_targets;
 use il_name_reasons::names_unknown::{put_instruction as put_names, put_unknown_at};
+use il_scope::{Scoped, UnitScope};
+use il_spec::tree::{Config, Instruction, Place, Step, Unit};
 use il_type_reasons::types::{is_type_number, put_types};
 use il_type_reasons::types_arguments::put_taken;
 use il_type_reasons::types_initials::put_initials;
 use il_type_reasons::types_kinds::put_kinds;
 use il_type_reasons::types_results::result_told;
 use il_type_reasons::types_written::put_misplaced;
-use il_scope::{Scoped, UnitScope};
-use il_spec::tree::{Config, Instruction, Place, Step, Unit};
 use std::alloc::{AllocError, Global};
 
 /// What is told of a fault that the tree shows: lines, each with its line feed, or none (own rule). Of 30, 31 and 32 the type that the

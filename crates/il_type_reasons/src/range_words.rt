@@ -7,8 +7,8 @@ ghost use Rattle.il_rules.specs.Names.{or_else};
 ghost use Rattle.il_type_reasons.specs.RangeWords.{both_text, ends_text, limits_text, within_text, scalar_text, index_text, index_name, reference_text, line_among, line_in, result_line, declared_line, declared_text, instance_text, where_text};
 
 use crate::types_operands::type_word;
-use il_name_reasons::writing::{put_numbered, put_three, put_two};
 use il_interval::Interval;
+use il_name_reasons::writing::{put_numbered, put_three, put_two};
 use il_rules::elementary::declared_limits;
 use il_spec::tree::{Declaration, Index, Named, Reference, Scalar, Subrange, Unit, UnitKind};
 use std::alloc::AllocError;
@@ -252,11 +252,7 @@ fn put_instance(text: &mut String, name: &str, line: Option<u32>) -> Result<(), 
 }
 
 /// The line in which what an operand names is declared, of a member the instance.
-pub fn put_where(
-    text: &mut String,
-    unit: &Unit,
-    reference: &Reference,
-) -> Result<(), AllocError>
+pub fn put_where(text: &mut String, unit: &Unit, reference: &Reference) -> Result<(), AllocError>
     ensures { OnOk result (Puts text.old text.new (where_text unit.now reference.now)) }
 {
     match reference {

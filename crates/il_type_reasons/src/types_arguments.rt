@@ -6,8 +6,8 @@ ghost use Rattle.il_rules.specs.Names.{standard_function, further_arguments, fun
 ghost use Rattle.il_rules.specs.Types as rules;
 ghost use Rattle.il_type_reasons.specs.ArgumentReasons.{taken_count, arguments_text, standing_text, with_result, count_line, is_given, twice_line, no_input_line, no_output_line, word_line, argument_lines, arguments_lines, call_lines, taken_lines};
 
-use il_name_reasons::names_meant::{has_input, has_output};
 use crate::types_words::put_block;
+use il_name_reasons::names_meant::{has_input, has_output};
 use il_name_reasons::writing::{put_four, put_two};
 use il_rules::names::StandardFunction;
 use il_scope::UnitScope;

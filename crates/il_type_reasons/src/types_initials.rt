@@ -102,11 +102,7 @@ fn put_units(text: &mut String, offset: u32, units: &[Unit]) -> Result<(), Alloc
 }
 
 /// The names of the declaration whose initial value stands behind so many bytes, each with its type, and that value.
-pub fn put_initials(
-    text: &mut String,
-    config: &Config,
-    offset: u32,
-) -> Result<(), AllocError>
+pub fn put_initials(text: &mut String, config: &Config, offset: u32) -> Result<(), AllocError>
     ensures { OnOk result (Puts text.old text.new (initials_lines config.now offset)) }
 {
     put_units(text, offset, config.units.as_slice())?;

@@ -3,7 +3,7 @@ use denote.Param.Send.{IsSend, sendable, view_send}
 use denote.Param.SendFields.{declared_send}
 use Rattle.std.proofs.Crossing.{crosses}
 use Rattle.il_machine.specs.contracts.store.Store as Store
-use Rattle.il_exec.proofs.rows.Rows.TheSendSync as rows
+use Rattle.il_step.proofs.rows.Rows.TheSendSync as rows
 use Rattle.il_exec.proofs.scan_state.ScanState.TheSendSync as scan
 use Rattle.lift_world.specs.contracts.group.Core as Core
 use Rattle.lift_world.specs.contracts.group.Core.TheInside as CoreInside

@@ -5,7 +5,7 @@ ghost use Rattle.std.specs.Prelude.{◌≡◌, ◌+◌, [], IsSome, Some, None, 
 ghost use Rattle.il_spec.specs.declared.tree.Elementary.TheVariants.{Int, Time};
 ghost use Rattle.il_layout.specs.Layout.{rows};
 ghost use Rattle.il_rules.specs.declared.names.StandardBlock.TheVariants.{Sr, Rs, RTrig, FTrig, Ctu, Ctd, Ctud, Tp, Ton, Tof};
-ghost use Rattle.il_exec.specs.Blocks.{set_dominant_at, reset_dominant_at, detector_at, put_detector, up_counter_at, down_counter_at, put_counter, up_down_counter_at, put_up_down_counter, delay_timer_at, put_delay_timer, pulse_timer_at, put_pulse_timer, count_at, put_flag as flag_put, put_count, block_at, now_behind};
+ghost use Rattle.il_step.specs.Blocks.{set_dominant_at, reset_dominant_at, detector_at, put_detector, up_counter_at, down_counter_at, put_counter, up_down_counter_at, put_up_down_counter, delay_timer_at, put_delay_timer, pulse_timer_at, put_pulse_timer, count_at, put_flag as flag_put, put_count, block_at, now_behind};
 
 use crate::rows::{flag, milliseconds, narrow, number};
 use il_rules::names::StandardBlock;

@@ -8,7 +8,7 @@ ghost use Rattle.il_run.specs.declared.value.Value.TheVariants.{Integer};
 ghost use Rattle.il_run.specs.declared.value.Content.{Content as Left};
 ghost use Rattle.il_rules.specs.declared.names.StandardFunction.TheVariants.{Limited};
 ghost use Rattle.il_layout.specs.Layout.{rows};
-ghost use Rattle.il_exec.specs.Effect.{with_some, place, operand, number_left, computed, compared_as, operated, applied_alone, applied_to, applied_to_both, applied, loaded, stored, effect, is_straight, from_base};
+ghost use Rattle.il_step.specs.Effect.{with_some, place, operand, number_left, computed, compared_as, operated, applied_alone, applied_to, applied_to_both, applied, loaded, stored, effect, is_straight, from_base};
 
 use crate::rows::{Rows, boolean_of, element, number_of, read, write};
 use il_layout::flat::{Flat, Operand, Slot};

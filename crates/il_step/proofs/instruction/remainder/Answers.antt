@@ -4,8 +4,8 @@ use Rattle.std.proofs.lemmas.Int.{to_z-of_z}
 use Rattle.il_spec.specs.declared.tree.Arithmetic.TheVariants.{Mod}
 use Rattle.il_run.specs.declared.value.Value.TheVariants.{Integer}
 use Rattle.il_run.specs.Step.{content}
-use Rattle.il_exec.proofs.Numbers.{computes_so, remainder_is}
-use Rattle.il_exec.proofs.instruction.remainder.Goals as goal
+use Rattle.il_step.proofs.Numbers.{computes_so, remainder_is}
+use Rattle.il_step.proofs.instruction.remainder.Goals as goal
 
 pub returns : goal.returns
 returns c =

@@ -2,9 +2,9 @@ use Rattle.std.proofs.Common.{sym, ap, subst}
 use Rattle.std.specs.Prelude.{IsSome}
 use Rattle.il_layout.specs.declared.flat.Flat.TheVariants.{Apply}
 use Rattle.il_layout.specs.Layout.{rows}
-use Rattle.il_exec.specs.Effect.{applied, effect, is_straight}
-use Rattle.il_exec.proofs.Applied.{applied_there}
-use Rattle.il_exec.proofs.instruction.exec_at.Goals as goal
+use Rattle.il_step.specs.Effect.{applied, effect, is_straight}
+use Rattle.il_step.proofs.Applied.{applied_there}
+use Rattle.il_step.proofs.instruction.exec_at.Goals as goal
 
 pub applied-requires : goal.applied-requires
 applied-requires c =

@@ -9,7 +9,7 @@ use Rattle.il_spec.specs.ElementaryTypes.{limits}
 use Rattle.il_run.specs.declared.value.Value.TheVariants.{Integer}
 use Rattle.il_run.specs.Values.{is_value_in}
 use Rattle.il_run.specs.Step.{content, arithmetic, divides}
-use Rattle.il_exec.specs.Effect.{number_left, computed}
+use Rattle.il_step.specs.Effect.{number_left, computed}
 
 -- the remainder of the definition is that of the machine
 pub remainder_is : (x y : ℤ) → int_rem x y ≡ x -ℤ (int_div x y *ℤ y)

@@ -3,8 +3,8 @@ use Rattle.std.proofs.lemmas.Int.{quot_is}
 use Rattle.il_spec.specs.declared.tree.Arithmetic.TheVariants.{Div}
 use Rattle.il_run.specs.declared.value.Value.TheVariants.{Integer}
 use Rattle.il_run.specs.Step.{content}
-use Rattle.il_exec.proofs.Numbers.{computes_so}
-use Rattle.il_exec.proofs.instruction.quotient.Goals as goal
+use Rattle.il_step.proofs.Numbers.{computes_so}
+use Rattle.il_step.proofs.instruction.quotient.Goals as goal
 
 pub returns : goal.returns
 returns c =

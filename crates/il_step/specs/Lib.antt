@@ -1,0 +1,3 @@
+pub mod Blocks
+pub mod Current
+pub mod Effect
