@@ -1,7 +1,7 @@
 // What is told of a name that is declared again (20).
 
 ghost use Rattle.std.specs.Prelude.{◌≡◌, Some, None, if◌then◌else◌, OnOk, flat_map, map, option_map};
-ghost use Rattle.texts.specs.Puts.{Puts};
+ghost use Rattle.base_texts.specs.Puts.{Puts};
 ghost use Rattle.il_rules.specs.Declarations.{names_in, labels_of};
 ghost use Rattle.il_name_reasons.specs.NameSpots.{shown, spot_shown, task_name, line_name, is_at, first_of};
 ghost use Rattle.il_name_reasons.specs.NamesAgain.{again_line, unit_line, predeclared_line, earlier_line, again_text, unit_text, predeclared_text, other_text, heading_text, variable_text, unit_names_text, again_lines};

@@ -1,7 +1,7 @@
 // What is told of a label that does not stand in its unit (34).
 
 ghost use Rattle.std.specs.Prelude.{◌≡◌, IfOk, OnOk, option_map};
-ghost use Rattle.texts.specs.Puts.{Puts};
+ghost use Rattle.base_texts.specs.Puts.{Puts};
 ghost use Rattle.il_name_reasons.specs.NamesNear.{near_shown, nearest};
 ghost use Rattle.il_name_reasons.specs.NamesLabels.{missing_line, labels_near, missing_text, jump_text};
 

@@ -1,7 +1,7 @@
 // Names that are near.
 
 ghost use Rattle.std.specs.Prelude.{◌≡◌, ◌++◌, IfOk, IfSome, OnOk, map, option_map};
-ghost use Rattle.texts.specs.Puts.{Puts};
+ghost use Rattle.base_texts.specs.Puts.{Puts};
 ghost use Rattle.il_name_reasons.specs.NameSpots.{shown};
 ghost use Rattle.il_name_reasons.specs.NamesNear.{declared_name, candidate_shown, near_shown, distance, is_short, are_few, are_fewer, after_edits, nearer, nearest, IsNearest, declared_words, nearness, hint_of, hint, ending};
 

@@ -1,7 +1,7 @@
 // What is told of a place that may not be stored into (33).
 
 ghost use Rattle.std.specs.Prelude.{◌≡◌, OnOk};
-ghost use Rattle.texts.specs.Puts.{Puts};
+ghost use Rattle.base_texts.specs.Puts.{Puts};
 ghost use Rattle.il_name_reasons.specs.NamesStores.{input_line, image_line, output_line, literal_line, origin_text, origin_named, variable_text, member_text};
 
 use crate::names_meant::has_output;

@@ -1,7 +1,7 @@
 // What is told of the targets of an instruction (33, 38).
 
 ghost use Rattle.std.specs.Prelude.{OnOk, flat_map};
-ghost use Rattle.texts.specs.Puts.{Puts};
+ghost use Rattle.base_texts.specs.Puts.{Puts};
 ghost use Rattle.il_name_reasons.specs.NamesTargets.{name_text, target_text, argument_text, targets_text};
 
 use crate::names_stores::{put_literal_line, put_member, put_variable};

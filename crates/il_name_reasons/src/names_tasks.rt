@@ -2,7 +2,7 @@
 
 ghost use Rattle.std.specs.Prelude.{◌≡◌, ◌++◌, Some, IfOk, OnOk, flat_map, map, option_and_then, slice_get};
 ghost use Rattle.std.specs.List.{list_any};
-ghost use Rattle.texts.specs.Puts.{Puts};
+ghost use Rattle.base_texts.specs.Puts.{Puts};
 ghost use Rattle.il_rules.specs.Names.{is_one_of, program_named};
 ghost use Rattle.il_rules.specs.Types.{stored_names, named_variable, argument_targets};
 ghost use Rattle.il_name_reasons.specs.NamesTasks.{writer_shown, is_external, store_line, first_store, writer_at, writer_of, writers, is_other, are_two, store_of_task, writers_text, stored_text};

@@ -1,7 +1,7 @@
 // What is told of a name that is unknown where it stands (21).
 
 ghost use Rattle.std.specs.Prelude.{◌≡◌, OnOk, flat_map, is_some, map, option_map};
-ghost use Rattle.texts.specs.Puts.{Puts};
+ghost use Rattle.base_texts.specs.Puts.{Puts};
 ghost use Rattle.il_rules.specs.Names.{block_variables, function_named};
 ghost use Rattle.il_name_reasons.specs.NamesNear.{near_shown, candidate_shown, nearest};
 ghost use Rattle.il_name_reasons.specs.NamesKnown.{functions_near};

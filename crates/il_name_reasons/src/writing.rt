@@ -1,7 +1,7 @@
 // Pieces of text, one behind the other.
 
 ghost use Rattle.std.specs.Prelude.{◌++◌, OnOk, decimal};
-ghost use Rattle.texts.specs.Puts.{Puts};
+ghost use Rattle.base_texts.specs.Puts.{Puts};
 
 use std::alloc::AllocError;
 

@@ -1,7 +1,7 @@
 // What is told of an argument of an instance that may leave its input's range, and of an output that may leave its target's.
 
 ghost use Rattle.std.specs.Prelude.{◌≡◌, flat_map, OnOk};
-ghost use Rattle.texts.specs.Puts.{Puts};
+ghost use Rattle.base_texts.specs.Puts.{Puts};
 ghost use Rattle.il_range_reasons.specs.RangeReasons.{of_text, input_text, input_by, output_text, limits_in, output_by, argument_text, aim_text, arguments_text};
 
 use crate::range_divisors::put_value;

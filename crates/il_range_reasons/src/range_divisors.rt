@@ -1,7 +1,7 @@
 // What is told of a divisor that may be 0.
 
 ghost use Rattle.std.specs.Prelude.{◌≡◌, ◌++◌, OnOk, codes};
-ghost use Rattle.texts.specs.Puts.{Puts};
+ghost use Rattle.base_texts.specs.Puts.{Puts};
 ghost use Rattle.il_ranges.specs.Kinds.{is_division};
 ghost use Rattle.il_type_reasons.specs.RangeWords.{ends_text, reference_text};
 ghost use Rattle.il_range_reasons.specs.RangeReasons.{operand_name, divided_by, inner_text, divisor_text, value_text};

@@ -1,7 +1,7 @@
 // What is told of an argument of an own function that may leave its input's range.
 
 ghost use Rattle.std.specs.Prelude.{OnOk};
-ghost use Rattle.texts.specs.Puts.{Puts};
+ghost use Rattle.base_texts.specs.Puts.{Puts};
 ghost use Rattle.il_rules.specs.Names.{function_named};
 ghost use Rattle.il_range_reasons.specs.RangeReasons.{first_text, first_by, further_text, further_by, operands_told, inputs_told, function_told};
 

@@ -1,7 +1,7 @@
 // What is told of a result that may leave its type.
 
 ghost use Rattle.std.specs.Prelude.{◌≡◌, ◌++◌, OnOk, true, codes};
-ghost use Rattle.texts.specs.Puts.{Puts};
+ghost use Rattle.base_texts.specs.Puts.{Puts};
 ghost use Rattle.il_spec.specs.ElementaryTypes.{plain};
 ghost use Rattle.il_interval.specs.Interval.{IsOperand};
 ghost use Rattle.il_range_laws.specs.Found.{combined};

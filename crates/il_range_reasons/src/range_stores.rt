@@ -1,7 +1,7 @@
 // What is told of a stored value that may leave its variable's range.
 
 ghost use Rattle.std.specs.Prelude.{OnOk};
-ghost use Rattle.texts.specs.Puts.{Puts};
+ghost use Rattle.base_texts.specs.Puts.{Puts};
 ghost use Rattle.il_range_reasons.specs.RangeReasons.{into_text, stored_text, result_text, store_text};
 
 use crate::range_operands::scalar_named;

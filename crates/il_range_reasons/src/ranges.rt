@@ -1,7 +1,7 @@
 // What is told of faults of ranges.
 
 ghost use Rattle.std.specs.Prelude.{◌≡◌, ◌≢◌, [], if◌then◌else◌, IfOk, IfSome, None, OnOk, Some, slice_get, string_bytes};
-ghost use Rattle.texts.specs.Puts.{Puts};
+ghost use Rattle.base_texts.specs.Puts.{Puts};
 ghost use Rattle.il_rules.specs.Faults.{BreaksDeclarations, Broken, Typing, HasNoFault};
 ghost use Rattle.il_ranges.specs.declared.fault.RangeFault.{RangeFault as FaultOf};
 ghost use Rattle.il_ranges.specs.RangeFaults.{range_fault_number};

@@ -1,7 +1,7 @@
 // What is told of a unit that costs too much (50): what its most expensive path runs.
 
 ghost use Rattle.std.specs.Prelude.{◌≡◌, ◌==◌, ◌++◌, [], if◌then◌else◌, flat_map, map, slice_get, IfOk, OnOk};
-ghost use Rattle.texts.specs.Puts.{Puts};
+ghost use Rattle.base_texts.specs.Puts.{Puts};
 ghost use Rattle.il_verify.specs.Rounds.{unit_ways, line_at};
 ghost use Rattle.il_reasons.specs.CostReasons.{costs_of, places_by, is_callee, is_run_by, run_at, runs_of, costs_text, once_text, often_text, run_line, runs_lines, own_line, most_lines, heading_lines, AreToldOfCosts};
 

@@ -1,7 +1,7 @@
 // What is told of a fault that the tree shows: of the instruction at a place, and of what is declared there.
 
 ghost use Rattle.std.specs.Prelude.{◌≡◌, ◌++◌, Some, flat_map, slice_get, string_bytes, IfOk, OnOk};
-ghost use Rattle.texts.specs.Puts.{Puts};
+ghost use Rattle.base_texts.specs.Puts.{Puts};
 ghost use Rattle.il_rules.specs.Declarations.{IsUnknown};
 ghost use Rattle.il_rules.specs.Types.{HasUnknownLabel};
 ghost use Rattle.il_type_reasons.specs.InitialReasons.{initials_lines};

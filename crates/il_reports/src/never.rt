@@ -1,7 +1,7 @@
 // What a name is never.
 
 ghost use Rattle.std.specs.Prelude.{◌≡◌, OnOk};
-ghost use Rattle.texts.specs.Puts.{Puts};
+ghost use Rattle.base_texts.specs.Puts.{Puts};
 ghost use Rattle.il_reports.specs.Warnings.{called_never, variable_never, output_never, never_of, never_line, never_text};
 
 use std::alloc::AllocError;

@@ -1,7 +1,7 @@
 // The lines of a unit.
 
 ghost use Rattle.std.specs.Prelude.{◌≡◌, [], OnOk, string_bytes};
-ghost use Rattle.texts.specs.Puts.{Puts};
+ghost use Rattle.base_texts.specs.Puts.{Puts};
 ghost use Rattle.il_reports.specs.RangeLines.{reached_text, not_reached_text, refused_text, kind_word, heading_text};
 
 use crate::range_values::{put_result, put_variables};

@@ -1,7 +1,7 @@
 // Values and variables, as they are written.
 
 ghost use Rattle.std.specs.Prelude.{◌≡◌, ◌++◌, OnOk};
-ghost use Rattle.texts.specs.Puts.{Puts};
+ghost use Rattle.base_texts.specs.Puts.{Puts};
 ghost use Rattle.il_reports.specs.RangeLines.{type_word, range_text, result_text, variable_text, index_text, reference_text, first_text, argument_text, operands_text, arguments_text, variables_text};
 
 use il_interval::Interval;

@@ -1,7 +1,7 @@
 // The warnings of a configuration.
 
 ghost use Rattle.std.specs.Prelude.{◌≡◌, flat_map, IfOk, OnOk, string_bytes};
-ghost use Rattle.texts.specs.Puts.{Puts};
+ghost use Rattle.base_texts.specs.Puts.{Puts};
 ghost use Rattle.il_reports.specs.Names.{declared_names, name_shown};
 ghost use Rattle.il_reports.specs.Warnings.{name_never, names_text, outputs_text, unstored_text, unstored_line, unit_text, global_never, global_text, are_alike, task_line, task_text, tasks_text, warnings_text};
 

@@ -1,7 +1,7 @@
 // The cross reference of a configuration.
 
 ghost use Rattle.std.specs.Prelude.{◌≡◌, ◌++◌, ◌||◌, true, flat_map, IfOk, OnOk, string_bytes};
-ghost use Rattle.texts.specs.Puts.{Puts};
+ghost use Rattle.base_texts.specs.Puts.{Puts};
 ghost use Rattle.il_reports.specs.Names.{declared_names, name_shown};
 ghost use Rattle.il_reports.specs.Xref.{is_there, mark, behind, parts_text, manner_word, used_part, used_parts, use_lines, declared_line, declared_lines, other_line, other_lines, kind_word, heading, unit_text, global_places, global_line, globals_text, program_line, programs_text, xref_text};
 

@@ -1,7 +1,7 @@
 // What is told of the types of an instruction.
 
 ghost use Rattle.std.specs.Prelude.{◌≡◌, OnOk};
-ghost use Rattle.texts.specs.Puts.{Puts};
+ghost use Rattle.base_texts.specs.Puts.{Puts};
 ghost use Rattle.il_type_reasons.specs.TypeReasons.{is_type_number, type_lines};
 
 use crate::types_inputs::put_called;

@@ -1,7 +1,7 @@
 // The arguments of functions and calls, and what is taken (IEC 61131-3:2003, 2.5.1, 3.2.3).
 
 ghost use Rattle.std.specs.Prelude.{◌≡◌, ◌+◌, [], None, length, OnOk};
-ghost use Rattle.texts.specs.Puts.{Puts};
+ghost use Rattle.base_texts.specs.Puts.{Puts};
 ghost use Rattle.il_rules.specs.Names.{standard_function, further_arguments, function_named};
 ghost use Rattle.il_rules.specs.Types as rules;
 ghost use Rattle.il_type_reasons.specs.ArgumentReasons.{taken_count, arguments_text, standing_text, with_result, count_line, is_given, twice_line, no_input_line, no_output_line, word_line, argument_lines, arguments_lines, call_lines, taken_lines};

@@ -1,7 +1,7 @@
 // Initial values, and the names that they are for (IEC 61131-3:2003, 2.4.3.2).
 
 ghost use Rattle.std.specs.Prelude.{Some, flat_map, OnOk};
-ghost use Rattle.texts.specs.Puts.{Puts};
+ghost use Rattle.base_texts.specs.Puts.{Puts};
 ghost use Rattle.il_type_reasons.specs.InitialReasons.{declared_line, initial_lines, declaration_lines, declarations_lines, unit_initials, initials_lines};
 
 use crate::types_operands::{put_literal, type_word};

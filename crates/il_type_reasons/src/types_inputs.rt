@@ -1,7 +1,7 @@
 // The inputs of own functions, each with its type (IEC 61131-3:2003, 2.5.1).
 
 ghost use Rattle.std.specs.Prelude.{◌≡◌, flat_map, option_copied, OnOk};
-ghost use Rattle.texts.specs.Puts.{Puts};
+ghost use Rattle.base_texts.specs.Puts.{Puts};
 ghost use Rattle.il_rules.specs.Names.{function_named};
 ghost use Rattle.il_rules.specs.Types.{scalar_type};
 ghost use Rattle.il_type_reasons.specs.TypeReasons.{input_line, declared_lines, inputs_lines, called_lines};

@@ -1,7 +1,7 @@
 // Names that are no variable of the kind that their place asks for (IEC 61131-3:2003, 2.4.3, 3.2.3).
 
 ghost use Rattle.std.specs.Prelude.{◌≡◌, OnOk};
-ghost use Rattle.texts.specs.Puts.{Puts};
+ghost use Rattle.base_texts.specs.Puts.{Puts};
 ghost use Rattle.il_rules.specs.Names.{meaning};
 ghost use Rattle.il_rules.specs.Declarations.{scalar_numbers, array_numbers, called_numbers};
 ghost use Rattle.il_declare.specs.Mentions.{scalar_of, array_of, called_of};

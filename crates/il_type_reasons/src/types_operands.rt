@@ -1,7 +1,7 @@
 // The operands of instructions, each with its type.
 
 ghost use Rattle.std.specs.Prelude.{◌≡◌, OnOk};
-ghost use Rattle.texts.specs.Puts.{Puts};
+ghost use Rattle.base_texts.specs.Puts.{Puts};
 ghost use Rattle.il_type_reasons.specs.TypeWords.{type_word, truth_word, is_text, literal_line};
 ghost use Rattle.il_type_reasons.specs.TypeReasons.{name_line, index_line, element_line, member_line, reference_lines, operands_lines, argument_lines, arguments_lines, operand_lines};
 

@@ -1,7 +1,7 @@
 // The type of the current result at an instruction: one pass over its unit, up to it (IEC 61131-3:2003, 3.2.2).
 
 ghost use Rattle.std.specs.Prelude.{◌≡◌, ◌<◌, ℕ, None, Some, Option, IfOk, IfSome, OnOk, length, slice_get, string_bytes};
-ghost use Rattle.texts.specs.Puts.{Puts};
+ghost use Rattle.base_texts.specs.Puts.{Puts};
 ghost use Rattle.il_spec.specs.declared.tree.Step.{Step as StepOf};
 ghost use Rattle.il_rules.specs.Types.{opener, IsResultAt, IsDeferredAt};
 ghost use Rattle.il_type_reasons.specs.ResultReasons.{result_line, aside_line, deferred_lines, tested_line, result_lines, IsResultOf, IsResultTold};

@@ -1,7 +1,7 @@
 // The type that the current result must have at an instruction (IEC 61131-3:2003, 3.2.2, 3.2.3).
 
 ghost use Rattle.std.specs.Prelude.{◌≡◌, List, None, Some, map, OnOk};
-ghost use Rattle.texts.specs.Puts.{Puts};
+ghost use Rattle.base_texts.specs.Puts.{Puts};
 ghost use Rattle.il_spec.specs.declared.tree.Config.{Config};
 ghost use Rattle.il_spec.specs.declared.tree.Elementary.{Elementary as TypeOf};
 ghost use Rattle.il_spec.specs.declared.tree.Form.{Form};

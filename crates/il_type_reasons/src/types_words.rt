@@ -1,7 +1,7 @@
 // The words of blocks (IEC 61131-3:2003, 2.5.2).
 
 ghost use Rattle.std.specs.Prelude.{◌≡◌, ◌++◌, Some, map, flat_map, codes, IfOk, OnOk};
-ghost use Rattle.texts.specs.Puts.{Puts};
+ghost use Rattle.base_texts.specs.Puts.{Puts};
 ghost use Rattle.il_rules.specs.Names.{named_forms, standard_variables, own_block_variables};
 ghost use Rattle.il_scope.specs.Views.{variables_of_block};
 ghost use Rattle.il_scope.specs.declared.entry.BlockType.TheVariants.{Own as OwnBlock};

@@ -1,7 +1,7 @@
 // Written types that are not what their places ask for, and what is wanted there (IEC 61131-3:2003, 2.3.3.1, 2.4.3).
 
 ghost use Rattle.std.specs.Prelude.{◌≡◌, ◌++◌, flat_map, codes, decimal, OnOk};
-ghost use Rattle.texts.specs.Puts.{Puts};
+ghost use Rattle.base_texts.specs.Puts.{Puts};
 ghost use Rattle.il_spec.specs.declared.tree.Form.TheVariants.{Scalar as OfScalar};
 ghost use Rattle.il_type_reasons.specs.WrittenReasons.{written_scalar, form_text, form_words, form_line, subrange_line, form_subrange_line, array_line, instance_line, wanted_line, written_lines, global_line, global_lines, globals_lines, external_lines, result_lines, wanted_variables, unit_written, misplaced_lines};
 

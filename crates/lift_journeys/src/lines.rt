@@ -1,7 +1,7 @@
 // What `calls` prints of each call.
 
 ghost use Rattle.std.specs.Prelude.{◌≡◌, OnOk, IfOk, flat_map, string_bytes};
-ghost use Rattle.texts.specs.Puts.{Puts};
+ghost use Rattle.base_texts.specs.Puts.{Puts};
 ghost use Rattle.lift_journeys.specs.Lines.{number_text, truth_text, beginning_text, told_text, boarded_text, served_text, journey_text, lines_text};
 
 use crate::journey::{Journey, Moment, Served, Told};

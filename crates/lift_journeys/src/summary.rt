@@ -2,7 +2,7 @@
 
 ghost use Rattle.std.specs.Prelude.{◌≡◌, ◌++◌, ◌<◌, ◌≤◌, ◌*◌, ◌/◌, ℕ, OnOk, IfOk, count_by, length, sum, string_bytes, slice_index, IsPermutation, IsSorted, take, codes};
 ghost use Rattle.std.specs.Ordering.{nat_cmp};
-ghost use Rattle.texts.specs.Puts.{Puts};
+ghost use Rattle.base_texts.specs.Puts.{Puts};
 ghost use Rattle.lift_journeys.specs.Summaries.{is_told, is_boarded, is_served, ended_elsewhere, is_elsewhere, is_open, count_text, begun_text, ended_text, counts_text, time_between, waiting_time, journey_time, waiting_times, journey_times, AreOrdered, ranked, mean_of, seconds_text, middle_text, greatest_text, figures_text, IsTimesText, IsSummaryOf};
 
 use crate::journey::{Journey, Moment, Served};

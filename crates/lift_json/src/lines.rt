@@ -1,7 +1,7 @@
 // Lines as JSON.
 
 ghost use Rattle.std.specs.Prelude.{◌≡◌, IfOk, OnOk, string_bytes};
-ghost use Rattle.texts.specs.Puts.{Puts};
+ghost use Rattle.base_texts.specs.Puts.{Puts};
 ghost use Rattle.lift_json.specs.Lines.{json_text, line_text, is_object, gap, words_text};
 ghost use Rattle.lift_json.specs.Pieces.{pieces};
 

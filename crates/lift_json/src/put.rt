@@ -1,7 +1,7 @@
 // What is written of a word.
 
 ghost use Rattle.std.specs.Prelude.{◌≡◌, ◌++◌, OnOk};
-ghost use Rattle.texts.specs.Puts.{Puts};
+ghost use Rattle.base_texts.specs.Puts.{Puts};
 ghost use Rattle.lift_json.specs.Pieces.{front};
 ghost use Rattle.lift_json.specs.Lines.{quoted, key_text, value_text, pair_text, pair_end, limits_text, type_text, what_text, range_text, range_end, used_text, name_text, line_mark, unit_mark, line_or_unit, place_end, place_text, denial_text, denial_end, column_key, cell_text, word_text, end_text};
 

@@ -1,7 +1,7 @@
 // What `check` prints.
 
 ghost use Rattle.std.specs.Prelude.{◌≡◌, flat_map, IfOk, OnOk, string_bytes};
-ghost use Rattle.texts.specs.Puts.{Puts};
+ghost use Rattle.base_texts.specs.Puts.{Puts};
 ghost use Rattle.il_machine.specs.Listing.{task_lines, unit_lines, task_shown, unit_shown};
 ghost use Rattle.lift_output.specs.Listing.{task_text, unit_text, path_text, listing};
 

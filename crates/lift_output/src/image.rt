@@ -1,7 +1,7 @@
 // What `replay` prints.
 
 ghost use Rattle.std.specs.Prelude.{◌≡◌, ◌∷◌, [], length, IfOk, OnOk, string_bytes};
-ghost use Rattle.texts.specs.Puts.{Puts};
+ghost use Rattle.base_texts.specs.Puts.{Puts};
 ghost use Rattle.il_table.specs.NameMap.{get};
 ghost use Rattle.il_layout.specs.declared.flat.Cell.{Cell as CellOf};
 ghost use Rattle.il_layout.specs.Program.{global_cells};

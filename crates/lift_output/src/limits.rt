@@ -1,7 +1,7 @@
 // How much of each limit a configuration uses.
 
 ghost use Rattle.std.specs.Prelude.{◌≡◌, ◌≤◌, ◌<◌, ◌+◌, IfOk, OnOk, None, Some, false, length, map, option_map};
-ghost use Rattle.texts.specs.Puts.{Puts};
+ghost use Rattle.base_texts.specs.Puts.{Puts};
 ghost use Rattle.il_spec.specs.Grammar.{depth_after, greatest_depth};
 ghost use Rattle.il_machine.specs.Listing.{unit_lines};
 ghost use Rattle.il_order.specs.Counted.{number_at};

@@ -2,7 +2,7 @@
 
 ghost use Rattle.std.specs.Prelude.{◌≡◌, ◌≤◌, flat_map, length, map, option_copied, option_map, replicate, OnOk};
 ghost use Rattle.std.specs.List.{prefix_len};
-ghost use Rattle.texts.specs.Puts.{Puts};
+ghost use Rattle.base_texts.specs.Puts.{Puts};
 ghost use Rattle.lift_messages.specs.Places.{shown};
 ghost use Rattle.lift_scan.specs.Stands.{of_stand, reference_text};
 ghost use Rattle.lift_scan.specs.Lines.{is_within_line, shown_front, source_text, front_text, results_text, of_before, out_text, output_text, argument_text, instruction_text, step_text, call_text, left_by, left_text, names_text, line_text};

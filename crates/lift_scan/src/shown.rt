@@ -1,7 +1,7 @@
 // A scan, instruction by instruction.
 
 ghost use Rattle.std.specs.Prelude.{◌≡◌, ◌++◌, ℕ, List, IfOk, IfErr, OnOk, option_map, string_bytes, take};
-ghost use Rattle.texts.specs.Puts.{Puts};
+ghost use Rattle.base_texts.specs.Puts.{Puts};
 ghost use Rattle.lift_spec.specs.Snapshot.{task_name};
 ghost use Rattle.lift_spec.specs.World.{World as WorldOf, scan_at};
 ghost use Rattle.lift_scan.specs.Lines.{of_before};

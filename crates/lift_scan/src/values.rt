@@ -1,7 +1,7 @@
 // Values, and the paths under which a scan has them.
 
 ghost use Rattle.std.specs.Prelude.{IfOk, OnOk, string_bytes};
-ghost use Rattle.texts.specs.Puts.{Puts};
+ghost use Rattle.base_texts.specs.Puts.{Puts};
 ghost use Rattle.il_run.specs.Meaning as meaning;
 ghost use Rattle.lift_scan.specs.Stands.{value_text, result_text, named_text, indexed_text, element_text, reference_text};
 

@@ -1,7 +1,7 @@
 // What `denials` prints.
 
 ghost use Rattle.std.specs.Prelude.{◌≡◌, [], OnOk, string_bytes};
-ghost use Rattle.texts.specs.Puts.{Puts};
+ghost use Rattle.base_texts.specs.Puts.{Puts};
 ghost use Rattle.lift_watch.specs.Denials.{denial_text, refresh_denial_text, refresh_text, is_end_stop, undone_text, answer_text, denials_text, answers_text, denied};
 ghost use Rattle.lift_spec.specs.Snapshot.{task_name};
 

@@ -1,7 +1,7 @@
 // What `denials` and `watch` print along a trace.
 
 ghost use Rattle.std.specs.Prelude.{◌≡◌, ◌+◌, ◌++◌, ◌^◌, ◌<◌, ℕ, List, length, IfErr, IfOk, OnOk, string_bytes};
-ghost use Rattle.texts.specs.Puts.{Puts};
+ghost use Rattle.base_texts.specs.Puts.{Puts};
 ghost use Rattle.lift_runs.specs.Along.{IsStopped};
 ghost use Rattle.lift_spec.specs.Replies.{reply_with};
 ghost use Rattle.lift_watch.specs.Asked.{asked_at, asked_by};

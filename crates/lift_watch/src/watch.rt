@@ -1,7 +1,7 @@
 // What `watch` prints.
 
 ghost use Rattle.std.specs.Prelude.{◌≡◌, [], None, flat_map, IfOk, IfErr, OnOk, is_some, map, string_bytes, codes, pos};
-ghost use Rattle.texts.specs.Puts.{Puts};
+ghost use Rattle.base_texts.specs.Puts.{Puts};
 ghost use Rattle.lift_spec.specs.Snapshot.{from_of, to_of, car_of};
 ghost use Rattle.lift_spec.specs.World.{task_at};
 ghost use Rattle.lift_watch.specs.Asked.{nothing_asked};
