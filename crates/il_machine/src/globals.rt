@@ -7,10 +7,10 @@ ghost use Rattle.il_machine.specs.Starting.{shared_value, listed_values};
 
 use crate::rows::value;
 use crate::sharing::Transfer;
-use il_step::rows::Rows;
 use il_layout::flat::Cell;
 use il_run::value::Value;
 use il_snapshot::rows::put;
+use il_step::rows::Rows;
 
 /// The globals that a program lists, in its order: their slots among all globals.
 #[derive(Clone, Copy)]

@@ -13,10 +13,10 @@ pub mod store;
 pub mod verified;
 
 pub use il_code::FirstRows;
-pub use il_step::rows::Rows;
 pub use il_layout::flat::Cell;
 pub use il_run::value::Value;
 pub use il_snapshot::opening_image;
+pub use il_step::rows::Rows;
 pub use looking::Standpoint;
 pub use rows::variable;
 pub use scanned::{OpenScan, Scanned, scan};

@@ -10,8 +10,8 @@ ghost use Rattle.il_machine.specs.Ran.{stands};
 
 use crate::verified::Verified;
 use il_exec::ScanState;
-use il_step::rows::Rows;
 use il_layout::flat::Cell;
+use il_step::rows::Rows;
 use lift_spec::image::{Motor, SLOT_PLACES, Wishes};
 use lists::Bounded;
 

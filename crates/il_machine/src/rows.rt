@@ -7,10 +7,10 @@ ghost use Rattle.il_machine.specs.Scanning.{value_at, variables_in, FitsOwn};
 
 use crate::verified::Verified;
 use il_code::FirstRows;
-use il_step::rows::Rows;
 use il_layout::flat::Cell;
 use il_rules::elementary::declared_limits;
 use il_run::value::Value;
+use il_step::rows::Rows;
 use std::alloc::{AllocError, Global};
 
 // Copies a row to the front of another.

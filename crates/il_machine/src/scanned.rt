@@ -9,9 +9,9 @@ use crate::store::Store;
 use crate::verified::Verified;
 use il_equal::same::Same;
 use il_exec::ScanState;
-use il_step::rows::Rows;
 use il_layout::flat::Cell;
 use il_run::value::Value;
+use il_step::rows::Rows;
 use std::marker::Model;
 use std::snapshot::Snapshot;
 

@@ -6,8 +6,8 @@ ghost use Rattle.lift_spec.specs.Snapshot.{motor_number, number};
 ghost use Rattle.il_snapshot.specs.Image.{filled, call_values, group_values, car_values, position_value, motor_value, cars_values, role_values, image_values};
 
 use crate::rows::{put, put_parts};
-use il_step::rows::Rows;
 use il_run::value::Value;
+use il_step::rows::Rows;
 use lift_calls::book::CallBook;
 use lift_spec::image::{CarFields, CarOutputs, Fields, Image, Motor, SLOT_PLACES, Sizes};
 

@@ -5,9 +5,9 @@ ghost use Rattle.il_run.specs.declared.value.Value.{Value as Written};
 ghost use Rattle.il_layout.specs.Layout.{rows, number_part, flag_part};
 ghost use Rattle.il_snapshot.specs.Image.{with_slot, filled, spliced};
 
-use il_step::rows::Rows;
 use il_layout::parts::parts_of;
 use il_run::value::Value;
+use il_step::rows::Rows;
 
 /// Gives a slot a value.
 pub fn put(all: &mut Rows, at: usize, value: Value)
