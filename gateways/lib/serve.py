@@ -217,7 +217,9 @@ class Serve:
         status = self.close()
         while self.err is not None and select.select([self.err], [], [], 0)[0]:
             self.hear_errors()
-        why = next((line for line in reversed(self.said) if re.match("refused |cannot |no memory", line)), "")
+        # One that was killed said nothing; what is there then is of a child of its own.
+        reasons = [line for line in self.said if re.match("refused |cannot |no memory", line)] if status > 0 else []
+        why = reasons[-1] if reasons else ""
         number = re.match(r"refused (\d+)", why)
         how = f"by signal {-status}" if status < 0 else f"with status {status}"
         return Ended(f"serve has ended {how}{f': {why}' if why else ''}", status, int(number[1]) if number else 0)
