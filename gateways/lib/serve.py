@@ -11,7 +11,7 @@ from __future__ import annotations
 
 import contextlib, os, re, select, shutil, subprocess, time
 from dataclasses import dataclass
-from typing import Callable, NamedTuple, Sequence, Union
+from typing import Callable, NamedTuple, Sequence
 
 TOP = os.path.dirname(os.path.dirname(os.path.dirname(os.path.realpath(__file__))))
 MOST_NOW = 2_147_483_647  # ms
@@ -102,7 +102,7 @@ class Served(NamedTuple):
     car: int
 
 
-Notice = Union[Entered, Denied, Told, Served]
+Notice = Entered | Denied | Told | Served
 KINDS: dict[str, type] = {"entered": Entered, "denied": Denied, "told": Told, "served": Served}
 
 
