@@ -29,7 +29,7 @@ def resolved(host: str, port: int) -> list[tuple]:
     try:
         return socket.getaddrinfo(host, port, type=socket.SOCK_STREAM)
     except (OSError, UnicodeError) as why:
-        raise FieldFault(f"{host} is unknown: {getattr(why, 'strerror', None) or why}") from why
+        raise FieldFault(f"no address of this name: {getattr(why, 'strerror', None) or why}") from why
 
 
 class Client:
