@@ -12,7 +12,7 @@ this one can't run away from a gateway that is late.
 """
 from __future__ import annotations
 
-import argparse, asyncio, logging, os, sys, threading, time
+import argparse, asyncio, logging, os, socket, sys, threading, time
 
 from pymodbus.datastore import ModbusSequentialDataBlock, ModbusServerContext, ModbusSlaveContext
 from pymodbus.server import StartAsyncTcpServer
@@ -112,8 +112,10 @@ class Field:
 
     def serve(self, port: int):
         """Listens in a thread of its own, for as long as the process runs."""
+        socket.create_server(("127.0.0.1", port)).close()  # pymodbus says nothing where the port is taken
         context = ModbusServerContext(slaves=ModbusSlaveContext(co=self.coils, hr=self.registers, zero_mode=True), single=True)
-        threading.Thread(target=lambda: asyncio.run(StartAsyncTcpServer(context, address=("127.0.0.1", port))), daemon=True).start()
+        server = StartAsyncTcpServer(context, address=("127.0.0.1", port), allow_reuse_address=True)
+        threading.Thread(target=lambda: asyncio.run(server), daemon=True).start()
 
 
 class Shown(Field):
@@ -166,7 +168,10 @@ def main():
     field = Shown(given.cars, given.floors)
     if given.run_limit:
         field.put(RUN_LIMIT, [given.run_limit])
-    field.serve(given.port)
+    try:
+        field.serve(given.port)
+    except (OSError, OverflowError) as why:
+        sys.exit(f"field: port {given.port} of 127.0.0.1: {why}")
     try:
         for line in sys.stdin:
             hear(field, line)
