@@ -2,13 +2,15 @@
 
 Rounds count from 1, one an R line. A time in rounds is a round's number, which is that many tenths of a second.
 """
-import os, subprocess, time
+import os, sys, time
 from collections import defaultdict, deque
 from dataclasses import dataclass
 from math import ceil, floor
 from typing import Callable
 
+sys.path.append(f"{os.path.dirname(os.path.dirname(os.path.dirname(os.path.realpath(__file__))))}/gateways")  # `lib` is there too
 from lib.kinematics import Drive, flight
+from lib.serve import Ended, Serve
 from lib.traffic import Arrival, Mix, arrivals
 
 ROUND = 0.1  # s
@@ -17,7 +19,6 @@ MS_A_ROUND = 100
 MINUTE = 60  # s
 MOST_ROUNDS = 21_474_836  # NOW ends at 2147483647 ms
 RULES = 6  # of the interlock
-READ_AT_ONCE = 65_536  # bytes
 SLACK = 1e-9  # rounds, against the rounding of floats
 
 
@@ -89,40 +90,20 @@ class Timetable:
                     raise Trouble(2, "floors are too near to each other for this speed: a car passes two of them in a round")
 
 
-class Controller:
-    """`serve` as a child: lines in, the whole answer of a round out."""
+class Controller(Serve):
+    """`serve` as a child: lines in, the whole answer of a round out. What fails is a Trouble."""
 
     def __init__(self, words: list[str]):
         try:
-            self.process = subprocess.Popen(words, stdin=subprocess.PIPE, stdout=subprocess.PIPE, bufsize=0, start_new_session=True)
+            super().__init__(words)
         except OSError as why:
             raise Trouble(3, f"cannot start {words[0]}: {why.strerror}") from why
-        self.into, self.out = self.process.stdin.fileno(), self.process.stdout.fileno()
 
     def ask(self, lines: bytes) -> bytes:
-        """The answer up to its `outputs` line; only the last of these lines is a round."""
         try:
-            os.write(self.into, lines)
-        except BrokenPipeError:
-            pass  # it has ended: its output says so
-        heard = os.read(self.out, READ_AT_ONCE)
-        while not (heard.endswith(b"\n") and heard.startswith(b"outputs", heard.rfind(b"\n", 0, -1) + 1)):
-            piece = os.read(self.out, READ_AT_ONCE)
-            if not piece:
-                status = self.process.wait()
-                raise Trouble(status, "") if status > 0 else Trouble(5, f"serve has ended before its answer, with status {status}")
-            heard += piece
-        return heard
-
-    def end(self) -> int:
-        """Says E, and waits for the end."""
-        self.ask(b"E\n")
-        self.process.stdin.close()
-        return self.process.wait()
-
-    def abandon(self):
-        self.process.kill()
-        self.process.wait()
+            return super().ask(lines)
+        except Ended as end:  # where it has a status, it has said why
+            raise Trouble(end.status, "") if end.status > 0 else Trouble(5, f"serve has ended before its answer, with status {end.status}") from end
 
 
 class Call:
@@ -415,9 +396,9 @@ class Building:
         except KeyboardInterrupt:
             pass  # an end like any other
         except BaseException:
-            self.controller.abandon()
+            self.controller.kill()
             raise
-        self.controller.end()
+        self.controller.stop()
 
 
 def simulated(scene: Scene, cars: int, demand: float, seed: int, start: Callable[[], Controller], pace: float | None = None) -> Building:

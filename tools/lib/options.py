@@ -1,12 +1,12 @@
 """The words of tools/building and tools/building-plot that say what building and what traffic, and what is wrong with words."""
-import argparse, os, subprocess, sys
+import argparse, subprocess, sys
 
 from lib.building import MINUTE, MOST_ROUNDS, Length, Plant, Scene, Trouble, rounds
 from lib.kinematics import Drive
+from lib.serve import NoProgram, find_program
 from lib.sizes import Sizes, sizes
 from lib.traffic import TEMPLATES, Mix, can_move
 
-TOP = os.path.dirname(os.path.dirname(os.path.dirname(os.path.realpath(__file__))))
 MOST = 1_000_000  # of any number that is given
 INTERRUPTED = 130  # the status
 
@@ -92,12 +92,14 @@ def add_traffic(words: argparse.ArgumentParser):
 
 
 def add_binary(words: argparse.ArgumentParser):
-    words.add_argument("--binary", default=default_binary(), metavar="BINARY", help="the program (build/liftplc, or an unproved build where there is no other)")
+    words.add_argument("--binary", type=program, default="", metavar="BINARY", help="the program (build/liftplc, or an unproved build where there is no other)")
 
 
-def default_binary() -> str:
-    proved, unproved = f"{TOP}/build/liftplc", f"{TOP}/build/unproved/liftplc"
-    return unproved if os.path.exists(unproved) and not os.path.exists(proved) else proved
+def program(word: str) -> str:
+    try:
+        return find_program(word).path
+    except NoProgram as why:
+        raise Trouble(2, str(why)) from why
 
 
 def for_all(given: list, many: int, first: list, what: str) -> list:
