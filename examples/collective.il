@@ -2,50 +2,52 @@
 
      tools/group 2 8 16 --dispatch nearest
 
-   A passenger enters the destination at the landing. The call waits in a call slot until
-   GROUP assigns it to a car, by a store into ASSIGN. The car collects the calls that are told
-   to it, up to 8 passengers at a time, and frees the slot of a call by SERVE once its
-   passenger is out. docs/GROUPS.md says more.
+   Passengers enter their destination at the landing. The call waits in a call slot until
+   GROUP assigns it to a car, by a store into ASSIGN. The car collects the calls that are
+   assigned to it, up to CAPACITY passengers at a time, and frees the slot of a call by SERVE
+   once its passenger is out. docs/GROUPS.md says more.
    Try `sim FILE 600 1:1:8 1:8:1`: calls from the lowest floor to the highest, and back. *)
+(* WAY is INT (-1..1): DOWN is -1, STILL is 0, UP is 1 *)  (* of a motor, and of a car *)
 
 (* The calls of one car. In each scan the car program calls this block for each call slot,
-   from slot 1 on. Behind the last slot its outputs say where the car has work. *)
+   from slot 1 on. After the last slot its outputs say where the car has work. *)
+(* LONG_WAIT is 9999 *)  (* scans *)
 FUNCTION_BLOCK CALLS_OF_CAR
 VAR_INPUT
-  CAR : INT (1..2);         (* the number of the car *)
-  FLOOR : INT (1..8);       (* the floor at which it is *)
-  OPENED_HERE : BOOL;       (* it stands level with this floor, its door wholly open *)
-  SHUT : BOOL;              (* its door is wholly shut *)
-  ADMITS : BOOL;            (* passengers may get in *)
-  SLOT : INT (1..16);       (* the call slot that is looked at *)
-  TOLD : INT (0..2);        (* the car that its call is told to; 0 for none *)
-  FROM : INT (0..8);        (* the floors of the call; 0 in a free slot *)
-  TO : INT (0..8);
+  CAR : INT (1..2);  (* the number of the car *)
+  FLOOR : INT (1..8);  (* the floor at which it is *)
+  OPENED_HERE : BOOL;  (* it stands level with this floor, its door wholly open *)
+  SHUT : BOOL;  (* its door is wholly shut *)
+  ADMITS : BOOL;  (* passengers may get in *)
+  SLOT : INT (1..16);  (* the call slot that is looked at *)
+  ASSIGNED : INT (0..2);  (* the car that its call is assigned to; 0 for none *)
+  GETS_ON : INT (0..8);  (* the floors of the call; 0 in a free slot *)
+  GETS_OFF : INT (0..8);
 END_VAR
 VAR_OUTPUT
-  ABOVE : BOOL;             (* there is work above, or a passenger at this floor goes up *)
-  BELOW : BOOL;             (* there is work below, or a passenger at this floor goes down *)
-  UP_HERE : BOOL;           (* a passenger waits at this floor and goes up *)
-  DOWN_HERE : BOOL;         (* a passenger waits at this floor and goes down *)
-  OUT_HERE : BOOL;          (* a passenger in the car gets out at this floor *)
-  MOVED : BOOL;             (* somebody got in or out in this scan *)
-  SERVED : INT (0..16);     (* the slot of the passenger who got out in this scan; 0 for none *)
-  LOAD : INT (0..8);        (* how many passengers are in the car *)
-  PASSING : TIME;           (* how long the door has to be open for all who pass it at this stop *)
+  ABOVE : BOOL;  (* there is work above, or a passenger at this floor goes up *)
+  BELOW : BOOL;  (* there is work below, or a passenger at this floor goes down *)
+  UP_HERE : BOOL;  (* a passenger waits at this floor and goes up *)
+  DOWN_HERE : BOOL;  (* a passenger waits at this floor and goes down *)
+  OUT_HERE : BOOL;  (* a passenger in the car gets out at this floor *)
+  MOVED : BOOL;  (* somebody got in or out in this scan *)
+  SERVED : INT (0..16);  (* the slot of the passenger who got out in this scan; 0 for none *)
+  LOAD : INT (0..8);  (* how many passengers are in the car *)
+  PASSING : TIME;  (* how long the door has to be open for all who pass it at this stop *)
 END_VAR
 VAR
-  ABOARD : ARRAY [1..16] OF BOOL; (* for each slot: its passenger is in the car *)
-  WAITED : ARRAY [1..16] OF INT (0..9999); (* for how many scans he has waited for it *)
+  ABOARD : ARRAY [1..16] OF BOOL;  (* for each slot: its passenger is in the car *)
+  WAITED : ARRAY [1..16] OF INT (0..9999);  (* for how many scans they have waited for it *)
   LONGEST : INT (0..9999);  (* the longest wait of those who wait at this floor in this scan *)
-  FIRST : INT (0..9999);    (* and in the scan before: who has waited that long gets in first *)
-  GOING_ON : INT (0..8);    (* how many are in the car and go on from this floor *)
-  KEPT : INT (0..8);        (* and in the scan before: if that is all, nobody else has room *)
+  FIRST : INT (0..9999);  (* and in the scan before: who has waited that long gets in first *)
+  GOING_ON : INT (0..8);  (* how many are in the car and go on from this floor *)
+  KEPT : INT (0..8);  (* and in the scan before: if that is all, nobody else has room *)
 END_VAR
 
 (* Slot 1 begins anew. *)
 LD SLOT
 EQ 1
-JMPCN LOOK
+JMPCN ELSE_53
 LD FALSE
 ST ABOVE
 ST BELOW
@@ -64,67 +66,54 @@ ST SERVED
 LD SHUT
 SEL PASSING, T#0s
 ST PASSING
+ELSE_53:
 
-(* Is the call told to this car? If not, nobody in the car belongs to it. *)
-LOOK:
-LD TOLD
-EQ CAR
-JMPC MINE
+(* Is the call assigned to this car? If not, nobody in the car belongs to it. *)
+LD ASSIGNED
+NE CAR
+JMPCN ELSE_71
 LD FALSE
 ST ABOARD[SLOT]
 LD 0
 ST WAITED[SLOT]
 RET
+ELSE_71:
 
-(* The passenger is in the car, or waits at his landing: there is the work. *)
-MINE:
 LD ABOARD[SLOT]
-JMPC INSIDE
+JMPC END_IF_93
+(* The passenger waits at the landing: there is the work. *)
 LD WAITED[SLOT]
 MIN 9998
 ADD 1
 ST WAITED[SLOT]
-LD FROM
+LD GETS_ON
 GT FLOOR
-JMPC WORK_ABOVE
-LD FROM
+JMPCN ELSE_80
+LD TRUE
+ST ABOVE
+RET
+ELSE_80:
+LD GETS_ON
 LT FLOOR
-JMPC WORK_BELOW
+JMPCN ELSE_83
+LD TRUE
+ST BELOW
+RET
+ELSE_83:
+LD ADMITS
+RETCN
+(* A car that has to leave doesn't take them now. *)
 
-(* He waits at this floor. A car that has to leave doesn't take him now, nor does a full one from
-   which nobody gets out here. Who has waited longest gets in first, so nobody is left behind
-   again and again. *)
-LDN ADMITS
-JMPC LEFT
+(* Nor does a full one from which nobody gets out here. Who has waited longest gets in first, so
+   nobody is left behind again and again. *)
 LD LOAD
-GE 8
-JMPC STAYS
+LT 8
+JMPCN ELSE_93
 LD WAITED[SLOT]
 GE FIRST
 AND OPENED_HERE
-JMPC GETS_IN
-STAYS:
-LD WAITED[SLOT]
-MAX LONGEST
-ST LONGEST
-LD KEPT
-GE 8
-JMPC LEFT
-LD TO
-LT FLOOR
-JMPC DOWNWARDS
-LD TRUE
-ST UP_HERE
-ST ABOVE
-RET
-DOWNWARDS:
-LD TRUE
-ST DOWN_HERE
-ST BELOW
-RET
-
-(* The door is wholly open: he gets in, and from now on the work is at his destination. *)
-GETS_IN:
+JMPCN ELSE_93
+(* The door is wholly open: they get in, and from now on the work is at their destination. *)
 LD LOAD
 ADD 1
 ST LOAD
@@ -135,24 +124,54 @@ LD PASSING
 MIN T#1m
 ADD T#1s
 ST PASSING
-INSIDE:
-LD TO
+JMP END_IF_93
+ELSE_93:
+LD WAITED[SLOT]
+MAX LONGEST
+ST LONGEST
+LD KEPT
+LT 8
+RETCN
+LD GETS_OFF
+LT FLOOR
+JMPCN ELSE_102
+LD TRUE
+ST DOWN_HERE
+ST BELOW
+RET
+ELSE_102:
+LD TRUE
+ST UP_HERE
+ST ABOVE
+RET
+END_IF_93:
+
+(* The passenger is in the car. *)
+LD GETS_OFF
 NE FLOOR
 SEL 0, 1
 ADD GOING_ON
 MIN 8
 ST GOING_ON
-LD TO
+LD GETS_OFF
 GT FLOOR
-JMPC WORK_ABOVE
-LD TO
+JMPCN ELSE_116
+LD TRUE
+ST ABOVE
+RET
+ELSE_116:
+LD GETS_OFF
 LT FLOOR
-JMPC WORK_BELOW
+JMPCN ELSE_118
+LD TRUE
+ST BELOW
+RET
+ELSE_118:
 LD TRUE
 ST OUT_HERE
 
-(* He is at his destination. With the door wholly open he gets out: one passenger a scan, since
-   a car serves one call slot a scan. *)
+(* They are at their destination. With the door wholly open they get out: one passenger a scan,
+   since a car serves one call slot a scan. *)
 LD SERVED
 EQ 0
 AND OPENED_HERE
@@ -171,16 +190,6 @@ LD PASSING
 MIN T#1m
 ADD T#1s
 ST PASSING
-RET
-
-WORK_ABOVE:
-LD TRUE
-ST ABOVE
-RET
-WORK_BELOW:
-LD TRUE
-ST BELOW
-LEFT:
 END_FUNCTION_BLOCK
 
 (* The car program: collective control. All cars run it, each with variables of its own.
@@ -188,28 +197,56 @@ END_FUNCTION_BLOCK
    same way. It keeps its direction as long as it has work that way, and then turns. *)
 PROGRAM COLLECTIVE_CAR
 VAR
-  CALLS : CALLS_OF_CAR;     (* the calls that are told to this car *)
-  DIRECTION : INT (-1..1);  (* the way of the car: 1 up, -1 down, 0 none *)
-  ABOVE : BOOL;             (* the car has to go up, for a call or to its home floor *)
-  BELOW : BOOL;             (* the car has to go down *)
-  AHEAD : BOOL;             (* the car has to go on in its direction *)
-  HERE : BOOL;              (* a passenger wants to get in or out at this floor *)
-  CAME_FROM : INT (0..8);   (* the landing that the car has left; 0 for none *)
-  OVER : BOOL;              (* the door has been open long enough *)
-  RECALLED : BOOL;          (* there was a fire recall in the scan before *)
-  DWELL : TON;              (* how long nobody has passed the open door *)
-  PASSAGE : TON;            (* how long the door has been open *)
-  HELD : TON;               (* how long the car has stood though it has work *)
-  IDLE : TON;               (* how long the car has had no call *)
-  HOME : INT (1..8);        (* the floor where it waits then *)
+  CALLS : CALLS_OF_CAR;  (* the calls that are assigned to this car *)
+  DIRECTION : INT (-1..1);  (* the way of the car *)
+  ABOVE : BOOL;  (* the car has to go up, for a call or to its home floor *)
+  BELOW : BOOL;  (* the car has to go down *)
+  AHEAD : BOOL;  (* the car has to go on in its direction *)
+  HERE : BOOL;  (* a passenger wants to get in or out at this floor *)
+  CAME_FROM : INT (0..8);  (* the landing that the car has left; 0 for none *)
+  OVER : BOOL;  (* the door has been open long enough *)
+  RECALLED : BOOL;  (* there was a fire recall in the scan before *)
+  DWELL : TON;  (* how long nobody has passed the open door *)
+  PASSAGE : TON;  (* how long the door has been open *)
+  HELD : TON;  (* how long the car has stood though it has work *)
+  IDLE : TON;  (* how long the car has had no call *)
+  HOME : INT (1..8);  (* the floor where it waits then *)
 END_VAR
 
-(* Fire recall goes before all calls. *)
+(* Fire: each car goes down to floor 1. Interlock rule 6 lets no car run up. The calls stay as
+   they are, and the car goes on with them after the recall. *)
 LD FIRE
-JMPC RECALL
+JMPCN ELSE_159
+LD TRUE
+ST RECALLED
+CAL DWELL(IN := FALSE)
+CAL PASSAGE(IN := FALSE)
+CAL HELD(IN := FALSE)
+CAL IDLE(IN := FALSE)
+LD 0
+ST DIRECTION
+ST CAME_FROM
+LD POS
+EQ 1
+AND LEVEL
+JMPCN ELSE_167
+(* At floor 1 it stands with its door open, as long as FIRE holds. *)
+LD 0
+ST MOTOR
+LD TRUE
+ST OPEN
+RET
+ELSE_167:
+LD FALSE
+ST OPEN
+LD LOCKED
+SEL 0, -1
+ST MOTOR
+RET
+ELSE_159:
 
 (* Where is work? The block looks at all call slots. A passenger gets in or out where the car
-   stands level with a floor, its door wholly open; not yet in the first scan behind a recall,
+   stands level with a floor, its door wholly open; not yet in the first scan after a recall,
    since the block then has to find out who has waited longest. *)
 LD OPENED
 AND LEVEL
@@ -217,25 +254,30 @@ ANDN RECALLED
 ST CALLS.OPENED_HERE
 LD FALSE
 ST RECALLED
+LD CARNO
+ST CALLS.CAR
+LD POS
+ST CALLS.FLOOR
+LD LOCKED
+ST CALLS.SHUT
 LDN HELD.Q
 ST CALLS.ADMITS
-CAL CALLS(CAR := CARNO, FLOOR := POS, SHUT := LOCKED,
-  SLOT := 1, TOLD := CALLCAR[1], FROM := CALLFROM[1], TO := CALLTO[1])
-CAL CALLS(SLOT := 2, TOLD := CALLCAR[2], FROM := CALLFROM[2], TO := CALLTO[2])
-CAL CALLS(SLOT := 3, TOLD := CALLCAR[3], FROM := CALLFROM[3], TO := CALLTO[3])
-CAL CALLS(SLOT := 4, TOLD := CALLCAR[4], FROM := CALLFROM[4], TO := CALLTO[4])
-CAL CALLS(SLOT := 5, TOLD := CALLCAR[5], FROM := CALLFROM[5], TO := CALLTO[5])
-CAL CALLS(SLOT := 6, TOLD := CALLCAR[6], FROM := CALLFROM[6], TO := CALLTO[6])
-CAL CALLS(SLOT := 7, TOLD := CALLCAR[7], FROM := CALLFROM[7], TO := CALLTO[7])
-CAL CALLS(SLOT := 8, TOLD := CALLCAR[8], FROM := CALLFROM[8], TO := CALLTO[8])
-CAL CALLS(SLOT := 9, TOLD := CALLCAR[9], FROM := CALLFROM[9], TO := CALLTO[9])
-CAL CALLS(SLOT := 10, TOLD := CALLCAR[10], FROM := CALLFROM[10], TO := CALLTO[10])
-CAL CALLS(SLOT := 11, TOLD := CALLCAR[11], FROM := CALLFROM[11], TO := CALLTO[11])
-CAL CALLS(SLOT := 12, TOLD := CALLCAR[12], FROM := CALLFROM[12], TO := CALLTO[12])
-CAL CALLS(SLOT := 13, TOLD := CALLCAR[13], FROM := CALLFROM[13], TO := CALLTO[13])
-CAL CALLS(SLOT := 14, TOLD := CALLCAR[14], FROM := CALLFROM[14], TO := CALLTO[14])
-CAL CALLS(SLOT := 15, TOLD := CALLCAR[15], FROM := CALLFROM[15], TO := CALLTO[15])
-CAL CALLS(SLOT := 16, TOLD := CALLCAR[16], FROM := CALLFROM[16], TO := CALLTO[16])
+CAL CALLS(SLOT := 1, ASSIGNED := CALLCAR[1], GETS_ON := CALLFROM[1], GETS_OFF := CALLTO[1])
+CAL CALLS(SLOT := 2, ASSIGNED := CALLCAR[2], GETS_ON := CALLFROM[2], GETS_OFF := CALLTO[2])
+CAL CALLS(SLOT := 3, ASSIGNED := CALLCAR[3], GETS_ON := CALLFROM[3], GETS_OFF := CALLTO[3])
+CAL CALLS(SLOT := 4, ASSIGNED := CALLCAR[4], GETS_ON := CALLFROM[4], GETS_OFF := CALLTO[4])
+CAL CALLS(SLOT := 5, ASSIGNED := CALLCAR[5], GETS_ON := CALLFROM[5], GETS_OFF := CALLTO[5])
+CAL CALLS(SLOT := 6, ASSIGNED := CALLCAR[6], GETS_ON := CALLFROM[6], GETS_OFF := CALLTO[6])
+CAL CALLS(SLOT := 7, ASSIGNED := CALLCAR[7], GETS_ON := CALLFROM[7], GETS_OFF := CALLTO[7])
+CAL CALLS(SLOT := 8, ASSIGNED := CALLCAR[8], GETS_ON := CALLFROM[8], GETS_OFF := CALLTO[8])
+CAL CALLS(SLOT := 9, ASSIGNED := CALLCAR[9], GETS_ON := CALLFROM[9], GETS_OFF := CALLTO[9])
+CAL CALLS(SLOT := 10, ASSIGNED := CALLCAR[10], GETS_ON := CALLFROM[10], GETS_OFF := CALLTO[10])
+CAL CALLS(SLOT := 11, ASSIGNED := CALLCAR[11], GETS_ON := CALLFROM[11], GETS_OFF := CALLTO[11])
+CAL CALLS(SLOT := 12, ASSIGNED := CALLCAR[12], GETS_ON := CALLFROM[12], GETS_OFF := CALLTO[12])
+CAL CALLS(SLOT := 13, ASSIGNED := CALLCAR[13], GETS_ON := CALLFROM[13], GETS_OFF := CALLTO[13])
+CAL CALLS(SLOT := 14, ASSIGNED := CALLCAR[14], GETS_ON := CALLFROM[14], GETS_OFF := CALLTO[14])
+CAL CALLS(SLOT := 15, ASSIGNED := CALLCAR[15], GETS_ON := CALLFROM[15], GETS_OFF := CALLTO[15])
+CAL CALLS(SLOT := 16, ASSIGNED := CALLCAR[16], GETS_ON := CALLFROM[16], GETS_OFF := CALLTO[16])
 LD CALLS.ABOVE
 ST ABOVE
 LD CALLS.BELOW
@@ -275,7 +317,7 @@ ORN LOCKED
 STN IDLE.IN
 CAL IDLE(PT := T#15s)
 LD IDLE.Q
-JMPCN BUSY
+JMPCN ELSE_209
 LD CARNO
 SUB 1
 MUL 8
@@ -288,13 +330,11 @@ ST ABOVE
 LD POS
 GT HOME
 ST BELOW
-BUSY:
+ELSE_209:
 
-(* Does the car stand? *)
 LD MOTOR
-EQ 0
-JMPC STANDS
-
+NE 0
+JMPCN ELSE_215
 (* It runs. Between two landings it runs on, and at the landing from which it comes. *)
 LD MOTOR
 ST DIRECTION
@@ -321,26 +361,25 @@ ST MOTOR
 LD HERE
 ST OPEN
 RET
-
+ELSE_215:
+LD LEVEL
+JMPCN ELSE_230
 (* It stands. At a landing it keeps its direction as long as there is work that way. *)
-STANDS:
-LDN LEVEL
-JMPC BETWEEN
 LD DIRECTION
 EQ -1
 ORN ABOVE
 AND BELOW
-JMPC DOWNWARDS
+JMPCN ELSE_232
+LD -1
+ST DIRECTION
+JMP END_IF_232
+ELSE_232:
 LD ABOVE
 SEL 0, 1
 ST DIRECTION
-JMP DOOR
-DOWNWARDS:
-LD -1
-ST DIRECTION
+END_IF_232:
 
 (* The door opens for those who get in or out, and stays open until its time is over. *)
-DOOR:
 LD DIRECTION
 EQ 1
 SEL CALLS.DOWN_HERE, CALLS.UP_HERE
@@ -350,22 +389,21 @@ LD OPEN
 ANDN OVER
 OR HERE
 ST OPEN
-RETC
 
 (* Then the door shuts. Once it is locked the car runs, if it has work. *)
-LDN LOCKED
-RETC
+LDN OPEN
+AND LOCKED
+RETCN
 LD POS
 ST CAME_FROM
 LD DIRECTION
 ST MOTOR
 RET
-
-(* It stands between two landings, after a fire recall or a limit of running cars. It runs on as it
-   has run, after a recall down; from beyond an end of the shaft it runs back. *)
-BETWEEN:
-LDN LOCKED
-RETC
+ELSE_230:
+LD LOCKED
+RETCN
+(* It stands between two landings, after a fire recall or a limit of running cars. It runs on as
+   it has run, after a recall down; from beyond an end of the shaft it runs back. *)
 LD 0
 ST CAME_FROM
 LD DIRECTION
@@ -379,47 +417,16 @@ LD TOP
 SEL DIRECTION, -1
 ST DIRECTION
 ST MOTOR
-RET
-
-(* Fire: each car goes down to floor 1. Interlock rule 6 lets no car run up. The calls stay as
-   they are, and the car goes on with them after the recall. *)
-RECALL:
-LD TRUE
-ST RECALLED
-CAL DWELL(IN := FALSE)
-CAL PASSAGE(IN := FALSE)
-CAL HELD(IN := FALSE)
-CAL IDLE(IN := FALSE)
-LD 0
-ST DIRECTION
-ST CAME_FROM
-LD POS
-EQ 1
-AND LEVEL
-JMPC AT_FLOOR_1
-LD FALSE
-ST OPEN
-LD LOCKED
-SEL 0, -1
-ST MOTOR
-RET
-
-(* At floor 1 it stands with its door open, as long as FIRE holds. *)
-AT_FLOOR_1:
-LD 0
-ST MOTOR
-LD TRUE
-ST OPEN
 END_PROGRAM
 
 (* The group program: a waiting call is assigned to the nearest car. *)
 PROGRAM NEAREST_CAR
 VAR
-  WAITING : INT (0..16);    (* the call slot that is handled; 0 for none *)
-  CHOSEN : INT (0..2);      (* the car that gets the call *)
-  FROM : INT (0..8);        (* the landing of the call *)
-  DISTANCE : INT (0..8);    (* how many floors a car is away from it *)
-  LEAST : INT (0..8);       (* the same of the nearest car *)
+  WAITING : INT (0..16);  (* the call slot that is handled; 0 for none *)
+  CHOSEN : INT (0..2);  (* the car that gets the call *)
+  LANDING : INT (0..8);  (* the landing of the call *)
+  DISTANCE : INT (0..8);  (* how many floors a car is away from it *)
+  LEAST : INT (0..8);  (* the same of the nearest car *)
 END_VAR
 
 (* Which call slot waits? Each scan handles one, the lowest. *)
@@ -478,19 +485,22 @@ ST WAITING
    slots until the recall is over. *)
 LD WAITING
 EQ 0
-JMPC NOTHING
+JMPC PAST_283
 LD FIRE
-JMPC NOTHING
+JMPCN ELSE_283
+PAST_283:
+RET
+ELSE_283:
 
 (* Which car is nearest to the landing? At a tie it is the one with the lowest number. *)
 LD CALLFROM[WAITING]
-ST FROM
+ST LANDING
 LD 8
 ST LEAST
 LD 1
 ST CHOSEN
 LD CPOS[1]
-SUB FROM
+SUB LANDING
 ABS
 ST DISTANCE
 LT LEAST
@@ -500,7 +510,7 @@ LD DISTANCE
 MIN LEAST
 ST LEAST
 LD CPOS[2]
-SUB FROM
+SUB LANDING
 ABS
 ST DISTANCE
 LT LEAST
@@ -513,11 +523,15 @@ ST LEAST
 (* It gets the call. *)
 LD CHOSEN
 ST ASSIGN[WAITING]
-NOTHING:
 END_PROGRAM
 
 (* The group: 2 cars, 8 floors, 16 call slots; a task for each car and one for
    the group. *)
+(* CAPACITY is 8 *)  (* how many passengers a car takes at a time *)
+(* DWELL_TIME is T#3s *)  (* how long a door stays open after the last passenger *)
+(* TRANSFER_TIME is T#1s *)  (* how long it stays open for each who gets in or out *)
+(* HOLD_TIME is T#20s *)  (* how long a car with work takes passengers at a stop *)
+(* PARK_TIME is T#15s *)  (* after how long an idle car goes to its home floor *)
 CONFIGURATION BUILDING
 VAR_GLOBAL CONSTANT CARS : INT := 2; FLOORS : INT := 8; SLOTS : INT := 16; END_VAR
 RESOURCE CABINET ON PLC
