@@ -19,6 +19,7 @@ VAR_INPUT
   OPENED_HERE : BOOL;  (* it stands level with this floor, its door wholly open *)
   SHUT : BOOL;  (* its door is wholly shut *)
   ADMITS : BOOL;  (* passengers may get in *)
+  IS_OUT : BOOL;  (* it is out: it gives back the calls of those who are not in the car *)
   SLOT : INT (1..16);  (* the call slot that is looked at *)
   ASSIGNED : INT (0..2);  (* the car that its call is assigned to; 0 for none *)
   GETS_ON : INT (0..8);  (* the floors of the call; 0 in a free slot *)
@@ -31,7 +32,7 @@ VAR_OUTPUT
   DOWN_HERE : BOOL;  (* a passenger waits at this floor and goes down *)
   OUT_HERE : BOOL;  (* a passenger in the car gets out at this floor *)
   MOVED : BOOL;  (* somebody got in or out in this scan *)
-  SERVED : INT (0..16);  (* the slot of the passenger who got out in this scan; 0 for none *)
+  SERVED : INT (0..16);  (* the slot of the passenger who got out in this scan, or that is given back; 0 for none *)
   LOAD : INT (0..8);  (* how many passengers are in the car *)
   PASSING : TIME;  (* how long the door has to be open for all who pass it at this stop *)
 END_VAR
@@ -47,7 +48,7 @@ END_VAR
 (* Slot 1 begins anew. *)
 LD SLOT
 EQ 1
-JMPCN ELSE_53
+JMPCN ELSE_54
 LD FALSE
 ST ABOVE
 ST BELOW
@@ -66,21 +67,34 @@ ST SERVED
 LD SHUT
 SEL PASSING, T#0s
 ST PASSING
-ELSE_53:
+ELSE_54:
 
 (* Is the call assigned to this car? If not, nobody in the car belongs to it. *)
 LD ASSIGNED
 NE CAR
-JMPCN ELSE_71
+JMPCN ELSE_72
 LD FALSE
 ST ABOARD[SLOT]
 LD 0
 ST WAITED[SLOT]
 RET
-ELSE_71:
+ELSE_72:
 
 LD ABOARD[SLOT]
-JMPC END_IF_93
+JMPC END_IF_104
+(* A car that is out gives the call back, one a scan. The passenger presses again, and another car
+   gets the new call. *)
+LD IS_OUT
+JMPCN ELSE_81
+LD 0
+ST WAITED[SLOT]
+LD SERVED
+EQ 0
+SEL SERVED, SLOT
+ST SERVED
+RET
+ELSE_81:
+
 (* The passenger waits at the landing: there is the work. *)
 LD WAITED[SLOT]
 MIN 9998
@@ -88,18 +102,18 @@ ADD 1
 ST WAITED[SLOT]
 LD GETS_ON
 GT FLOOR
-JMPCN ELSE_80
+JMPCN ELSE_91
 LD TRUE
 ST ABOVE
 RET
-ELSE_80:
+ELSE_91:
 LD GETS_ON
 LT FLOOR
-JMPCN ELSE_83
+JMPCN ELSE_94
 LD TRUE
 ST BELOW
 RET
-ELSE_83:
+ELSE_94:
 LD ADMITS
 RETCN
 (* A car that has to leave doesn't take them now. *)
@@ -108,11 +122,11 @@ RETCN
    nobody is left behind again and again. *)
 LD LOAD
 LT 8
-JMPCN ELSE_93
+JMPCN ELSE_104
 LD WAITED[SLOT]
 GE FIRST
 AND OPENED_HERE
-JMPCN ELSE_93
+JMPCN ELSE_104
 (* The door is wholly open: they get in, and from now on the work is at their destination. *)
 LD LOAD
 ADD 1
@@ -124,8 +138,8 @@ LD PASSING
 MIN T#1m
 ADD T#1s
 ST PASSING
-JMP END_IF_93
-ELSE_93:
+JMP END_IF_104
+ELSE_104:
 LD WAITED[SLOT]
 MAX LONGEST
 ST LONGEST
@@ -134,17 +148,17 @@ LT 8
 RETCN
 LD GETS_OFF
 LT FLOOR
-JMPCN ELSE_102
+JMPCN ELSE_113
 LD TRUE
 ST DOWN_HERE
 ST BELOW
 RET
-ELSE_102:
+ELSE_113:
 LD TRUE
 ST UP_HERE
 ST ABOVE
 RET
-END_IF_93:
+END_IF_104:
 
 (* The passenger is in the car. *)
 LD GETS_OFF
@@ -155,18 +169,18 @@ MIN 8
 ST GOING_ON
 LD GETS_OFF
 GT FLOOR
-JMPCN ELSE_116
+JMPCN ELSE_127
 LD TRUE
 ST ABOVE
 RET
-ELSE_116:
+ELSE_127:
 LD GETS_OFF
 LT FLOOR
-JMPCN ELSE_118
+JMPCN ELSE_129
 LD TRUE
 ST BELOW
 RET
-ELSE_118:
+ELSE_129:
 LD TRUE
 ST OUT_HERE
 
@@ -209,19 +223,30 @@ VAR
   DWELL : TON;  (* how long nobody has passed the open door *)
   PASSAGE : TON;  (* how long the door has been open *)
   HELD : TON;  (* how long the car has stood though it has work *)
+  LET_OUT : BOOL;  (* the door has been open for whoever was in the car at the start *)
+  WAS_OUT : BOOL;  (* the car was out in the scan before *)
+  STUCK : TON;  (* how long the car has not left a landing though its motor runs *)
+  LOST : TON;  (* how long the car has found no landing *)
+  REST : TP;  (* then it stands for a while before it tries again *)
   IDLE : TON;  (* how long the car has had no call *)
   HOME : INT (1..8);  (* the floor where it waits then *)
+  STARTED : BOOL;  (* its first opening of the door is over *)
+END_VAR
+VAR_EXTERNAL
+  OUT : ARRAY [0..2] OF BOOL;  (* for each car: it is out; GROUP says so *)
 END_VAR
 
 (* Fire: each car goes down to floor 1. Interlock rule 6 lets no car run up. The calls stay as
    they are, and the car goes on with them after the recall. *)
 LD FIRE
-JMPCN ELSE_159
+JMPCN ELSE_179
 LD TRUE
 ST RECALLED
 CAL DWELL(IN := FALSE)
 CAL PASSAGE(IN := FALSE)
 CAL HELD(IN := FALSE)
+CAL STUCK(IN := FALSE)
+CAL LOST(IN := FALSE)
 CAL IDLE(IN := FALSE)
 LD 0
 ST DIRECTION
@@ -229,21 +254,21 @@ ST CAME_FROM
 LD POS
 EQ 1
 AND LEVEL
-JMPCN ELSE_167
+JMPCN ELSE_189
 (* At floor 1 it stands with its door open, as long as FIRE holds. *)
 LD 0
 ST MOTOR
 LD TRUE
 ST OPEN
 RET
-ELSE_167:
+ELSE_189:
 LD FALSE
 ST OPEN
 LD LOCKED
 SEL 0, -1
 ST MOTOR
 RET
-ELSE_159:
+ELSE_179:
 
 (* Where is work? The block looks at all call slots. A passenger gets in or out where the car
    stands level with a floor, its door wholly open; not yet in the first scan after a recall,
@@ -262,6 +287,8 @@ LD LOCKED
 ST CALLS.SHUT
 LDN HELD.Q
 ST CALLS.ADMITS
+LD OUT[CARNO]
+ST CALLS.IS_OUT
 CAL CALLS(SLOT := 1, ASSIGNED := CALLCAR[1], GETS_ON := CALLFROM[1], GETS_OFF := CALLTO[1])
 CAL CALLS(SLOT := 2, ASSIGNED := CALLCAR[2], GETS_ON := CALLFROM[2], GETS_OFF := CALLTO[2])
 CAL CALLS(SLOT := 3, ASSIGNED := CALLCAR[3], GETS_ON := CALLFROM[3], GETS_OFF := CALLTO[3])
@@ -283,7 +310,7 @@ ST ABOVE
 LD CALLS.BELOW
 ST BELOW
 
-(* The call of the passenger who got out is served, and its slot becomes free. *)
+(* The call of the passenger who got out is served, or a call is given back: its slot becomes free. *)
 LD CALLS.SERVED
 ST SERVE
 
@@ -308,16 +335,56 @@ OR BELOW
 ST HELD.IN
 CAL HELD(PT := T#20s)
 
+(* After a start of the controller nobody knows who is in the car. So it goes to the next landing, if
+   it is at none, and opens its door there once for the dwell time; then it works as always. So does a
+   car that comes back after it was out, and one that doesn't leave a landing though its motor runs. *)
+LD MOTOR
+NE 0
+AND LEVEL
+AND( POS
+EQ CAME_FROM
+)
+ST STUCK.IN
+CAL STUCK(PT := T#30s)
+LD LET_OUT
+OR OVER
+ANDN STUCK.Q
+ANDN( WAS_OUT
+ANDN OUT[CARNO]
+)
+ST LET_OUT
+LD OUT[CARNO]
+ST WAS_OUT
+
+(* A car that finds no landing for some time has lost its drive or its sensors. It stands for a while,
+   so that GROUP takes it out, and then tries again. *)
+LDN LEVEL
+ANDN REST.Q
+AND( MOTOR
+NE 0
+OR TOP
+OR BOTTOM
+)
+ST LOST.IN
+CAL LOST(PT := T#30s)
+CAL REST(IN := LOST.Q, PT := T#1m23s)
+
 (* A car without a call goes to its home floor after some time. The homes are spread over the
-   building: the lowest floor in each of as many parts as there are cars. *)
+   building: the lowest floor in each of as many parts as there are cars. The first opening of the
+   door is no call. *)
+LD LET_OUT
+AND LOCKED
+S STARTED
 LD ABOVE
 OR BELOW
 OR CALLS.OUT_HERE
-ORN LOCKED
+OR( STARTED
+ANDN LOCKED
+)
 STN IDLE.IN
 CAL IDLE(PT := T#15s)
 LD IDLE.Q
-JMPCN ELSE_209
+JMPCN ELSE_246
 LD CARNO
 SUB 1
 MUL 8
@@ -330,16 +397,37 @@ ST ABOVE
 LD POS
 GT HOME
 ST BELOW
-ELSE_209:
+ELSE_246:
 
+(* A car that is out and has no call goes to another landing: once it has moved, it is back. *)
+LD OUT[CARNO]
+ANDN ABOVE
+ANDN BELOW
+ANDN CALLS.OUT_HERE
+JMPCN ELSE_253
+LD POS
+LT 8
+ST ABOVE
+LDN ABOVE
+ST BELOW
+ELSE_253:
+
+LD REST.Q
+ANDN LEVEL
+JMPCN ELSE_258
+LD 0
+ST MOTOR
+RET
+ELSE_258:
 LD MOTOR
 NE 0
-JMPCN ELSE_215
+JMPCN ELSE_260
 (* It runs. Between two landings it runs on, and at the landing from which it comes. *)
 LD MOTOR
 ST DIRECTION
 LD POS
 EQ CAME_FROM
+AND LET_OUT
 ORN LEVEL
 RETC
 
@@ -353,6 +441,7 @@ LD DIRECTION
 EQ 1
 SEL CALLS.DOWN_HERE, CALLS.UP_HERE
 OR CALLS.OUT_HERE
+ORN LET_OUT
 ST HERE
 ORN AHEAD
 RETCN
@@ -361,29 +450,30 @@ ST MOTOR
 LD HERE
 ST OPEN
 RET
-ELSE_215:
+ELSE_260:
 LD LEVEL
-JMPCN ELSE_230
+JMPCN ELSE_275
 (* It stands. At a landing it keeps its direction as long as there is work that way. *)
 LD DIRECTION
 EQ -1
 ORN ABOVE
 AND BELOW
-JMPCN ELSE_232
+JMPCN ELSE_277
 LD -1
 ST DIRECTION
-JMP END_IF_232
-ELSE_232:
+JMP END_IF_277
+ELSE_277:
 LD ABOVE
 SEL 0, 1
 ST DIRECTION
-END_IF_232:
+END_IF_277:
 
 (* The door opens for those who get in or out, and stays open until its time is over. *)
 LD DIRECTION
 EQ 1
 SEL CALLS.DOWN_HERE, CALLS.UP_HERE
 OR CALLS.OUT_HERE
+ORN LET_OUT
 ST HERE
 LD OPEN
 ANDN OVER
@@ -399,11 +489,11 @@ ST CAME_FROM
 LD DIRECTION
 ST MOTOR
 RET
-ELSE_230:
+ELSE_275:
 LD LOCKED
 RETCN
-(* It stands between two landings, after a fire recall or a limit of running cars. It runs on as
-   it has run, after a recall down; from beyond an end of the shaft it runs back. *)
+(* It stands between two landings, after a start, a fire recall or a limit of running cars. It runs
+   on as it has run, after a start or a recall down; from beyond an end of the shaft it runs back. *)
 LD 0
 ST CAME_FROM
 LD DIRECTION
@@ -419,6 +509,46 @@ ST DIRECTION
 ST MOTOR
 END_PROGRAM
 
+(* Whether a car is out. GROUP calls this block for each car in each scan. A car with a call is out if it
+   has not come to another floor for some time; once it has, it is back. *)
+FUNCTION_BLOCK WATCH_OF_CAR
+VAR_INPUT
+  FLOOR : INT (1..8);  (* the floor at which it is *)
+  RUNS : INT (-1..1);  (* its motor *)
+  WORKS : BOOL;  (* it has a call, and neither a fire recall nor a limit keeps it *)
+END_VAR
+VAR_OUTPUT
+  IS_OUT : BOOL;
+END_VAR
+VAR
+  WAS_AT : INT (1..8);  (* the floor at which it was in the scan before *)
+  MOVED : BOOL;  (* it is at another floor now *)
+  RUNNING : TON;  (* how long its motor has run without that *)
+  STANDING : TON;  (* how long it has had calls without that *)
+END_VAR
+
+LD FLOOR
+NE WAS_AT
+ST MOVED
+LD FLOOR
+ST WAS_AT
+LD RUNS
+NE 0
+AND WORKS
+ANDN MOVED
+ST RUNNING.IN
+CAL RUNNING(PT := T#30s)
+LD WORKS
+ANDN MOVED
+ST STANDING.IN
+CAL STANDING(PT := T#53s)
+LD IS_OUT
+OR RUNNING.Q
+OR STANDING.Q
+ANDN MOVED
+ST IS_OUT
+END_FUNCTION_BLOCK
+
 (* The group program: a waiting call is assigned to the nearest car. *)
 PROGRAM NEAREST_CAR
 VAR
@@ -427,7 +557,95 @@ VAR
   LANDING : INT (0..8);  (* the landing of the call *)
   DISTANCE : INT (0..8);  (* how many floors a car is away from it *)
   LEAST : INT (0..8);  (* the same of the nearest car *)
+  WORKS : ARRAY [0..2] OF BOOL;  (* for each car: it has a call; at 0 for the slots without a car *)
+  WATCH1 : WATCH_OF_CAR;  (* whether car 1 is out *)
+  WATCH2 : WATCH_OF_CAR;  (* whether car 2 is out *)
+  HELD1 : INT;
 END_VAR
+VAR_EXTERNAL
+  OUT : ARRAY [0..2] OF BOOL;  (* for each car: it is out; the cars see it *)
+END_VAR
+
+(* Which cars are out? They get no call. *)
+LD FALSE
+ST WORKS[0]
+ST WORKS[1]
+ST WORKS[2]
+LD RUNLIMIT
+GT 0
+ANDN FIRE
+JMPCN ELSE_356
+LD CALLCAR[1]
+ST HELD1
+LD TRUE
+ST WORKS[HELD1]
+LD CALLCAR[2]
+ST HELD1
+LD TRUE
+ST WORKS[HELD1]
+LD CALLCAR[3]
+ST HELD1
+LD TRUE
+ST WORKS[HELD1]
+LD CALLCAR[4]
+ST HELD1
+LD TRUE
+ST WORKS[HELD1]
+LD CALLCAR[5]
+ST HELD1
+LD TRUE
+ST WORKS[HELD1]
+LD CALLCAR[6]
+ST HELD1
+LD TRUE
+ST WORKS[HELD1]
+LD CALLCAR[7]
+ST HELD1
+LD TRUE
+ST WORKS[HELD1]
+LD CALLCAR[8]
+ST HELD1
+LD TRUE
+ST WORKS[HELD1]
+LD CALLCAR[9]
+ST HELD1
+LD TRUE
+ST WORKS[HELD1]
+LD CALLCAR[10]
+ST HELD1
+LD TRUE
+ST WORKS[HELD1]
+LD CALLCAR[11]
+ST HELD1
+LD TRUE
+ST WORKS[HELD1]
+LD CALLCAR[12]
+ST HELD1
+LD TRUE
+ST WORKS[HELD1]
+LD CALLCAR[13]
+ST HELD1
+LD TRUE
+ST WORKS[HELD1]
+LD CALLCAR[14]
+ST HELD1
+LD TRUE
+ST WORKS[HELD1]
+LD CALLCAR[15]
+ST HELD1
+LD TRUE
+ST WORKS[HELD1]
+LD CALLCAR[16]
+ST HELD1
+LD TRUE
+ST WORKS[HELD1]
+ELSE_356:
+CAL WATCH1(FLOOR := CPOS[1], RUNS := CMOTOR[1], WORKS := WORKS[1])
+LD WATCH1.IS_OUT
+ST OUT[1]
+CAL WATCH2(FLOOR := CPOS[2], RUNS := CMOTOR[2], WORKS := WORKS[2])
+LD WATCH2.IS_OUT
+ST OUT[2]
 
 (* Which call slot waits? Each scan handles one, the lowest. *)
 LD 0
@@ -485,42 +703,46 @@ ST WAITING
    slots until the recall is over. *)
 LD WAITING
 EQ 0
-JMPC PAST_283
+JMPC PAST_372
 LD FIRE
-JMPCN ELSE_283
-PAST_283:
+JMPCN ELSE_372
+PAST_372:
 RET
-ELSE_283:
+ELSE_372:
 
 (* Which car is nearest to the landing? At a tie it is the one with the lowest number. *)
 LD CALLFROM[WAITING]
 ST LANDING
 LD 8
 ST LEAST
-LD 1
+LD 0
 ST CHOSEN
 LD CPOS[1]
 SUB LANDING
 ABS
 ST DISTANCE
 LT LEAST
-SEL CHOSEN, 1
+ANDN OUT[1]
+JMPCN ELSE_382
+LD 1
 ST CHOSEN
 LD DISTANCE
-MIN LEAST
 ST LEAST
+ELSE_382:
 LD CPOS[2]
 SUB LANDING
 ABS
 ST DISTANCE
 LT LEAST
-SEL CHOSEN, 2
+ANDN OUT[2]
+JMPCN ELSE_382_2
+LD 2
 ST CHOSEN
 LD DISTANCE
-MIN LEAST
 ST LEAST
+ELSE_382_2:
 
-(* It gets the call. *)
+(* It gets the call. If all cars are out, none does, and the call waits. *)
 LD CHOSEN
 ST ASSIGN[WAITING]
 END_PROGRAM
@@ -531,9 +753,15 @@ END_PROGRAM
 (* DWELL_TIME is T#3s *)  (* how long a door stays open after the last passenger *)
 (* TRANSFER_TIME is T#1s *)  (* how long it stays open for each who gets in or out *)
 (* HOLD_TIME is T#20s *)  (* how long a car with work takes passengers at a stop *)
+(* OUT_TIME is T#30s *)  (* after how long a car that doesn't move is out *)
+(* STAND_TIME is T#53s *)  (* the same of one that may make a stop: more than the longest stop *)
+(* REST_TIME is T#1m23s *)  (* how long a car that finds no landing stands before it tries again *)
 (* PARK_TIME is T#15s *)  (* after how long an idle car goes to its home floor *)
 CONFIGURATION BUILDING
 VAR_GLOBAL CONSTANT CARS : INT := 2; FLOORS : INT := 8; SLOTS : INT := 16; END_VAR
+VAR_GLOBAL
+  OUT : ARRAY [0..2] OF BOOL;  (* for each car: it is out *)
+END_VAR
 RESOURCE CABINET ON PLC
 TASK CAR1 (INTERVAL := T#100ms, PRIORITY := 1);
 TASK CAR2 (INTERVAL := T#100ms, PRIORITY := 1);

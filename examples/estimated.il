@@ -19,6 +19,7 @@ VAR_INPUT
   OPENED_HERE : BOOL;  (* it stands level with this floor, its door wholly open *)
   SHUT : BOOL;  (* its door is wholly shut *)
   ADMITS : BOOL;  (* passengers may get in *)
+  IS_OUT : BOOL;  (* it is out: it gives back the calls of those who are not in the car *)
   SLOT : INT (1..32);  (* the call slot that is looked at *)
   ASSIGNED : INT (0..4);  (* the car that its call is assigned to; 0 for none *)
   GETS_ON : INT (0..16);  (* the floors of the call; 0 in a free slot *)
@@ -31,7 +32,7 @@ VAR_OUTPUT
   DOWN_HERE : BOOL;  (* a passenger waits at this floor and goes down *)
   OUT_HERE : BOOL;  (* a passenger in the car gets out at this floor *)
   MOVED : BOOL;  (* somebody got in or out in this scan *)
-  SERVED : INT (0..32);  (* the slot of the passenger who got out in this scan; 0 for none *)
+  SERVED : INT (0..32);  (* the slot of the passenger who got out in this scan, or that is given back; 0 for none *)
   LOAD : INT (0..8);  (* how many passengers are in the car *)
   PASSING : TIME;  (* how long the door has to be open for all who pass it at this stop *)
 END_VAR
@@ -47,7 +48,7 @@ END_VAR
 (* Slot 1 begins anew. *)
 LD SLOT
 EQ 1
-JMPCN ELSE_53
+JMPCN ELSE_54
 LD FALSE
 ST ABOVE
 ST BELOW
@@ -66,21 +67,34 @@ ST SERVED
 LD SHUT
 SEL PASSING, T#0s
 ST PASSING
-ELSE_53:
+ELSE_54:
 
 (* Is the call assigned to this car? If not, nobody in the car belongs to it. *)
 LD ASSIGNED
 NE CAR
-JMPCN ELSE_71
+JMPCN ELSE_72
 LD FALSE
 ST ABOARD[SLOT]
 LD 0
 ST WAITED[SLOT]
 RET
-ELSE_71:
+ELSE_72:
 
 LD ABOARD[SLOT]
-JMPC END_IF_93
+JMPC END_IF_104
+(* A car that is out gives the call back, one a scan. The passenger presses again, and another car
+   gets the new call. *)
+LD IS_OUT
+JMPCN ELSE_81
+LD 0
+ST WAITED[SLOT]
+LD SERVED
+EQ 0
+SEL SERVED, SLOT
+ST SERVED
+RET
+ELSE_81:
+
 (* The passenger waits at the landing: there is the work. *)
 LD WAITED[SLOT]
 MIN 9998
@@ -88,18 +102,18 @@ ADD 1
 ST WAITED[SLOT]
 LD GETS_ON
 GT FLOOR
-JMPCN ELSE_80
+JMPCN ELSE_91
 LD TRUE
 ST ABOVE
 RET
-ELSE_80:
+ELSE_91:
 LD GETS_ON
 LT FLOOR
-JMPCN ELSE_83
+JMPCN ELSE_94
 LD TRUE
 ST BELOW
 RET
-ELSE_83:
+ELSE_94:
 LD ADMITS
 RETCN
 (* A car that has to leave doesn't take them now. *)
@@ -108,11 +122,11 @@ RETCN
    nobody is left behind again and again. *)
 LD LOAD
 LT 8
-JMPCN ELSE_93
+JMPCN ELSE_104
 LD WAITED[SLOT]
 GE FIRST
 AND OPENED_HERE
-JMPCN ELSE_93
+JMPCN ELSE_104
 (* The door is wholly open: they get in, and from now on the work is at their destination. *)
 LD LOAD
 ADD 1
@@ -124,8 +138,8 @@ LD PASSING
 MIN T#1m
 ADD T#1s
 ST PASSING
-JMP END_IF_93
-ELSE_93:
+JMP END_IF_104
+ELSE_104:
 LD WAITED[SLOT]
 MAX LONGEST
 ST LONGEST
@@ -134,17 +148,17 @@ LT 8
 RETCN
 LD GETS_OFF
 LT FLOOR
-JMPCN ELSE_102
+JMPCN ELSE_113
 LD TRUE
 ST DOWN_HERE
 ST BELOW
 RET
-ELSE_102:
+ELSE_113:
 LD TRUE
 ST UP_HERE
 ST ABOVE
 RET
-END_IF_93:
+END_IF_104:
 
 (* The passenger is in the car. *)
 LD GETS_OFF
@@ -155,18 +169,18 @@ MIN 8
 ST GOING_ON
 LD GETS_OFF
 GT FLOOR
-JMPCN ELSE_116
+JMPCN ELSE_127
 LD TRUE
 ST ABOVE
 RET
-ELSE_116:
+ELSE_127:
 LD GETS_OFF
 LT FLOOR
-JMPCN ELSE_118
+JMPCN ELSE_129
 LD TRUE
 ST BELOW
 RET
-ELSE_118:
+ELSE_129:
 LD TRUE
 ST OUT_HERE
 
@@ -209,22 +223,31 @@ VAR
   DWELL : TON;  (* how long nobody has passed the open door *)
   PASSAGE : TON;  (* how long the door has been open *)
   HELD : TON;  (* how long the car has stood though it has work *)
+  LET_OUT : BOOL;  (* the door has been open for whoever was in the car at the start *)
+  WAS_OUT : BOOL;  (* the car was out in the scan before *)
+  STUCK : TON;  (* how long the car has not left a landing though its motor runs *)
+  LOST : TON;  (* how long the car has found no landing *)
+  REST : TP;  (* then it stands for a while before it tries again *)
   IDLE : TON;  (* how long the car has had no call *)
   HOME : INT (1..16);  (* the floor where it waits then *)
+  STARTED : BOOL;  (* its first opening of the door is over *)
 END_VAR
 VAR_EXTERNAL
+  OUT : ARRAY [0..4] OF BOOL;  (* for each car: it is out; GROUP says so *)
   UP_PEAK : BOOL;  (* most calls come from floor 1; GROUP says so *)
 END_VAR
 
 (* Fire: each car goes down to floor 1. Interlock rule 6 lets no car run up. The calls stay as
    they are, and the car goes on with them after the recall. *)
 LD FIRE
-JMPCN ELSE_162
+JMPCN ELSE_180
 LD TRUE
 ST RECALLED
 CAL DWELL(IN := FALSE)
 CAL PASSAGE(IN := FALSE)
 CAL HELD(IN := FALSE)
+CAL STUCK(IN := FALSE)
+CAL LOST(IN := FALSE)
 CAL IDLE(IN := FALSE)
 LD 0
 ST DIRECTION
@@ -232,21 +255,21 @@ ST CAME_FROM
 LD POS
 EQ 1
 AND LEVEL
-JMPCN ELSE_170
+JMPCN ELSE_190
 (* At floor 1 it stands with its door open, as long as FIRE holds. *)
 LD 0
 ST MOTOR
 LD TRUE
 ST OPEN
 RET
-ELSE_170:
+ELSE_190:
 LD FALSE
 ST OPEN
 LD LOCKED
 SEL 0, -1
 ST MOTOR
 RET
-ELSE_162:
+ELSE_180:
 
 (* Where is work? The block looks at all call slots. A passenger gets in or out where the car
    stands level with a floor, its door wholly open; not yet in the first scan after a recall,
@@ -265,6 +288,8 @@ LD LOCKED
 ST CALLS.SHUT
 LDN HELD.Q
 ST CALLS.ADMITS
+LD OUT[CARNO]
+ST CALLS.IS_OUT
 CAL CALLS(SLOT := 1, ASSIGNED := CALLCAR[1], GETS_ON := CALLFROM[1], GETS_OFF := CALLTO[1])
 CAL CALLS(SLOT := 2, ASSIGNED := CALLCAR[2], GETS_ON := CALLFROM[2], GETS_OFF := CALLTO[2])
 CAL CALLS(SLOT := 3, ASSIGNED := CALLCAR[3], GETS_ON := CALLFROM[3], GETS_OFF := CALLTO[3])
@@ -302,7 +327,7 @@ ST ABOVE
 LD CALLS.BELOW
 ST BELOW
 
-(* The call of the passenger who got out is served, and its slot becomes free. *)
+(* The call of the passenger who got out is served, or a call is given back: its slot becomes free. *)
 LD CALLS.SERVED
 ST SERVE
 
@@ -327,19 +352,59 @@ OR BELOW
 ST HELD.IN
 CAL HELD(PT := T#20s)
 
+(* After a start of the controller nobody knows who is in the car. So it goes to the next landing, if
+   it is at none, and opens its door there once for the dwell time; then it works as always. So does a
+   car that comes back after it was out, and one that doesn't leave a landing though its motor runs. *)
+LD MOTOR
+NE 0
+AND LEVEL
+AND( POS
+EQ CAME_FROM
+)
+ST STUCK.IN
+CAL STUCK(PT := T#30s)
+LD LET_OUT
+OR OVER
+ANDN STUCK.Q
+ANDN( WAS_OUT
+ANDN OUT[CARNO]
+)
+ST LET_OUT
+LD OUT[CARNO]
+ST WAS_OUT
+
+(* A car that finds no landing for some time has lost its drive or its sensors. It stands for a while,
+   so that GROUP takes it out, and then tries again. *)
+LDN LEVEL
+ANDN REST.Q
+AND( MOTOR
+NE 0
+OR TOP
+OR BOTTOM
+)
+ST LOST.IN
+CAL LOST(PT := T#30s)
+CAL REST(IN := LOST.Q, PT := T#1m23s)
+
 (* A car without a call goes to its home floor after some time. The homes are spread over the
-   building: the lowest floor in each of as many parts as there are cars. *)
+   building: the lowest floor in each of as many parts as there are cars. The first opening of the
+   door is no call. *)
+LD LET_OUT
+AND LOCKED
+S STARTED
 LD UP_PEAK
 SEL T#15s, T#1s
 ST IDLE.PT
 LD ABOVE
 OR BELOW
 OR CALLS.OUT_HERE
-ORN LOCKED
+OR( STARTED
+ANDN LOCKED
+)
 STN IDLE.IN
 CAL IDLE
 LD IDLE.Q
-JMPCN ELSE_213
+JMPCN ELSE_248
 LD CARNO
 SUB 1
 MUL 16
@@ -356,16 +421,37 @@ ST ABOVE
 LD POS
 GT HOME
 ST BELOW
-ELSE_213:
+ELSE_248:
 
+(* A car that is out and has no call goes to another landing: once it has moved, it is back. *)
+LD OUT[CARNO]
+ANDN ABOVE
+ANDN BELOW
+ANDN CALLS.OUT_HERE
+JMPCN ELSE_257
+LD POS
+LT 16
+ST ABOVE
+LDN ABOVE
+ST BELOW
+ELSE_257:
+
+LD REST.Q
+ANDN LEVEL
+JMPCN ELSE_262
+LD 0
+ST MOTOR
+RET
+ELSE_262:
 LD MOTOR
 NE 0
-JMPCN ELSE_221
+JMPCN ELSE_264
 (* It runs. Between two landings it runs on, and at the landing from which it comes. *)
 LD MOTOR
 ST DIRECTION
 LD POS
 EQ CAME_FROM
+AND LET_OUT
 ORN LEVEL
 RETC
 
@@ -379,6 +465,7 @@ LD DIRECTION
 EQ 1
 SEL CALLS.DOWN_HERE, CALLS.UP_HERE
 OR CALLS.OUT_HERE
+ORN LET_OUT
 ST HERE
 ORN AHEAD
 RETCN
@@ -387,29 +474,30 @@ ST MOTOR
 LD HERE
 ST OPEN
 RET
-ELSE_221:
+ELSE_264:
 LD LEVEL
-JMPCN ELSE_236
+JMPCN ELSE_279
 (* It stands. At a landing it keeps its direction as long as there is work that way. *)
 LD DIRECTION
 EQ -1
 ORN ABOVE
 AND BELOW
-JMPCN ELSE_238
+JMPCN ELSE_281
 LD -1
 ST DIRECTION
-JMP END_IF_238
-ELSE_238:
+JMP END_IF_281
+ELSE_281:
 LD ABOVE
 SEL 0, 1
 ST DIRECTION
-END_IF_238:
+END_IF_281:
 
 (* The door opens for those who get in or out, and stays open until its time is over. *)
 LD DIRECTION
 EQ 1
 SEL CALLS.DOWN_HERE, CALLS.UP_HERE
 OR CALLS.OUT_HERE
+ORN LET_OUT
 ST HERE
 LD OPEN
 ANDN OVER
@@ -425,11 +513,11 @@ ST CAME_FROM
 LD DIRECTION
 ST MOTOR
 RET
-ELSE_236:
+ELSE_279:
 LD LOCKED
 RETCN
-(* It stands between two landings, after a fire recall or a limit of running cars. It runs on as
-   it has run, after a recall down; from beyond an end of the shaft it runs back. *)
+(* It stands between two landings, after a start, a fire recall or a limit of running cars. It runs
+   on as it has run, after a start or a recall down; from beyond an end of the shaft it runs back. *)
 LD 0
 ST CAME_FROM
 LD DIRECTION
@@ -455,12 +543,12 @@ VAR_INPUT
 END_VAR
 
 LD IS_UP
-JMPCN ELSE_279
+JMPCN ELSE_322
 LD FLOOR
 MAX 1
 ST PLACE_OF
 RET
-ELSE_279:
+ELSE_322:
 LD 33
 SUB FLOOR
 MIN 32
@@ -493,7 +581,7 @@ END_VAR
 
 (* A new call: nothing is counted yet. *)
 LD ANEW
-JMPCN ELSE_312
+JMPCN ELSE_355
 LD 0
 ST BEFORE
 ST BETWEEN
@@ -535,7 +623,7 @@ ST STOP[30]
 ST STOP[31]
 ST STOP[32]
 RET
-ELSE_312:
+ELSE_355:
 
 (* Is this passenger delayed where the car stops for the new one? *)
 LD AHEAD
@@ -647,7 +735,7 @@ END_VAR
 (* Slot 1 begins anew. *)
 LD SLOT
 EQ 1
-JMPCN ELSE_461
+JMPCN ELSE_504
 (* How long does the car take for a floor, and for a stop? It is measured, so that nothing has to
    be known of its drive and door. Halved now and then, the sums forget. *)
 LD RUNS
@@ -665,14 +753,14 @@ LD FLOOR
 ST WAS_AT
 LD RUN_TIME
 GE 10000
-JMPCN ELSE_413
+JMPCN ELSE_456
 LD RUN_TIME
 DIV 2
 ST RUN_TIME
 LD RUN_FLOORS
 DIV 2
 ST RUN_FLOORS
-ELSE_413:
+ELSE_456:
 LD RUN_FLOORS
 MAX 1
 ST RUN_FLOORS
@@ -689,22 +777,22 @@ EQ 0
 AND( CALLS
 NE 0
 )
-JMPCN ELSE_422
+JMPCN ELSE_465
 LD STOOD
 MIN 600
 ADD 1
 ST STOOD
-JMP END_IF_422
-ELSE_422:
+JMP END_IF_465
+ELSE_465:
 LD STOOD
 GE 10
-JMPCN ELSE_428
+JMPCN ELSE_471
 LD STOOD
 LE 600
-JMPCN ELSE_428
+JMPCN ELSE_471
 LD RUNS
 NE 0
-JMPCN ELSE_428
+JMPCN ELSE_471
 LD STOOD_TIME
 ADD STOOD
 MIN 20000
@@ -715,17 +803,17 @@ ADD 1
 ST STOPS_MADE
 LD STOOD_TIME
 GE 10000
-JMPCN ELSE_428
+JMPCN ELSE_471
 LD STOOD_TIME
 DIV 2
 ST STOOD_TIME
 LD STOPS_MADE
 DIV 2
 ST STOPS_MADE
-ELSE_428:
+ELSE_471:
 LD 0
 ST STOOD
-END_IF_422:
+END_IF_465:
 LD STOPS_MADE
 MAX 1
 ST STOPS_MADE
@@ -739,24 +827,24 @@ ST STOP_TIME
    there. ABOVE and BELOW are those of the scan before. *)
 LD RUNS
 NE 0
-JMPCN ELSE_440
+JMPCN ELSE_483
 LD RUNS
 ST DIRECTION
-JMP END_IF_440
-ELSE_440:
+JMP END_IF_483
+ELSE_483:
 LD DIRECTION
 EQ -1
 ORN ABOVE
 AND BELOW
-JMPCN ELSE_442
+JMPCN ELSE_485
 LD -1
 ST DIRECTION
-JMP END_IF_440
-ELSE_442:
+JMP END_IF_483
+ELSE_485:
 LD ABOVE
 SEL 0, 1
 ST DIRECTION
-END_IF_440:
+END_IF_483:
 LD DIRECTION
 NE -1
 ST HELD1
@@ -781,7 +869,7 @@ ST LOWEST
 (* Where in the circle are the floors of the new call, and how far ahead of the car? A car that
    runs is too late for the floor at which it is: DISTANCE is 1 then. *)
 LD ASKED
-JMPCN ELSE_461
+JMPCN ELSE_504
 LD NEW_TO
 GT NEW_FROM
 ST HELD1
@@ -812,16 +900,16 @@ MIN 48
 ST OUT_AHEAD
 CAL STOPS(ANEW := TRUE, IN_PLACE := IN_PLACE, IN_AHEAD := IN_AHEAD, OUT_PLACE := OUT_PLACE,
   OUT_AHEAD := OUT_AHEAD)
-ELSE_461:
+ELSE_504:
 
 (* Is the call of this slot assigned to this car? *)
 LD ASSIGNED
 NE CAR
-JMPCN ELSE_472
+JMPCN ELSE_515
 LD FALSE
 ST ABOARD[SLOT]
-JMP ELSE_507
-ELSE_472:
+JMP ELSE_550
+ELSE_515:
 LD CALLS
 MIN 31
 ADD 1
@@ -835,25 +923,25 @@ ANDN ABOARD[SLOT]
 AND( RUNS
 EQ 0
 )
-JMPCN ELSE_479
+JMPCN ELSE_522
 LD FILLED
 LT 8
-JMPCN ELSE_479
+JMPCN ELSE_522
 LD GETS_OFF
 GT GETS_ON
 SEL 1, -1
 NE DIRECTION
-JMPCN ELSE_479
+JMPCN ELSE_522
 LD TRUE
 ST ABOARD[SLOT]
 LD FILLED
 MIN 31
 ADD 1
 ST FILLED
-ELSE_479:
+ELSE_522:
 
 LD ABOARD[SLOT]
-JMPCN ELSE_485
+JMPCN ELSE_528
 (* They are in the car: it has work at their destination, and stops there. *)
 LD LOAD
 MIN 31
@@ -872,7 +960,7 @@ LD GETS_OFF
 MIN LOWEST
 ST LOWEST
 LD ASKED
-JMPCN ELSE_507
+JMPCN ELSE_550
 LD GETS_OFF
 GT FLOOR
 ST HELD1
@@ -893,8 +981,8 @@ ADD BESIDE
 MIN 32
 ST BESIDE
 CAL STOPS(ANEW := FALSE, PLACE := THERE, AHEAD := SECOND_AHEAD)
-JMP ELSE_507
-ELSE_485:
+JMP ELSE_550
+ELSE_528:
 (* They wait: the car has work at their landing. *)
 LD GETS_ON
 GT FLOOR
@@ -925,7 +1013,7 @@ MIN GETS_OFF
 MIN LOWEST
 ST LOWEST
 LD ASKED
-JMPCN ELSE_507
+JMPCN ELSE_550
 (* It stops there for them, *)
 LD GETS_OFF
 GT GETS_ON
@@ -964,7 +1052,7 @@ SEL 0, 1
 ADD BESIDE
 MIN 32
 ST BESIDE
-ELSE_507:
+ELSE_550:
 
 (* After the last slot all stops are known. *)
 LD SLOT
@@ -999,17 +1087,17 @@ LD IN_AHEAD
 ST DISTANCE
 LD PLACE
 LE 16
-JMPCN PAST_538_2
+JMPCN PAST_581_2
 LD PLACE
 ADD IN_AHEAD
 GT 16
-JMPC PAST_538
-PAST_538_2:
+JMPC PAST_581
+PAST_581_2:
 LD PLACE
 ADD IN_AHEAD
 GT 48
-JMPCN ELSE_538
-PAST_538:
+JMPCN ELSE_581
+PAST_581:
 LD HIGHEST
 SUB 16
 MUL 2
@@ -1017,11 +1105,11 @@ SUB 1
 ADD DISTANCE
 MAX 0
 ST DISTANCE
-ELSE_538:
+ELSE_581:
 LD PLACE
 ADD IN_AHEAD
 GT 32
-JMPCN ELSE_541
+JMPCN ELSE_584
 LD LOWEST
 MUL -2
 ADD 1
@@ -1029,17 +1117,17 @@ ADD DISTANCE
 MAX 0
 MIN 48
 ST DISTANCE
-ELSE_541:
+ELSE_584:
 
 (* A car without calls runs straight there. *)
 LD CALLS
 EQ 0
-JMPCN ELSE_546
+JMPCN ELSE_589
 LD FLOOR
 SUB NEW_FROM
 ABS
 ST DISTANCE
-ELSE_546:
+ELSE_589:
 
 (* How long do they wait? For the run, the stops before, and the rest of the present stop. *)
 LD DISTANCE
@@ -1057,19 +1145,19 @@ NE 0
 AND( IN_AHEAD
 NE 0
 )
-JMPCN ELSE_552
+JMPCN ELSE_595
 LD STOP_TIME
 SUB STOOD
 MAX 0
 ADD WAITING
 MIN 8000
 ST WAITING
-ELSE_552:
+ELSE_595:
 
 (* If the car is full then, they wait for its next round trip as well. *)
 LD BESIDE
 GE 8
-JMPCN ELSE_557
+JMPCN ELSE_600
 LD FLOOR_TIME
 MUL 32
 ADD( STOP_TIME
@@ -1078,7 +1166,7 @@ MUL 4
 ADD WAITING
 MIN 8000
 ST WAITING
-ELSE_557:
+ELSE_600:
 
 (* How long are they in the car? *)
 LD NEW_TO
@@ -1139,6 +1227,46 @@ ADD CROWDING
 ST COST
 END_FUNCTION_BLOCK
 
+(* Whether a car is out. GROUP calls this block for each car in each scan. A car with a call is out if it
+   has not come to another floor for some time; once it has, it is back. *)
+FUNCTION_BLOCK WATCH_OF_CAR
+VAR_INPUT
+  FLOOR : INT (1..16);  (* the floor at which it is *)
+  RUNS : INT (-1..1);  (* its motor *)
+  WORKS : BOOL;  (* it has a call, and neither a fire recall nor a limit keeps it *)
+END_VAR
+VAR_OUTPUT
+  IS_OUT : BOOL;
+END_VAR
+VAR
+  WAS_AT : INT (1..16);  (* the floor at which it was in the scan before *)
+  MOVED : BOOL;  (* it is at another floor now *)
+  RUNNING : TON;  (* how long its motor has run without that *)
+  STANDING : TON;  (* how long it has had calls without that *)
+END_VAR
+
+LD FLOOR
+NE WAS_AT
+ST MOVED
+LD FLOOR
+ST WAS_AT
+LD RUNS
+NE 0
+AND WORKS
+ANDN MOVED
+ST RUNNING.IN
+CAL RUNNING(PT := T#30s)
+LD WORKS
+ANDN MOVED
+ST STANDING.IN
+CAL STANDING(PT := T#53s)
+LD IS_OUT
+OR RUNNING.Q
+OR STANDING.Q
+ANDN MOVED
+ST IS_OUT
+END_FUNCTION_BLOCK
+
 (* The group program: a waiting call is assigned to the car in which it costs least time, of its
    passenger and of the others. *)
 PROGRAM ESTIMATED
@@ -1155,10 +1283,170 @@ VAR
   LEAST : INT (0..32767);  (* the least cost *)
   CHOSEN : INT (0..4);  (* the car that gets the call *)
   FROM_MAIN : INT (0..100);  (* how many of the last calls came from floor 1, of 100 *)
+  WORKS : ARRAY [0..4] OF BOOL;  (* for each car: it has a call; at 0 for the slots without a car *)
+  WATCH1 : WATCH_OF_CAR;  (* whether car 1 is out *)
+  WATCH2 : WATCH_OF_CAR;  (* whether car 2 is out *)
+  WATCH3 : WATCH_OF_CAR;  (* whether car 3 is out *)
+  WATCH4 : WATCH_OF_CAR;  (* whether car 4 is out *)
+  HELD1 : INT;
 END_VAR
 VAR_EXTERNAL
+  OUT : ARRAY [0..4] OF BOOL;  (* for each car: it is out; the cars see it *)
   UP_PEAK : BOOL;  (* most calls come from floor 1; the cars see it *)
 END_VAR
+
+(* Which cars are out? They get no call. *)
+LD FALSE
+ST WORKS[0]
+ST WORKS[1]
+ST WORKS[2]
+ST WORKS[3]
+ST WORKS[4]
+LD RUNLIMIT
+GT 0
+ANDN FIRE
+JMPCN ELSE_678
+LD CALLCAR[1]
+ST HELD1
+LD TRUE
+ST WORKS[HELD1]
+LD CALLCAR[2]
+ST HELD1
+LD TRUE
+ST WORKS[HELD1]
+LD CALLCAR[3]
+ST HELD1
+LD TRUE
+ST WORKS[HELD1]
+LD CALLCAR[4]
+ST HELD1
+LD TRUE
+ST WORKS[HELD1]
+LD CALLCAR[5]
+ST HELD1
+LD TRUE
+ST WORKS[HELD1]
+LD CALLCAR[6]
+ST HELD1
+LD TRUE
+ST WORKS[HELD1]
+LD CALLCAR[7]
+ST HELD1
+LD TRUE
+ST WORKS[HELD1]
+LD CALLCAR[8]
+ST HELD1
+LD TRUE
+ST WORKS[HELD1]
+LD CALLCAR[9]
+ST HELD1
+LD TRUE
+ST WORKS[HELD1]
+LD CALLCAR[10]
+ST HELD1
+LD TRUE
+ST WORKS[HELD1]
+LD CALLCAR[11]
+ST HELD1
+LD TRUE
+ST WORKS[HELD1]
+LD CALLCAR[12]
+ST HELD1
+LD TRUE
+ST WORKS[HELD1]
+LD CALLCAR[13]
+ST HELD1
+LD TRUE
+ST WORKS[HELD1]
+LD CALLCAR[14]
+ST HELD1
+LD TRUE
+ST WORKS[HELD1]
+LD CALLCAR[15]
+ST HELD1
+LD TRUE
+ST WORKS[HELD1]
+LD CALLCAR[16]
+ST HELD1
+LD TRUE
+ST WORKS[HELD1]
+LD CALLCAR[17]
+ST HELD1
+LD TRUE
+ST WORKS[HELD1]
+LD CALLCAR[18]
+ST HELD1
+LD TRUE
+ST WORKS[HELD1]
+LD CALLCAR[19]
+ST HELD1
+LD TRUE
+ST WORKS[HELD1]
+LD CALLCAR[20]
+ST HELD1
+LD TRUE
+ST WORKS[HELD1]
+LD CALLCAR[21]
+ST HELD1
+LD TRUE
+ST WORKS[HELD1]
+LD CALLCAR[22]
+ST HELD1
+LD TRUE
+ST WORKS[HELD1]
+LD CALLCAR[23]
+ST HELD1
+LD TRUE
+ST WORKS[HELD1]
+LD CALLCAR[24]
+ST HELD1
+LD TRUE
+ST WORKS[HELD1]
+LD CALLCAR[25]
+ST HELD1
+LD TRUE
+ST WORKS[HELD1]
+LD CALLCAR[26]
+ST HELD1
+LD TRUE
+ST WORKS[HELD1]
+LD CALLCAR[27]
+ST HELD1
+LD TRUE
+ST WORKS[HELD1]
+LD CALLCAR[28]
+ST HELD1
+LD TRUE
+ST WORKS[HELD1]
+LD CALLCAR[29]
+ST HELD1
+LD TRUE
+ST WORKS[HELD1]
+LD CALLCAR[30]
+ST HELD1
+LD TRUE
+ST WORKS[HELD1]
+LD CALLCAR[31]
+ST HELD1
+LD TRUE
+ST WORKS[HELD1]
+LD CALLCAR[32]
+ST HELD1
+LD TRUE
+ST WORKS[HELD1]
+ELSE_678:
+CAL WATCH1(FLOOR := CPOS[1], RUNS := CMOTOR[1], WORKS := WORKS[1])
+LD WATCH1.IS_OUT
+ST OUT[1]
+CAL WATCH2(FLOOR := CPOS[2], RUNS := CMOTOR[2], WORKS := WORKS[2])
+LD WATCH2.IS_OUT
+ST OUT[2]
+CAL WATCH3(FLOOR := CPOS[3], RUNS := CMOTOR[3], WORKS := WORKS[3])
+LD WATCH3.IS_OUT
+ST OUT[3]
+CAL WATCH4(FLOOR := CPOS[4], RUNS := CMOTOR[4], WORKS := WORKS[4])
+LD WATCH4.IS_OUT
+ST OUT[4]
 
 (* Which call slot waits? Each scan handles one, the lowest. While FIRE holds no call is assigned:
    calls wait in their slots until the recall is over. *)
@@ -1445,42 +1733,46 @@ ST UP_PEAK
 (* In which car does the call cost least? At a tie it is the one with the lowest number. *)
 LD 32767
 ST LEAST
-LD 1
+LD 0
 ST CHOSEN
 LD ROUTE1.COST
 LT LEAST
-JMPCN ELSE_657
+ANDN OUT[1]
+JMPCN ELSE_745
 LD 1
 ST CHOSEN
 LD ROUTE1.COST
 ST LEAST
-ELSE_657:
+ELSE_745:
 LD ROUTE2.COST
 LT LEAST
-JMPCN ELSE_661
+ANDN OUT[2]
+JMPCN ELSE_749
 LD 2
 ST CHOSEN
 LD ROUTE2.COST
 ST LEAST
-ELSE_661:
+ELSE_749:
 LD ROUTE3.COST
 LT LEAST
-JMPCN ELSE_665
+ANDN OUT[3]
+JMPCN ELSE_753
 LD 3
 ST CHOSEN
 LD ROUTE3.COST
 ST LEAST
-ELSE_665:
+ELSE_753:
 LD ROUTE4.COST
 LT LEAST
-JMPCN ELSE_669
+ANDN OUT[4]
+JMPCN ELSE_757
 LD 4
 ST CHOSEN
 LD ROUTE4.COST
 ST LEAST
-ELSE_669:
+ELSE_757:
 
-(* It gets the call. *)
+(* It gets the call. If all cars are out, none does, and the call waits. *)
 LD CHOSEN
 ST ASSIGN[NEW]
 END_PROGRAM
@@ -1491,6 +1783,9 @@ END_PROGRAM
 (* DWELL_TIME is T#3s *)  (* how long a door stays open after the last passenger *)
 (* TRANSFER_TIME is T#1s *)  (* how long it stays open for each who gets in or out *)
 (* HOLD_TIME is T#20s *)  (* how long a car with work takes passengers at a stop *)
+(* OUT_TIME is T#30s *)  (* after how long a car that doesn't move is out *)
+(* STAND_TIME is T#53s *)  (* the same of one that may make a stop: more than the longest stop *)
+(* REST_TIME is T#1m23s *)  (* how long a car that finds no landing stands before it tries again *)
 (* PARK_TIME is T#15s *)  (* after how long an idle car goes to its home floor *)
 (* CIRCLE is 32 *)
 (* FARTHEST is 48 *)  (* places *)
@@ -1504,7 +1799,8 @@ END_PROGRAM
 CONFIGURATION BUILDING
 VAR_GLOBAL CONSTANT CARS : INT := 4; FLOORS : INT := 16; SLOTS : INT := 32; END_VAR
 VAR_GLOBAL
-  UP_PEAK : BOOL;
+  OUT : ARRAY [0..4] OF BOOL;  (* for each car: it is out *)
+  UP_PEAK : BOOL;  (* most calls come from floor 1 *)
 END_VAR
 RESOURCE CABINET ON PLC
 TASK CAR1 (INTERVAL := T#100ms, PRIORITY := 1);

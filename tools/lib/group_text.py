@@ -5,9 +5,11 @@ A template is Structured Text with lines of its own between it, each a comment:
     // WITH parking      the lines from here on are there if the group has this part
     // ELSE              and these if it hasn't
     // EACH car          these are there once for each car, with its number for {car}
+    // USE watch         another template
     // END
 
-{NAME} stands for a value of the group. Sizes and settings are constants of the configuration, in group.st, so only that file, the heading and lines for each car have any.
+{NAME} stands for a value of the group. Sizes and settings are constants of the configuration, in group.st. So only that file, the heading and lines for each
+car have any.
 """
 import os, re
 from dataclasses import asdict, dataclass
@@ -17,6 +19,7 @@ TEMPLATES = os.path.join(os.path.dirname(os.path.abspath(__file__)), "group")
 DISPATCHERS = {"nearest": "NEAREST_CAR", "turn": "IN_TURN", "same": "SAME_DESTINATION", "estimated": "ESTIMATED"}  # with the names of their programs
 SECOND = 1000  # ms
 SCAN = 100  # ms, in which times are measured
+MOST_PASSING = 60 * SECOND  # car.st cuts the time of those who pass the door to a minute
 PARK_AT_ONCE = SECOND  # in an up-peak
 STOP_MORE_THAN_DWELL = 30  # scans that a stop is taken to last before it is measured
 
@@ -34,14 +37,23 @@ class Group:
     transfer: int = SECOND
     hold: int = 20 * SECOND
     park: int = 15 * SECOND
+    out: int = 30 * SECOND
 
     def parts(self) -> set[str]:
         """Those that not every group has. In an up-peak GROUP calls idle cars back to floor 1."""
         parks, estimates = self.park > 0, self.dispatch == "estimated"
         return {name for name, is_there in {"parking": parks, "estimated": estimates, "up_peak": parks and estimates}.items() if is_there}
 
+    def longest_stop(self) -> int:
+        """Of a car that has work elsewhere, but for its door's ways."""
+        return max(self.hold + self.dwell, min(MOST_PASSING + self.transfer, 2 * self.capacity * self.transfer))
+
     def values(self) -> dict[str, str]:
-        times = {"dwell": self.dwell, "transfer": self.transfer, "hold": self.hold, "park": self.park, "park_in_up_peak": min(PARK_AT_ONCE, self.park)}
+        times = {name: getattr(self, name) for name in ("dwell", "transfer", "hold", "park", "out")} | {
+            "park_in_up_peak": min(PARK_AT_ONCE, self.park),
+            "stand": self.longest_stop() + self.out,
+            "rest": self.longest_stop() + 2 * self.out,
+        }
         numbers = {name: value for name, value in asdict(self).items() if name not in times} | {
             "last": self.cars + 1,
             "program": DISPATCHERS[self.dispatch],
@@ -74,6 +86,8 @@ def chosen(lines: Iterator[str], parts: set[str], cars: int) -> tuple[list[str],
             case ["EACH", "car"]:
                 each, _ = chosen(lines, parts, cars)
                 made += [it.replace("{car}", str(car)) for car in range(1, cars + 1) for it in each]
+            case ["USE", name]:
+                made += chosen(template(name), parts, cars)[0]
             case [("ELSE" | "END") as word]:
                 return made, word
             case _:
@@ -81,11 +95,15 @@ def chosen(lines: Iterator[str], parts: set[str], cars: int) -> tuple[list[str],
     return made, ""
 
 
+def template(name: str) -> Iterator[str]:
+    with open(f"{TEMPLATES}/{name}.st", encoding="ascii") as file:
+        return iter(file.read().removesuffix("\n").split("\n"))
+
+
 def filled(name: str, group: Group, values: dict[str, str]) -> str:
     """A template with the parts and the values of a group."""
-    with open(f"{TEMPLATES}/{name}.st", encoding="ascii") as file:
-        lines, _ = chosen(iter(file.read().split("\n")), group.parts(), group.cars)
-    return re.sub(r"\{(\w+)\}", lambda it: values[it[1]], "\n".join(lines))
+    lines, _ = chosen(template(name), group.parts(), group.cars)
+    return re.sub(r"\{(\w+)\}", lambda it: values[it[1]], "".join(f"{line}\n" for line in lines))
 
 
 def st_of(group: Group, words: str) -> str:
