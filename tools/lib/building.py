@@ -292,7 +292,7 @@ class Building:
             car.motor = car.open = 0
             car.waiting.clear()
             car.unboarded.clear()
-            car.strays = [passenger for people in car.aboard.values() for passenger in people]
+            car.strays = [passenger for people in car.aboard.values() for passenger in people] + ([car.crosser] if car.crosser and car.inward else [])
 
     def open_calls(self) -> int:
         """Calls that hold a slot."""
