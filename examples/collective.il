@@ -2,50 +2,53 @@
 
      tools/group 2 8 16 --dispatch nearest
 
-   A passenger enters the destination at the landing. The call waits in a call slot until
-   GROUP assigns it to a car, by a store into ASSIGN. The car collects the calls that are told
-   to it, up to 8 passengers at a time, and frees the slot of a call by SERVE once its
-   passenger is out. docs/GROUPS.md says more.
+   Passengers enter their destination at the landing. The call waits in a call slot until
+   GROUP assigns it to a car, by a store into ASSIGN. The car collects the calls that are
+   assigned to it, up to CAPACITY passengers at a time, and frees the slot of a call by SERVE
+   once its passenger is out. docs/GROUPS.md says more.
    Try `sim FILE 600 1:1:8 1:8:1`: calls from the lowest floor to the highest, and back. *)
+(* WAY is INT (-1..1): DOWN is -1, STILL is 0, UP is 1 *)  (* of a motor, and of a car *)
 
 (* The calls of one car. In each scan the car program calls this block for each call slot,
-   from slot 1 on. Behind the last slot its outputs say where the car has work. *)
+   from slot 1 on. After the last slot its outputs say where the car has work. *)
+(* LONG_WAIT is 9999 *)  (* scans *)
 FUNCTION_BLOCK CALLS_OF_CAR
 VAR_INPUT
-  CAR : INT (1..2);         (* the number of the car *)
-  FLOOR : INT (1..8);       (* the floor at which it is *)
-  OPENED_HERE : BOOL;       (* it stands level with this floor, its door wholly open *)
-  SHUT : BOOL;              (* its door is wholly shut *)
-  ADMITS : BOOL;            (* passengers may get in *)
-  SLOT : INT (1..16);       (* the call slot that is looked at *)
-  TOLD : INT (0..2);        (* the car that its call is told to; 0 for none *)
-  FROM : INT (0..8);        (* the floors of the call; 0 in a free slot *)
-  TO : INT (0..8);
+  CAR : INT (1..2);  (* the number of the car *)
+  FLOOR : INT (1..8);  (* the floor at which it is *)
+  OPENED_HERE : BOOL;  (* it stands level with this floor, its door wholly open *)
+  SHUT : BOOL;  (* its door is wholly shut *)
+  ADMITS : BOOL;  (* passengers may get in *)
+  IS_OUT : BOOL;  (* it is out: it gives back the calls of those who are not in the car *)
+  SLOT : INT (1..16);  (* the call slot that is looked at *)
+  ASSIGNED : INT (0..2);  (* the car that its call is assigned to; 0 for none *)
+  GETS_ON : INT (0..8);  (* the floors of the call; 0 in a free slot *)
+  GETS_OFF : INT (0..8);
 END_VAR
 VAR_OUTPUT
-  ABOVE : BOOL;             (* there is work above, or a passenger at this floor goes up *)
-  BELOW : BOOL;             (* there is work below, or a passenger at this floor goes down *)
-  UP_HERE : BOOL;           (* a passenger waits at this floor and goes up *)
-  DOWN_HERE : BOOL;         (* a passenger waits at this floor and goes down *)
-  OUT_HERE : BOOL;          (* a passenger in the car gets out at this floor *)
-  MOVED : BOOL;             (* somebody got in or out in this scan *)
-  SERVED : INT (0..16);     (* the slot of the passenger who got out in this scan; 0 for none *)
-  LOAD : INT (0..8);        (* how many passengers are in the car *)
-  PASSING : TIME;           (* how long the door has to be open for all who pass it at this stop *)
+  ABOVE : BOOL;  (* there is work above, or a passenger at this floor goes up *)
+  BELOW : BOOL;  (* there is work below, or a passenger at this floor goes down *)
+  UP_HERE : BOOL;  (* a passenger waits at this floor and goes up *)
+  DOWN_HERE : BOOL;  (* a passenger waits at this floor and goes down *)
+  OUT_HERE : BOOL;  (* a passenger in the car gets out at this floor *)
+  MOVED : BOOL;  (* somebody got in or out in this scan *)
+  SERVED : INT (0..16);  (* the slot of the passenger who got out in this scan, or that is given back; 0 for none *)
+  LOAD : INT (0..8);  (* how many passengers are in the car *)
+  PASSING : TIME;  (* how long the door has to be open for all who pass it at this stop *)
 END_VAR
 VAR
-  ABOARD : ARRAY [1..16] OF BOOL; (* for each slot: its passenger is in the car *)
-  WAITED : ARRAY [1..16] OF INT (0..9999); (* for how many scans he has waited for it *)
+  ABOARD : ARRAY [1..16] OF BOOL;  (* for each slot: its passenger is in the car *)
+  WAITED : ARRAY [1..16] OF INT (0..9999);  (* for how many scans they have waited for it *)
   LONGEST : INT (0..9999);  (* the longest wait of those who wait at this floor in this scan *)
-  FIRST : INT (0..9999);    (* and in the scan before: who has waited that long gets in first *)
-  GOING_ON : INT (0..8);    (* how many are in the car and go on from this floor *)
-  KEPT : INT (0..8);        (* and in the scan before: if that is all, nobody else has room *)
+  FIRST : INT (0..9999);  (* and in the scan before: who has waited that long gets in first *)
+  GOING_ON : INT (0..8);  (* how many are in the car and go on from this floor *)
+  KEPT : INT (0..8);  (* and in the scan before: if that is all, nobody else has room *)
 END_VAR
 
 (* Slot 1 begins anew. *)
 LD SLOT
 EQ 1
-JMPCN LOOK
+JMPCN ELSE_54
 LD FALSE
 ST ABOVE
 ST BELOW
@@ -64,67 +67,67 @@ ST SERVED
 LD SHUT
 SEL PASSING, T#0s
 ST PASSING
+ELSE_54:
 
-(* Is the call told to this car? If not, nobody in the car belongs to it. *)
-LOOK:
-LD TOLD
-EQ CAR
-JMPC MINE
+(* Is the call assigned to this car? If not, nobody in the car belongs to it. *)
+LD ASSIGNED
+NE CAR
+JMPCN ELSE_72
 LD FALSE
 ST ABOARD[SLOT]
 LD 0
 ST WAITED[SLOT]
 RET
+ELSE_72:
 
-(* The passenger is in the car, or waits at his landing: there is the work. *)
-MINE:
 LD ABOARD[SLOT]
-JMPC INSIDE
+JMPC END_IF_104
+(* A car that is out gives the call back, one a scan. The passenger presses again, and another car
+   gets the new call. *)
+LD IS_OUT
+JMPCN ELSE_81
+LD 0
+ST WAITED[SLOT]
+LD SERVED
+EQ 0
+SEL SERVED, SLOT
+ST SERVED
+RET
+ELSE_81:
+
+(* The passenger waits at the landing: there is the work. *)
 LD WAITED[SLOT]
 MIN 9998
 ADD 1
 ST WAITED[SLOT]
-LD FROM
+LD GETS_ON
 GT FLOOR
-JMPC WORK_ABOVE
-LD FROM
+JMPCN ELSE_91
+LD TRUE
+ST ABOVE
+RET
+ELSE_91:
+LD GETS_ON
 LT FLOOR
-JMPC WORK_BELOW
+JMPCN ELSE_94
+LD TRUE
+ST BELOW
+RET
+ELSE_94:
+LD ADMITS
+RETCN
+(* A car that has to leave doesn't take them now. *)
 
-(* He waits at this floor. A car that has to leave doesn't take him now, nor does a full one from
-   which nobody gets out here. Who has waited longest gets in first, so nobody is left behind
-   again and again. *)
-LDN ADMITS
-JMPC LEFT
+(* Nor does a full one from which nobody gets out here. Who has waited longest gets in first, so
+   nobody is left behind again and again. *)
 LD LOAD
-GE 8
-JMPC STAYS
+LT 8
+JMPCN ELSE_104
 LD WAITED[SLOT]
 GE FIRST
 AND OPENED_HERE
-JMPC GETS_IN
-STAYS:
-LD WAITED[SLOT]
-MAX LONGEST
-ST LONGEST
-LD KEPT
-GE 8
-JMPC LEFT
-LD TO
-LT FLOOR
-JMPC DOWNWARDS
-LD TRUE
-ST UP_HERE
-ST ABOVE
-RET
-DOWNWARDS:
-LD TRUE
-ST DOWN_HERE
-ST BELOW
-RET
-
-(* The door is wholly open: he gets in, and from now on the work is at his destination. *)
-GETS_IN:
+JMPCN ELSE_104
+(* The door is wholly open: they get in, and from now on the work is at their destination. *)
 LD LOAD
 ADD 1
 ST LOAD
@@ -135,24 +138,54 @@ LD PASSING
 MIN T#1m
 ADD T#1s
 ST PASSING
-INSIDE:
-LD TO
+JMP END_IF_104
+ELSE_104:
+LD WAITED[SLOT]
+MAX LONGEST
+ST LONGEST
+LD KEPT
+LT 8
+RETCN
+LD GETS_OFF
+LT FLOOR
+JMPCN ELSE_113
+LD TRUE
+ST DOWN_HERE
+ST BELOW
+RET
+ELSE_113:
+LD TRUE
+ST UP_HERE
+ST ABOVE
+RET
+END_IF_104:
+
+(* The passenger is in the car. *)
+LD GETS_OFF
 NE FLOOR
 SEL 0, 1
 ADD GOING_ON
 MIN 8
 ST GOING_ON
-LD TO
+LD GETS_OFF
 GT FLOOR
-JMPC WORK_ABOVE
-LD TO
+JMPCN ELSE_127
+LD TRUE
+ST ABOVE
+RET
+ELSE_127:
+LD GETS_OFF
 LT FLOOR
-JMPC WORK_BELOW
+JMPCN ELSE_129
+LD TRUE
+ST BELOW
+RET
+ELSE_129:
 LD TRUE
 ST OUT_HERE
 
-(* He is at his destination. With the door wholly open he gets out: one passenger a scan, since
-   a car serves one call slot a scan. *)
+(* They are at their destination. With the door wholly open they get out: one passenger a scan,
+   since a car serves one call slot a scan. *)
 LD SERVED
 EQ 0
 AND OPENED_HERE
@@ -171,16 +204,6 @@ LD PASSING
 MIN T#1m
 ADD T#1s
 ST PASSING
-RET
-
-WORK_ABOVE:
-LD TRUE
-ST ABOVE
-RET
-WORK_BELOW:
-LD TRUE
-ST BELOW
-LEFT:
 END_FUNCTION_BLOCK
 
 (* The car program: collective control. All cars run it, each with variables of its own.
@@ -188,28 +211,67 @@ END_FUNCTION_BLOCK
    same way. It keeps its direction as long as it has work that way, and then turns. *)
 PROGRAM COLLECTIVE_CAR
 VAR
-  CALLS : CALLS_OF_CAR;     (* the calls that are told to this car *)
-  DIRECTION : INT (-1..1);  (* the way of the car: 1 up, -1 down, 0 none *)
-  ABOVE : BOOL;             (* the car has to go up, for a call or to its home floor *)
-  BELOW : BOOL;             (* the car has to go down *)
-  AHEAD : BOOL;             (* the car has to go on in its direction *)
-  HERE : BOOL;              (* a passenger wants to get in or out at this floor *)
-  CAME_FROM : INT (0..8);   (* the landing that the car has left; 0 for none *)
-  OVER : BOOL;              (* the door has been open long enough *)
-  RECALLED : BOOL;          (* there was a fire recall in the scan before *)
-  DWELL : TON;              (* how long nobody has passed the open door *)
-  PASSAGE : TON;            (* how long the door has been open *)
-  HELD : TON;               (* how long the car has stood though it has work *)
-  IDLE : TON;               (* how long the car has had no call *)
-  HOME : INT (1..8);        (* the floor where it waits then *)
+  CALLS : CALLS_OF_CAR;  (* the calls that are assigned to this car *)
+  DIRECTION : INT (-1..1);  (* the way of the car *)
+  ABOVE : BOOL;  (* the car has to go up, for a call or to its home floor *)
+  BELOW : BOOL;  (* the car has to go down *)
+  AHEAD : BOOL;  (* the car has to go on in its direction *)
+  HERE : BOOL;  (* a passenger wants to get in or out at this floor *)
+  CAME_FROM : INT (0..8);  (* the landing that the car has left; 0 for none *)
+  OVER : BOOL;  (* the door has been open long enough *)
+  RECALLED : BOOL;  (* there was a fire recall in the scan before *)
+  DWELL : TON;  (* how long nobody has passed the open door *)
+  PASSAGE : TON;  (* how long the door has been open *)
+  HELD : TON;  (* how long the car has stood though it has work *)
+  LET_OUT : BOOL;  (* the door has been open for whoever was in the car at the start *)
+  WAS_OUT : BOOL;  (* the car was out in the scan before *)
+  STUCK : TON;  (* how long the car has not left a landing though its motor runs *)
+  LOST : TON;  (* how long the car has found no landing *)
+  REST : TP;  (* then it stands for a while before it tries again *)
+  IDLE : TON;  (* how long the car has had no call *)
+  HOME : INT (1..8);  (* the floor where it waits then *)
+  STARTED : BOOL;  (* its first opening of the door is over *)
+END_VAR
+VAR_EXTERNAL
+  OUT : ARRAY [0..2] OF BOOL;  (* for each car: it is out; GROUP says so *)
 END_VAR
 
-(* Fire recall goes before all calls. *)
+(* Fire: each car goes down to floor 1. Interlock rule 6 lets no car run up. The calls stay as
+   they are, and the car goes on with them after the recall. *)
 LD FIRE
-JMPC RECALL
+JMPCN ELSE_179
+LD TRUE
+ST RECALLED
+CAL DWELL(IN := FALSE)
+CAL PASSAGE(IN := FALSE)
+CAL HELD(IN := FALSE)
+CAL STUCK(IN := FALSE)
+CAL LOST(IN := FALSE)
+CAL IDLE(IN := FALSE)
+LD 0
+ST DIRECTION
+ST CAME_FROM
+LD POS
+EQ 1
+AND LEVEL
+JMPCN ELSE_189
+(* At floor 1 it stands with its door open, as long as FIRE holds. *)
+LD 0
+ST MOTOR
+LD TRUE
+ST OPEN
+RET
+ELSE_189:
+LD FALSE
+ST OPEN
+LD LOCKED
+SEL 0, -1
+ST MOTOR
+RET
+ELSE_179:
 
 (* Where is work? The block looks at all call slots. A passenger gets in or out where the car
-   stands level with a floor, its door wholly open; not yet in the first scan behind a recall,
+   stands level with a floor, its door wholly open; not yet in the first scan after a recall,
    since the block then has to find out who has waited longest. *)
 LD OPENED
 AND LEVEL
@@ -217,31 +279,38 @@ ANDN RECALLED
 ST CALLS.OPENED_HERE
 LD FALSE
 ST RECALLED
+LD CARNO
+ST CALLS.CAR
+LD POS
+ST CALLS.FLOOR
+LD LOCKED
+ST CALLS.SHUT
 LDN HELD.Q
 ST CALLS.ADMITS
-CAL CALLS(CAR := CARNO, FLOOR := POS, SHUT := LOCKED,
-  SLOT := 1, TOLD := CALLCAR[1], FROM := CALLFROM[1], TO := CALLTO[1])
-CAL CALLS(SLOT := 2, TOLD := CALLCAR[2], FROM := CALLFROM[2], TO := CALLTO[2])
-CAL CALLS(SLOT := 3, TOLD := CALLCAR[3], FROM := CALLFROM[3], TO := CALLTO[3])
-CAL CALLS(SLOT := 4, TOLD := CALLCAR[4], FROM := CALLFROM[4], TO := CALLTO[4])
-CAL CALLS(SLOT := 5, TOLD := CALLCAR[5], FROM := CALLFROM[5], TO := CALLTO[5])
-CAL CALLS(SLOT := 6, TOLD := CALLCAR[6], FROM := CALLFROM[6], TO := CALLTO[6])
-CAL CALLS(SLOT := 7, TOLD := CALLCAR[7], FROM := CALLFROM[7], TO := CALLTO[7])
-CAL CALLS(SLOT := 8, TOLD := CALLCAR[8], FROM := CALLFROM[8], TO := CALLTO[8])
-CAL CALLS(SLOT := 9, TOLD := CALLCAR[9], FROM := CALLFROM[9], TO := CALLTO[9])
-CAL CALLS(SLOT := 10, TOLD := CALLCAR[10], FROM := CALLFROM[10], TO := CALLTO[10])
-CAL CALLS(SLOT := 11, TOLD := CALLCAR[11], FROM := CALLFROM[11], TO := CALLTO[11])
-CAL CALLS(SLOT := 12, TOLD := CALLCAR[12], FROM := CALLFROM[12], TO := CALLTO[12])
-CAL CALLS(SLOT := 13, TOLD := CALLCAR[13], FROM := CALLFROM[13], TO := CALLTO[13])
-CAL CALLS(SLOT := 14, TOLD := CALLCAR[14], FROM := CALLFROM[14], TO := CALLTO[14])
-CAL CALLS(SLOT := 15, TOLD := CALLCAR[15], FROM := CALLFROM[15], TO := CALLTO[15])
-CAL CALLS(SLOT := 16, TOLD := CALLCAR[16], FROM := CALLFROM[16], TO := CALLTO[16])
+LD OUT[CARNO]
+ST CALLS.IS_OUT
+CAL CALLS(SLOT := 1, ASSIGNED := CALLCAR[1], GETS_ON := CALLFROM[1], GETS_OFF := CALLTO[1])
+CAL CALLS(SLOT := 2, ASSIGNED := CALLCAR[2], GETS_ON := CALLFROM[2], GETS_OFF := CALLTO[2])
+CAL CALLS(SLOT := 3, ASSIGNED := CALLCAR[3], GETS_ON := CALLFROM[3], GETS_OFF := CALLTO[3])
+CAL CALLS(SLOT := 4, ASSIGNED := CALLCAR[4], GETS_ON := CALLFROM[4], GETS_OFF := CALLTO[4])
+CAL CALLS(SLOT := 5, ASSIGNED := CALLCAR[5], GETS_ON := CALLFROM[5], GETS_OFF := CALLTO[5])
+CAL CALLS(SLOT := 6, ASSIGNED := CALLCAR[6], GETS_ON := CALLFROM[6], GETS_OFF := CALLTO[6])
+CAL CALLS(SLOT := 7, ASSIGNED := CALLCAR[7], GETS_ON := CALLFROM[7], GETS_OFF := CALLTO[7])
+CAL CALLS(SLOT := 8, ASSIGNED := CALLCAR[8], GETS_ON := CALLFROM[8], GETS_OFF := CALLTO[8])
+CAL CALLS(SLOT := 9, ASSIGNED := CALLCAR[9], GETS_ON := CALLFROM[9], GETS_OFF := CALLTO[9])
+CAL CALLS(SLOT := 10, ASSIGNED := CALLCAR[10], GETS_ON := CALLFROM[10], GETS_OFF := CALLTO[10])
+CAL CALLS(SLOT := 11, ASSIGNED := CALLCAR[11], GETS_ON := CALLFROM[11], GETS_OFF := CALLTO[11])
+CAL CALLS(SLOT := 12, ASSIGNED := CALLCAR[12], GETS_ON := CALLFROM[12], GETS_OFF := CALLTO[12])
+CAL CALLS(SLOT := 13, ASSIGNED := CALLCAR[13], GETS_ON := CALLFROM[13], GETS_OFF := CALLTO[13])
+CAL CALLS(SLOT := 14, ASSIGNED := CALLCAR[14], GETS_ON := CALLFROM[14], GETS_OFF := CALLTO[14])
+CAL CALLS(SLOT := 15, ASSIGNED := CALLCAR[15], GETS_ON := CALLFROM[15], GETS_OFF := CALLTO[15])
+CAL CALLS(SLOT := 16, ASSIGNED := CALLCAR[16], GETS_ON := CALLFROM[16], GETS_OFF := CALLTO[16])
 LD CALLS.ABOVE
 ST ABOVE
 LD CALLS.BELOW
 ST BELOW
 
-(* The call of the passenger who got out is served, and its slot becomes free. *)
+(* The call of the passenger who got out is served, or a call is given back: its slot becomes free. *)
 LD CALLS.SERVED
 ST SERVE
 
@@ -266,16 +335,56 @@ OR BELOW
 ST HELD.IN
 CAL HELD(PT := T#20s)
 
+(* After a start of the controller nobody knows who is in the car. So it goes to the next landing, if
+   it is at none, and opens its door there once for the dwell time; then it works as always. So does a
+   car that comes back after it was out, and one that doesn't leave a landing though its motor runs. *)
+LD MOTOR
+NE 0
+AND LEVEL
+AND( POS
+EQ CAME_FROM
+)
+ST STUCK.IN
+CAL STUCK(PT := T#30s)
+LD LET_OUT
+OR OVER
+ANDN STUCK.Q
+ANDN( WAS_OUT
+ANDN OUT[CARNO]
+)
+ST LET_OUT
+LD OUT[CARNO]
+ST WAS_OUT
+
+(* A car that finds no landing for some time has lost its drive or its sensors. It stands for a while,
+   so that GROUP takes it out, and then tries again. *)
+LDN LEVEL
+ANDN REST.Q
+AND( MOTOR
+NE 0
+OR TOP
+OR BOTTOM
+)
+ST LOST.IN
+CAL LOST(PT := T#30s)
+CAL REST(IN := LOST.Q, PT := T#1m23s)
+
 (* A car without a call goes to its home floor after some time. The homes are spread over the
-   building: the lowest floor in each of as many parts as there are cars. *)
+   building: the lowest floor in each of as many parts as there are cars. The first opening of the
+   door is no call. *)
+LD LET_OUT
+AND LOCKED
+S STARTED
 LD ABOVE
 OR BELOW
 OR CALLS.OUT_HERE
-ORN LOCKED
+OR( STARTED
+ANDN LOCKED
+)
 STN IDLE.IN
 CAL IDLE(PT := T#15s)
 LD IDLE.Q
-JMPCN BUSY
+JMPCN ELSE_246
 LD CARNO
 SUB 1
 MUL 8
@@ -288,18 +397,37 @@ ST ABOVE
 LD POS
 GT HOME
 ST BELOW
-BUSY:
+ELSE_246:
 
-(* Does the car stand? *)
+(* A car that is out and has no call goes to another landing: once it has moved, it is back. *)
+LD OUT[CARNO]
+ANDN ABOVE
+ANDN BELOW
+ANDN CALLS.OUT_HERE
+JMPCN ELSE_253
+LD POS
+LT 8
+ST ABOVE
+LDN ABOVE
+ST BELOW
+ELSE_253:
+
+LD REST.Q
+ANDN LEVEL
+JMPCN ELSE_258
+LD 0
+ST MOTOR
+RET
+ELSE_258:
 LD MOTOR
-EQ 0
-JMPC STANDS
-
+NE 0
+JMPCN ELSE_260
 (* It runs. Between two landings it runs on, and at the landing from which it comes. *)
 LD MOTOR
 ST DIRECTION
 LD POS
 EQ CAME_FROM
+AND LET_OUT
 ORN LEVEL
 RETC
 
@@ -313,6 +441,7 @@ LD DIRECTION
 EQ 1
 SEL CALLS.DOWN_HERE, CALLS.UP_HERE
 OR CALLS.OUT_HERE
+ORN LET_OUT
 ST HERE
 ORN AHEAD
 RETCN
@@ -321,51 +450,50 @@ ST MOTOR
 LD HERE
 ST OPEN
 RET
-
+ELSE_260:
+LD LEVEL
+JMPCN ELSE_275
 (* It stands. At a landing it keeps its direction as long as there is work that way. *)
-STANDS:
-LDN LEVEL
-JMPC BETWEEN
 LD DIRECTION
 EQ -1
 ORN ABOVE
 AND BELOW
-JMPC DOWNWARDS
+JMPCN ELSE_277
+LD -1
+ST DIRECTION
+JMP END_IF_277
+ELSE_277:
 LD ABOVE
 SEL 0, 1
 ST DIRECTION
-JMP DOOR
-DOWNWARDS:
-LD -1
-ST DIRECTION
+END_IF_277:
 
 (* The door opens for those who get in or out, and stays open until its time is over. *)
-DOOR:
 LD DIRECTION
 EQ 1
 SEL CALLS.DOWN_HERE, CALLS.UP_HERE
 OR CALLS.OUT_HERE
+ORN LET_OUT
 ST HERE
 LD OPEN
 ANDN OVER
 OR HERE
 ST OPEN
-RETC
 
 (* Then the door shuts. Once it is locked the car runs, if it has work. *)
-LDN LOCKED
-RETC
+LDN OPEN
+AND LOCKED
+RETCN
 LD POS
 ST CAME_FROM
 LD DIRECTION
 ST MOTOR
 RET
-
-(* It stands between two landings, after a fire recall or a limit of running cars. It runs on as it
-   has run, after a recall down; from beyond an end of the shaft it runs back. *)
-BETWEEN:
-LDN LOCKED
-RETC
+ELSE_275:
+LD LOCKED
+RETCN
+(* It stands between two landings, after a start, a fire recall or a limit of running cars. It runs
+   on as it has run, after a start or a recall down; from beyond an end of the shaft it runs back. *)
 LD 0
 ST CAME_FROM
 LD DIRECTION
@@ -379,48 +507,145 @@ LD TOP
 SEL DIRECTION, -1
 ST DIRECTION
 ST MOTOR
-RET
-
-(* Fire: each car goes down to floor 1. Interlock rule 6 lets no car run up. The calls stay as
-   they are, and the car goes on with them after the recall. *)
-RECALL:
-LD TRUE
-ST RECALLED
-CAL DWELL(IN := FALSE)
-CAL PASSAGE(IN := FALSE)
-CAL HELD(IN := FALSE)
-CAL IDLE(IN := FALSE)
-LD 0
-ST DIRECTION
-ST CAME_FROM
-LD POS
-EQ 1
-AND LEVEL
-JMPC AT_FLOOR_1
-LD FALSE
-ST OPEN
-LD LOCKED
-SEL 0, -1
-ST MOTOR
-RET
-
-(* At floor 1 it stands with its door open, as long as FIRE holds. *)
-AT_FLOOR_1:
-LD 0
-ST MOTOR
-LD TRUE
-ST OPEN
 END_PROGRAM
+
+(* Whether a car is out. GROUP calls this block for each car in each scan. A car with a call is out if it
+   has not come to another floor for some time; once it has, it is back. *)
+FUNCTION_BLOCK WATCH_OF_CAR
+VAR_INPUT
+  FLOOR : INT (1..8);  (* the floor at which it is *)
+  RUNS : INT (-1..1);  (* its motor *)
+  WORKS : BOOL;  (* it has a call, and neither a fire recall nor a limit keeps it *)
+END_VAR
+VAR_OUTPUT
+  IS_OUT : BOOL;
+END_VAR
+VAR
+  WAS_AT : INT (1..8);  (* the floor at which it was in the scan before *)
+  MOVED : BOOL;  (* it is at another floor now *)
+  RUNNING : TON;  (* how long its motor has run without that *)
+  STANDING : TON;  (* how long it has had calls without that *)
+END_VAR
+
+LD FLOOR
+NE WAS_AT
+ST MOVED
+LD FLOOR
+ST WAS_AT
+LD RUNS
+NE 0
+AND WORKS
+ANDN MOVED
+ST RUNNING.IN
+CAL RUNNING(PT := T#30s)
+LD WORKS
+ANDN MOVED
+ST STANDING.IN
+CAL STANDING(PT := T#53s)
+LD IS_OUT
+OR RUNNING.Q
+OR STANDING.Q
+ANDN MOVED
+ST IS_OUT
+END_FUNCTION_BLOCK
 
 (* The group program: a waiting call is assigned to the nearest car. *)
 PROGRAM NEAREST_CAR
 VAR
-  WAITING : INT (0..16);    (* the call slot that is handled; 0 for none *)
-  CHOSEN : INT (0..2);      (* the car that gets the call *)
-  FROM : INT (0..8);        (* the landing of the call *)
-  DISTANCE : INT (0..8);    (* how many floors a car is away from it *)
-  LEAST : INT (0..8);       (* the same of the nearest car *)
+  WAITING : INT (0..16);  (* the call slot that is handled; 0 for none *)
+  CHOSEN : INT (0..2);  (* the car that gets the call *)
+  LANDING : INT (0..8);  (* the landing of the call *)
+  DISTANCE : INT (0..8);  (* how many floors a car is away from it *)
+  LEAST : INT (0..8);  (* the same of the nearest car *)
+  WORKS : ARRAY [0..2] OF BOOL;  (* for each car: it has a call; at 0 for the slots without a car *)
+  WATCH1 : WATCH_OF_CAR;  (* whether car 1 is out *)
+  WATCH2 : WATCH_OF_CAR;  (* whether car 2 is out *)
+  HELD1 : INT;
 END_VAR
+VAR_EXTERNAL
+  OUT : ARRAY [0..2] OF BOOL;  (* for each car: it is out; the cars see it *)
+END_VAR
+
+(* Which cars are out? They get no call. *)
+LD FALSE
+ST WORKS[0]
+ST WORKS[1]
+ST WORKS[2]
+LD RUNLIMIT
+GT 0
+ANDN FIRE
+JMPCN ELSE_356
+LD CALLCAR[1]
+ST HELD1
+LD TRUE
+ST WORKS[HELD1]
+LD CALLCAR[2]
+ST HELD1
+LD TRUE
+ST WORKS[HELD1]
+LD CALLCAR[3]
+ST HELD1
+LD TRUE
+ST WORKS[HELD1]
+LD CALLCAR[4]
+ST HELD1
+LD TRUE
+ST WORKS[HELD1]
+LD CALLCAR[5]
+ST HELD1
+LD TRUE
+ST WORKS[HELD1]
+LD CALLCAR[6]
+ST HELD1
+LD TRUE
+ST WORKS[HELD1]
+LD CALLCAR[7]
+ST HELD1
+LD TRUE
+ST WORKS[HELD1]
+LD CALLCAR[8]
+ST HELD1
+LD TRUE
+ST WORKS[HELD1]
+LD CALLCAR[9]
+ST HELD1
+LD TRUE
+ST WORKS[HELD1]
+LD CALLCAR[10]
+ST HELD1
+LD TRUE
+ST WORKS[HELD1]
+LD CALLCAR[11]
+ST HELD1
+LD TRUE
+ST WORKS[HELD1]
+LD CALLCAR[12]
+ST HELD1
+LD TRUE
+ST WORKS[HELD1]
+LD CALLCAR[13]
+ST HELD1
+LD TRUE
+ST WORKS[HELD1]
+LD CALLCAR[14]
+ST HELD1
+LD TRUE
+ST WORKS[HELD1]
+LD CALLCAR[15]
+ST HELD1
+LD TRUE
+ST WORKS[HELD1]
+LD CALLCAR[16]
+ST HELD1
+LD TRUE
+ST WORKS[HELD1]
+ELSE_356:
+CAL WATCH1(FLOOR := CPOS[1], RUNS := CMOTOR[1], WORKS := WORKS[1])
+LD WATCH1.IS_OUT
+ST OUT[1]
+CAL WATCH2(FLOOR := CPOS[2], RUNS := CMOTOR[2], WORKS := WORKS[2])
+LD WATCH2.IS_OUT
+ST OUT[2]
 
 (* Which call slot waits? Each scan handles one, the lowest. *)
 LD 0
@@ -478,48 +703,65 @@ ST WAITING
    slots until the recall is over. *)
 LD WAITING
 EQ 0
-JMPC NOTHING
+JMPC PAST_372
 LD FIRE
-JMPC NOTHING
+JMPCN ELSE_372
+PAST_372:
+RET
+ELSE_372:
 
 (* Which car is nearest to the landing? At a tie it is the one with the lowest number. *)
 LD CALLFROM[WAITING]
-ST FROM
+ST LANDING
 LD 8
 ST LEAST
-LD 1
+LD 0
 ST CHOSEN
 LD CPOS[1]
-SUB FROM
+SUB LANDING
 ABS
 ST DISTANCE
 LT LEAST
-SEL CHOSEN, 1
+ANDN OUT[1]
+JMPCN ELSE_382
+LD 1
 ST CHOSEN
 LD DISTANCE
-MIN LEAST
 ST LEAST
+ELSE_382:
 LD CPOS[2]
-SUB FROM
+SUB LANDING
 ABS
 ST DISTANCE
 LT LEAST
-SEL CHOSEN, 2
+ANDN OUT[2]
+JMPCN ELSE_382_2
+LD 2
 ST CHOSEN
 LD DISTANCE
-MIN LEAST
 ST LEAST
+ELSE_382_2:
 
-(* It gets the call. *)
+(* It gets the call. If all cars are out, none does, and the call waits. *)
 LD CHOSEN
 ST ASSIGN[WAITING]
-NOTHING:
 END_PROGRAM
 
 (* The group: 2 cars, 8 floors, 16 call slots; a task for each car and one for
    the group. *)
+(* CAPACITY is 8 *)  (* how many passengers a car takes at a time *)
+(* DWELL_TIME is T#3s *)  (* how long a door stays open after the last passenger *)
+(* TRANSFER_TIME is T#1s *)  (* how long it stays open for each who gets in or out *)
+(* HOLD_TIME is T#20s *)  (* how long a car with work takes passengers at a stop *)
+(* OUT_TIME is T#30s *)  (* after how long a car that doesn't move is out *)
+(* STAND_TIME is T#53s *)  (* the same of one that may make a stop: more than the longest stop *)
+(* REST_TIME is T#1m23s *)  (* how long a car that finds no landing stands before it tries again *)
+(* PARK_TIME is T#15s *)  (* after how long an idle car goes to its home floor *)
 CONFIGURATION BUILDING
 VAR_GLOBAL CONSTANT CARS : INT := 2; FLOORS : INT := 8; SLOTS : INT := 16; END_VAR
+VAR_GLOBAL
+  OUT : ARRAY [0..2] OF BOOL;  (* for each car: it is out *)
+END_VAR
 RESOURCE CABINET ON PLC
 TASK CAR1 (INTERVAL := T#100ms, PRIORITY := 1);
 TASK CAR2 (INTERVAL := T#100ms, PRIORITY := 1);

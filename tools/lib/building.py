@@ -9,6 +9,7 @@ from math import ceil, floor
 from typing import Callable
 
 sys.path.append(f"{os.path.dirname(os.path.dirname(os.path.dirname(os.path.realpath(__file__))))}/gateways")  # `lib` is there too
+from lib.failures import Failure
 from lib.kinematics import Drive, flight
 from lib.serve import Ended, Serve
 from lib.traffic import Arrival, Mix, arrivals
@@ -152,11 +153,13 @@ class Car:
         self.load = self.left_loaded = self.loads = self.greatest = 0
         self.crosser, self.crossing, self.inward = None, 0, False  # who is in the doorway, for how many rounds more, and which way
         self.faults: list[str] = []
+        self.is_dead = self.door_stays = self.level_is_lost = False  # what fails
         self.fields = b""
         self.show()
 
     def show(self):
-        flags = self.level, self.level and self.shown == self.top, self.level and self.shown == 1, self.door == 0, self.door == self.wide
+        ends = self.level and self.shown == self.top, self.level and self.shown == 1
+        flags = self.level and not self.level_is_lost, *ends, self.door == 0, self.door == self.wide
         self.fields = b" %d %d%d%d%d%d" % (self.shown, *flags)
 
     def fly(self):
@@ -217,24 +220,64 @@ class Building:
         self.already = 0  # presses that were on the desk already
         self.let_out = 0  # times that somebody was let out on the way, since his call was served elsewhere
         self.last = b""  # the last `outputs` line
+        self.failures: list[Failure] = []  # those to come and those that hold
+        self.restart: Callable[[], Controller] | None = None  # starts the controller anew
+        self.limit, self.fire = cars, False
+        self.first = 0  # calls of earlier starts of the controller
+        self.given_back = 0  # calls that ended before anybody got in
 
     def step(self):
         """A round: the plant goes on by 100 ms, passengers press, and the group answers."""
         self.now += 1
+        if self.failures:
+            self.fail()
         for car in self.cars:
             if car.direction:
-                car.fly()
+                if not car.is_dead:
+                    car.fly()
             elif car.door or car.open or car.motor:
                 self.stand(car)
         while self.due[self.arrived] <= self.now:
             self.pressing.append(self.people[self.arrived])
             self.arrived += 1
-        lines = b"R %d %d 0" % (MS_A_ROUND * self.now, len(self.cars)) + b"".join([car.fields for car in self.cars]) + b"\n"
+        lines = b"R %d %d %d" % (MS_A_ROUND * self.now, self.limit, self.fire) + b"".join([car.fields for car in self.cars]) + b"\n"
         if self.pressing:
             lines = b"".join([b"P %d %d\n" % (it.floor, it.goal) for it in self.pressing]) + lines
         answer = self.controller.ask(lines)
         if answer != self.last:
             self.hear(answer)
+
+    def fail(self):
+        """What fails in this round; what has ended is left out."""
+        held = [it for it in self.failures if it.first <= self.now <= it.last]
+        for car in self.cars:
+            kinds = {it.kind for it in held if it.car == car.number}
+            car.is_dead, car.door_stays, car.level_is_lost = ("dead" in kinds, "door" in kinds, "level" in kinds)
+            car.show()
+        self.fire = any(it.kind == "fire" for it in held)
+        self.limit = min([len(self.cars), *(it.car for it in held if it.kind == "limit")])
+        if any(it.kind == "restart" for it in held):
+            self.start_anew()
+        self.failures = [it for it in self.failures if self.now <= it.last]
+
+    def start_anew(self):
+        """The controller starts anew: its calls are gone. Who waits presses again, and who is in a car gets out where it opens."""
+        self.controller.stop()
+        self.controller, self.last, self.first = self.restart(), b"", len(self.calls)
+        waiting = {passenger for people in self.pressed.values() for each in people for passenger in each}
+        waiting |= {passenger for call in self.calls for passenger in call.people if passenger.call is call and passenger.boarded < 0}
+        self.pressed.clear()
+        for passenger in sorted(waiting, key=lambda it: it.number):
+            self.press_again(passenger)
+        for car in self.cars:
+            car.motor = car.open = 0
+            car.waiting.clear()
+            car.unboarded.clear()
+            car.strays = [passenger for people in car.aboard.values() for passenger in people] + ([car.crosser] if car.crosser and car.inward else [])
+
+    def open_calls(self) -> int:
+        """Calls that hold a slot."""
+        return sum(not call.served for call in self.calls[self.first:])
 
     def stand(self, car: Car):
         """A round of a car that stands: people cross, the door moves, or it sets off."""
@@ -242,13 +285,14 @@ class Building:
             car.faults.append(f"car {car.number} was asked to run with its door not shut")
         if car.door == car.wide:
             self.cross(car)
-            if not car.open and not car.crosser:
+            if not car.open and not car.crosser and not car.door_stays:
                 for passenger in car.waiting[car.shown]:
                     passenger.refused = True
                 car.move_door(self.now)
         elif car.door or car.open:
-            car.move_door(self.now)
-        elif car.set_off():
+            if not (car.door_stays and car.door and not car.open):
+                car.move_door(self.now)
+        elif not car.is_dead and car.set_off():
             self.leave(car)
         if car.door == car.wide:
             for call in car.unboarded.pop(car.shown, ()):
@@ -353,14 +397,15 @@ class Building:
             passenger.call = call
 
     def hear_told(self, ticket: int, number: int):
-        call, car = self.calls[ticket - 1], self.cars[number - 1]
+        call, car = self.calls[self.first + ticket - 1], self.cars[number - 1]
         call.told, call.car = self.now, number
         car.unboarded[call.start].append(call)
         car.waiting[call.start].extend(call.people)
 
     def hear_served(self, ticket: int, number: int):
-        call, car = self.calls[ticket - 1], self.cars[number - 1]
+        call, car = self.calls[self.first + ticket - 1], self.cars[number - 1]
         call.served = self.now
+        self.given_back += not call.boarded
         call.at_goal = car.shown == call.goal and not car.direction and car.door == car.wide
         if not call.boarded:
             car.unboarded[call.start].remove(call)
@@ -385,11 +430,15 @@ class Building:
     def faults(self) -> list[str]:
         return [fault for car in self.cars for fault in car.faults]
 
+    def goes_on(self) -> bool:
+        """Whether somebody isn't carried yet; after faults, also whether a call still holds a slot."""
+        return self.carried < self.arrived or (self.restart is not None and self.open_calls() > 0)
+
     def play(self, length: Length, pace: float | None = None):
         """Rounds until all are carried, or the drain ends; `pace` is how many times the wall clock. Then the child is told the end, or is gone."""
         begin = time.monotonic()
         try:
-            while self.now < length.rounds() or (self.now < length.most_rounds() and self.carried < self.arrived):
+            while self.now < length.rounds() or (self.now < length.most_rounds() and self.goes_on()):
                 self.step()
                 if pace:
                     time.sleep(max(0.0, begin + self.now * ROUND / pace - time.monotonic()))
@@ -401,9 +450,13 @@ class Building:
         self.controller.stop()
 
 
-def simulated(scene: Scene, cars: int, demand: float, seed: int, start: Callable[[], Controller], pace: float | None = None) -> Building:
-    """A building behind its whole run. `start` starts the child, once all else is right."""
+def simulated(
+    scene: Scene, cars: int, demand: float, seed: int, start: Callable[[], Controller], pace: float | None = None, failing: list[Failure] | None = None
+) -> Building:
+    """A building behind its whole run, with what fails in it. `start` starts the child, once all else is right."""
     times, people = Timetable(scene.plant), arrivals(scene.mix, scene.population, demand, scene.length.arrivals * MINUTE, seed)
     building = Building(scene.plant, times, cars, people, start())
+    if failing is not None:
+        building.failures, building.restart = list(failing), start
     building.play(scene.length, pace)
     return building
