@@ -3,6 +3,7 @@ import re
 from typing import NamedTuple
 
 MOST_BYTES = 262_144  # of a configuration's text
+SHOWN = 20  # digits of a size that is too large
 LIMITS = {"CARS": (1, 8), "FLOORS": (2, 16), "SLOTS": (1, 64)}
 
 
@@ -30,10 +31,10 @@ def size_of(name: str, group: str) -> int:
     if not found:
         raise NoSizes(f"it gives no {name}")
     least, most = LIMITS[name]
-    size = int(found[1].replace("_", ""))
-    if not least <= size <= most:
-        raise NoSizes(f"{name} is {size}, and not from {least} to {most}")
-    return size
+    digits = found[1].replace("_", "").lstrip("0") or "0"
+    if len(digits) > len(str(most)) or not least <= int(digits) <= most:
+        raise NoSizes(f"{name} is {digits[:SHOWN]}{'...' if len(digits) > SHOWN else ''}, and not from {least} to {most}")
+    return int(digits)
 
 
 def sizes_of_file(path: str) -> Sizes:

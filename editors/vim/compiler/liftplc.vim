@@ -4,4 +4,5 @@ if exists("current_compiler")
 endif
 let current_compiler = "liftplc"
 CompilerSet makeprg=liftplc\ check\ %:S\ --explain
-CompilerSet errorformat=%f:%l:%c:\ %n:\ %m,%f:%l:\ %n:\ %m,%-G%.%#
+" Below the place of a refusal are its line, a mark, and what is known of the thing, up to the line that names `explain`. All but the mark is kept.
+CompilerSet errorformat=%E%f:%l:%c:\ %n:\ %m,%E%f:%l:\ %n:\ %m,%-Z`liftplc\ explain\ %.%#,%-C,%-C%\\s%#^%\\+,%C%m,%-G%.%#

@@ -5,4 +5,5 @@ endif
 let current_compiler = "liftplc_st"
 let s:tool = fnamemodify(resolve(expand("<sfile>:p")), ":h:h:h:h") .. "/tools/st"
 execute "CompilerSet makeprg=" .. escape(s:tool .. " %:S --check", " \\|\"")
-CompilerSet errorformat=%f:%l:%c:\ %n:\ %m,%f:%l:%c:\ %m,%-G%.%#
+" As in liftplc.vim.
+CompilerSet errorformat=%E%f:%l:%c:\ %n:\ %m,%E%f:%l:%c:\ %m,%-Z`liftplc\ explain\ %.%#,%-C,%-C%\\s%#^%\\+,%C%m,%-G%.%#
