@@ -217,7 +217,7 @@ impl Server {
             fault) }
         ensures silent { T.contents trace.old ≡ None → T.contents trace.new ≡ None }
         ensures made { T.made trace.new ≡ T.made trace.old }
-        ensures same { self.new.rounds ≡ self.old.rounds }
+        ensures same { self.new.rounds.world ≡ self.old.rounds.world }
         ensures stop { self.new.stop ≡ self.old.stop }
         ensures server { IsServer self.new }
     {

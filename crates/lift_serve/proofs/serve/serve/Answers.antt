@@ -5,7 +5,7 @@ use Rattle.lift_serve.proofs.serve.serve.Goals as goal
 pub returns-in-Ok-true-clause-served : goal.returns-in-Ok-true-clause-served
 returns-in-Ok-true-clause-served g c =
     served c.args.server.now.rounds.world.program c.args.server.now.rounds.world.world c.lines.server.rounds.world.world c.args.server.now.count c.lines.server.count c.lines.before (g.R.Read.remaining c.args.reader.now) (g.R.Read.remaining c.lines.reader) (g.O.Sink.contents c.args.out.now) (g.O.Sink.contents c.lines.out) (g.T.Sink.contents c.args.trace.now) (g.T.Sink.contents c.lines.trace) c.lines.invariant.served
-    c.lines.server.rounds.world.program c.lines.invariant.same c.next_line-came.new.line.items c.deref.result.now c.deref.ensures.value (g.R.Read.remaining c.next_line-came.new.reader) (g.O.Sink.contents c.hear.new.out) (g.T.Sink.contents c.hear.new.trace) c.in-Whole.ensures.comes.1 c.hear.new.self.world.world c.hear.new.self.count c.in-Ok-true.field-0 (sym c.in-Ok-true.field-0-test) c.in-Ok-true.ensures.heard
+    c.lines.server.rounds.world.program c.lines.invariant.same c.next_line-came.new.line.items c.deref.result.now c.deref.ensures.value (g.R.Read.remaining c.next_line-came.new.reader) (g.O.Sink.contents c.hear.new.out) (g.T.Sink.contents c.hear.new.trace) c.in-Whole.ensures.comes.1 c.hear.new.self.rounds.world.world c.hear.new.self.count c.in-Ok-true.field-0 (sym c.in-Ok-true.field-0-test) c.in-Ok-true.ensures.heard
 
 pub returns-in-Err-clause-stopped : goal.returns-in-Err-clause-stopped
 returns-in-Err-clause-stopped g c =
@@ -21,7 +21,7 @@ pub lines-preserved : goal.lines-preserved
 lines-preserved g c =
     record {
       served = so_far_next c.args.server.now.rounds.world.program c.args.server.now.rounds.world.world c.lines.server.rounds.world.world c.args.server.now.count c.lines.server.count c.lines.before (g.R.Read.remaining c.args.reader.now) (g.R.Read.remaining c.lines.reader) (g.O.Sink.contents c.args.out.now) (g.O.Sink.contents c.lines.out) (g.T.Sink.contents c.args.trace.now) (g.T.Sink.contents c.lines.trace) c.lines.invariant.served
-          c.lines.server.rounds.world.program c.lines.invariant.same c.next_line-came.new.line.items c.deref.result.now c.deref.ensures.value (g.R.Read.remaining c.next_line-came.new.reader) (g.O.Sink.contents c.hear.new.out) (g.T.Sink.contents c.hear.new.trace) c.in-Whole.ensures.comes.1 c.hear.new.self.world.world c.hear.new.self.count c.in-Ok-false.field-0 c.in-Ok-false.field-0-test c.in-Ok-false.ensures.heard;
+          c.lines.server.rounds.world.program c.lines.invariant.same c.next_line-came.new.line.items c.deref.result.now c.deref.ensures.value (g.R.Read.remaining c.next_line-came.new.reader) (g.O.Sink.contents c.hear.new.out) (g.T.Sink.contents c.hear.new.trace) c.in-Whole.ensures.comes.1 c.hear.new.self.rounds.world.world c.hear.new.self.count c.in-Ok-false.field-0 c.in-Ok-false.field-0-test c.in-Ok-false.ensures.heard;
       server = c.in-Ok-false.ensures.server;
       same = c.hear.ensures.same ∙ c.lines.invariant.same;
       stop = c.hear.ensures.stop ∙ c.lines.invariant.stop;
