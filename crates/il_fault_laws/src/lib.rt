@@ -12,8 +12,10 @@ ghost use Rattle.il_fault_laws.specs.Faults.{IsFaultOfGrammar};
 
 /// A law: a text that has tokens has at most one fault of the grammar, and none where it spells a configuration within the limits.
 pub fn one_fault_of_grammar()
-    ensures once { (text : List ℕ) (ts : List Token) (e f : Refusal) → AreTokens text 0 ts → length text ≤ 262144
+    ensures once { (text : List ℕ) (ts : List Token) (e f : Refusal) → AreTokens text 0 ts
+        → length text ≤ 262144
         → IsFaultOfGrammar text ts e → IsFaultOfGrammar text ts f → e ≡ f }
-    ensures none { (text : List ℕ) (ts : List Token) (c : Config) (e : Refusal) → AreTokens text 0 ts
+    ensures none { (text : List ℕ) (ts : List Token) (c : Config) (e : Refusal)
+        → AreTokens text 0 ts
         → AfterLines (SpellsConfig text c) ts [] → IsSmall c → IsFaultOfGrammar text ts e → ⊥ }
 {}

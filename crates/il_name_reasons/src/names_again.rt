@@ -55,7 +55,8 @@ fn put_heading(
     units: &[Spot<'_>],
     place: Place,
 ) -> Result<(), AllocError>
-    ensures { OnOk result (Puts text.old text.new (heading_text names.now place (shown units.now))) }
+    ensures { OnOk result (Puts text.old text.new
+        (heading_text names.now place (shown units.now))) }
 {
     match named_at(units, place) {
         Some(spot) => {
@@ -75,7 +76,8 @@ fn put_units(
     trees: &[Unit],
     place: Place,
 ) -> Result<(), AllocError>
-    ensures { OnOk result (Puts text.old text.new (flat_map (unit_names_text names.now (shown units.now) place) trees.now)) }
+    ensures { OnOk result (Puts text.old text.new
+        (flat_map (unit_names_text names.now (shown units.now) place) trees.now)) }
 {
     'units: for unit in trees {
         put_unit_names(alloc, text, names, units, unit, place)?;
@@ -92,7 +94,8 @@ fn put_unit_names(
     unit: &Unit,
     place: Place,
 ) -> Result<(), AllocError>
-    ensures { OnOk result (Puts text.old text.new (unit_names_text names.now (shown units.now) place unit.now)) }
+    ensures { OnOk result (Puts text.old text.new
+        (unit_names_text names.now (shown units.now) place unit.now)) }
 {
     let variables = unit_spots(alloc, unit)?;
     put_variable(text, names, units, variables.as_slice(), place)?;
@@ -116,7 +119,8 @@ fn put_globals(
     globals: &[Declaration],
     place: Place,
 ) -> Result<(), AllocError>
-    ensures { OnOk result (Puts text.old text.new (variable_text names.now (shown units.now) place (names_in globals.now))) }
+    ensures { OnOk result (Puts text.old text.new
+        (variable_text names.now (shown units.now) place (names_in globals.now))) }
 {
     let spots = declared_spots(alloc, globals)?;
     put_variable(text, names, units, spots.as_slice(), place)
@@ -156,7 +160,8 @@ fn put_variable(
     spots: &[Spot<'_>],
     place: Place,
 ) -> Result<(), AllocError>
-    ensures { OnOk result (Puts text.old text.new (variable_text names.now (shown units.now) place (shown spots.now))) }
+    ensures { OnOk result (Puts text.old text.new
+        (variable_text names.now (shown units.now) place (shown spots.now))) }
 {
     match named_at(spots, place) {
         Some(spot) => {
@@ -180,7 +185,8 @@ fn put_other(text: &mut String, spots: &[Spot<'_>], place: Place) -> Result<(), 
 
 // That no text may declare the name.
 fn put_predeclared(text: &mut String, names: &Scoped, spot: Spot<'_>) -> Result<(), AllocError>
-    ensures { OnOk result (Puts text.old text.new (predeclared_text names.now (spot_shown spot.entry))) }
+    ensures { OnOk result (Puts text.old text.new
+        (predeclared_text names.now (spot_shown spot.entry))) }
 {
     if names.is_predeclared(spot.name) {
         put_predeclared_line(text, spot.name)
@@ -191,7 +197,8 @@ fn put_predeclared(text: &mut String, names: &Scoped, spot: Spot<'_>) -> Result<
 
 // That a unit has the name.
 fn put_unit(text: &mut String, units: &[Spot<'_>], spot: Spot<'_>) -> Result<(), AllocError>
-    ensures { OnOk result (Puts text.old text.new (unit_text (shown units.now) (spot_shown spot.entry))) }
+    ensures { OnOk result (Puts text.old text.new
+        (unit_text (shown units.now) (spot_shown spot.entry))) }
 {
     match line_of(units, spot.name) {
         Some(line) => put_unit_line(text, spot.name, line),
@@ -201,7 +208,8 @@ fn put_unit(text: &mut String, units: &[Spot<'_>], spot: Spot<'_>) -> Result<(),
 
 // That an earlier one has the name.
 fn put_again(text: &mut String, spots: &[Spot<'_>], spot: Spot<'_>) -> Result<(), AllocError>
-    ensures { OnOk result (Puts text.old text.new (again_text (shown spots.now) (spot_shown spot.entry))) }
+    ensures { OnOk result (Puts text.old text.new
+        (again_text (shown spots.now) (spot_shown spot.entry))) }
 {
     match earlier_line(spots, spot) {
         Some(line) => put_again_line(text, spot.name, line),

@@ -54,7 +54,8 @@ fn near_label<'c>(alloc: Global, body: &'c Body, name: &str) -> Result<Option<Ne
 
 #[tactic(auto, unfolding(crate::specs::NamesLabels::missing_line))]
 fn put_missing_line(text: &mut String, name: &str, near: Option<Near<'_>>) -> Result<(), AllocError>
-    ensures { OnOk result (Puts text.old text.new (missing_line name.now (option_map near_shown near.entry))) }
+    ensures { OnOk result (Puts text.old text.new
+        (missing_line name.now (option_map near_shown near.entry))) }
 {
     text.push_str("label ")?;
     put_ended(text, name, " does not stand in this unit", near)

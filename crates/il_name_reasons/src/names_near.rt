@@ -152,7 +152,8 @@ pub fn put_ended(
     words: &str,
     near: Option<Near<'_>>,
 ) -> Result<(), AllocError>
-    ensures { OnOk result (Puts text.old text.new (name.now ++ (words.now ++ ending (option_map near_shown near.entry)))) }
+    ensures { OnOk result (Puts text.old text.new
+        (name.now ++ (words.now ++ ending (option_map near_shown near.entry)))) }
 {
     put_two(text, name, words)?;
     put_ending(text, near)

@@ -12,7 +12,8 @@ use std::alloc::AllocError;
 
 /// A variable by its name, where it may not be stored into.
 pub fn put_variable(text: &mut String, here: &UnitScope<'_>, name: &str) -> Result<(), AllocError>
-    ensures { OnOk result (Puts text.old text.new (variable_text here.now.config here.now.unit name.now)) }
+    ensures { OnOk result (Puts text.old text.new
+        (variable_text here.now.config here.now.unit name.now)) }
 {
     put_origin(text, name, origin_named(here, name))
 }
@@ -46,7 +47,8 @@ pub fn put_member(
     name: &str,
     word: &str,
 ) -> Result<(), AllocError>
-    ensures { OnOk result (Puts text.old text.new (member_text here.now.config here.now.unit name.now word.now)) }
+    ensures { OnOk result (Puts text.old text.new
+        (member_text here.now.config here.now.unit name.now word.now)) }
 {
     if has_output(here, name, word) {
         put_output_line(text, name, word)

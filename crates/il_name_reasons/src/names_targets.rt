@@ -19,7 +19,8 @@ pub fn put_targets(
     number: u16,
     instruction: &Instruction,
 ) -> Result<(), AllocError>
-    ensures { OnOk result (Puts text.old text.new (targets_text here.now.config here.now.unit number instruction.now)) }
+    ensures { OnOk result (Puts text.old text.new
+        (targets_text here.now.config here.now.unit number instruction.now)) }
 {
     match instruction {
         Instruction::Store { target, .. } => {
@@ -39,7 +40,8 @@ fn put_arguments(
     number: u16,
     arguments: &[Argument],
 ) -> Result<(), AllocError>
-    ensures { OnOk result (Puts text.old text.new (flat_map (argument_text here.now.config here.now.unit number) arguments.now)) }
+    ensures { OnOk result (Puts text.old text.new
+        (flat_map (argument_text here.now.config here.now.unit number) arguments.now)) }
 {
     'arguments: for argument in arguments {
         put_argument(alloc, text, here, number, argument)?;
@@ -55,7 +57,8 @@ fn put_argument(
     number: u16,
     argument: &Argument,
 ) -> Result<(), AllocError>
-    ensures { OnOk result (Puts text.old text.new (argument_text here.now.config here.now.unit number argument.now)) }
+    ensures { OnOk result (Puts text.old text.new
+        (argument_text here.now.config here.now.unit number argument.now)) }
 {
     match argument {
         Argument::Output { target, .. } => put_name(
@@ -77,7 +80,8 @@ fn put_target(
     number: u16,
     target: &Reference,
 ) -> Result<(), AllocError>
-    ensures { OnOk result (Puts text.old text.new (target_text here.now.config here.now.unit number target.now)) }
+    ensures { OnOk result (Puts text.old text.new
+        (target_text here.now.config here.now.unit number target.now)) }
 {
     match target {
         Reference::Literal(_) => {
@@ -107,7 +111,8 @@ fn put_name(
     number: u16,
     name: &str,
 ) -> Result<(), AllocError>
-    ensures { OnOk result (Puts text.old text.new (name_text here.now.config here.now.unit number name.now)) }
+    ensures { OnOk result (Puts text.old text.new
+        (name_text here.now.config here.now.unit number name.now)) }
 {
     if number == 38 {
         put_stored(alloc, text, here, name)

@@ -29,7 +29,8 @@ pub fn put_stored(
     here: &UnitScope<'_>,
     name: &str,
 ) -> Result<(), AllocError>
-    ensures { OnOk result (Puts text.old text.new (stored_text here.now.config here.now.unit name.now)) }
+    ensures { OnOk result (Puts text.old text.new
+        (stored_text here.now.config here.now.unit name.now)) }
 {
     if !is_external(here, name) {
         return Ok(());
@@ -40,7 +41,8 @@ pub fn put_stored(
 
 // The tasks that store into a global, if there are two.
 fn put_writers(text: &mut String, name: &str, writers: &[Writer<'_>]) -> Result<(), AllocError>
-    ensures { OnOk result (Puts text.old text.new (writers_text name.now (map writer_shown writers.now))) }
+    ensures { OnOk result (Puts text.old text.new
+        (writers_text name.now (map writer_shown writers.now))) }
 {
     if are_two(writers) {
         put_each_writer(text, name, writers)
@@ -50,7 +52,8 @@ fn put_writers(text: &mut String, name: &str, writers: &[Writer<'_>]) -> Result<
 }
 
 fn put_each_writer(text: &mut String, name: &str, writers: &[Writer<'_>]) -> Result<(), AllocError>
-    ensures { OnOk result (Puts text.old text.new (flat_map (store_of_task name.now) (map writer_shown writers.now))) }
+    ensures { OnOk result (Puts text.old text.new
+        (flat_map (store_of_task name.now) (map writer_shown writers.now))) }
 {
     'writers: for writer in writers {
         put_writer(text, name, *writer)?;
@@ -60,7 +63,8 @@ fn put_each_writer(text: &mut String, name: &str, writers: &[Writer<'_>]) -> Res
 
 #[tactic(auto, unfolding(crate::specs::NamesTasks::store_of_task))]
 fn put_writer(text: &mut String, name: &str, writer: Writer<'_>) -> Result<(), AllocError>
-    ensures { OnOk result (Puts text.old text.new (store_of_task name.now (writer_shown writer.entry))) }
+    ensures { OnOk result (Puts text.old text.new
+        (store_of_task name.now (writer_shown writer.entry))) }
 {
     put_two(text, name, " is stored by task ")?;
     put_in_line(text, writer.task, " in line ", writer.line, "\n")

@@ -41,7 +41,8 @@ fn put_units(
     units: &[Unit],
     place: Place,
 ) -> Result<(), AllocError>
-    ensures { OnOk result (Puts text.old text.new (flat_map (unit_text names.now place) units.now)) }
+    ensures { OnOk result (Puts text.old text.new
+        (flat_map (unit_text names.now place) units.now)) }
 {
     'units: for unit in units {
         put_unit(alloc, text, names, unit, place)?;
@@ -128,7 +129,8 @@ fn put_externals(
     externals: &[Declaration],
     place: Place,
 ) -> Result<(), AllocError>
-    ensures { OnOk result (Puts text.old text.new (flat_map (externals_text names.now place) externals.now)) }
+    ensures { OnOk result (Puts text.old text.new
+        (flat_map (externals_text names.now place) externals.now)) }
 {
     'externals: for external in externals {
         put_names(alloc, text, names, external.names.as_slice(), place)?;
@@ -144,7 +146,8 @@ fn put_names(
     named: &[Named],
     place: Place,
 ) -> Result<(), AllocError>
-    ensures { OnOk result (Puts text.old text.new (flat_map (external_text names.now place) named.now)) }
+    ensures { OnOk result (Puts text.old text.new
+        (flat_map (external_text names.now place) named.now)) }
 {
     'named: for name in named {
         put_external(alloc, text, names, name, place)?;
@@ -193,7 +196,8 @@ pub fn put_instruction(
     here: &UnitScope<'_>,
     instruction: &Instruction,
 ) -> Result<(), AllocError>
-    ensures { OnOk result (Puts text.old text.new (instruction_text here.now.config here.now.unit instruction.now)) }
+    ensures { OnOk result (Puts text.old text.new
+        (instruction_text here.now.config here.now.unit instruction.now)) }
 {
     match instruction {
         Instruction::Load { operand, .. } => put_reference(
@@ -239,7 +243,8 @@ fn put_arguments(
     here: &UnitScope<'_>,
     arguments: &[Argument],
 ) -> Result<(), AllocError>
-    ensures { OnOk result (Puts text.old text.new (flat_map (argument_text here.now.config here.now.unit) arguments.now)) }
+    ensures { OnOk result (Puts text.old text.new
+        (flat_map (argument_text here.now.config here.now.unit) arguments.now)) }
 {
     'arguments: for argument in arguments {
         put_argument(alloc, text, here, argument)?;
@@ -253,7 +258,8 @@ fn put_argument(
     here: &UnitScope<'_>,
     argument: &Argument,
 ) -> Result<(), AllocError>
-    ensures { OnOk result (Puts text.old text.new (argument_text here.now.config here.now.unit argument.now)) }
+    ensures { OnOk result (Puts text.old text.new
+        (argument_text here.now.config here.now.unit argument.now)) }
 {
     match argument {
         Argument::Input { operand, .. } => put_reference(
@@ -273,7 +279,8 @@ fn put_operands(
     here: &UnitScope<'_>,
     operands: &[Operand],
 ) -> Result<(), AllocError>
-    ensures { OnOk result (Puts text.old text.new (flat_map (read_text here.now.config here.now.unit) operands.now)) }
+    ensures { OnOk result (Puts text.old text.new
+        (flat_map (read_text here.now.config here.now.unit) operands.now)) }
 {
     'operands: for operand in operands {
         put_reference(alloc, text, here, Access::Reads, &operand.reference)?;
@@ -315,7 +322,8 @@ fn put_no_function(
     names: &Scoped,
     name: &str,
 ) -> Result<(), AllocError>
-    ensures { OnOk result (Puts text.old text.new (no_function_line name.now (nearest name.now (functions_near names.now)))) }
+    ensures { OnOk result (Puts text.old text.new
+        (no_function_line name.now (nearest name.now (functions_near names.now)))) }
 {
     let known = functions_near(alloc, names.config())?;
     let near = nearest(alloc, name, known.as_slice())?;
@@ -330,7 +338,8 @@ fn put_reference(
     access: Access,
     reference: &Reference,
 ) -> Result<(), AllocError>
-    ensures { OnOk result (Puts text.old text.new (reference_text here.now.config here.now.unit access reference.now)) }
+    ensures { OnOk result (Puts text.old text.new
+        (reference_text here.now.config here.now.unit access reference.now)) }
 {
     match reference {
         Reference::Literal(_) => Ok(()),
@@ -351,7 +360,8 @@ fn put_index(
     here: &UnitScope<'_>,
     index: &Index,
 ) -> Result<(), AllocError>
-    ensures { OnOk result (Puts text.old text.new (index_text here.now.config here.now.unit index.now)) }
+    ensures { OnOk result (Puts text.old text.new
+        (index_text here.now.config here.now.unit index.now)) }
 {
     match index {
         Index::Number(_) => Ok(()),
@@ -366,7 +376,8 @@ fn put_scalar(
     here: &UnitScope<'_>,
     name: &str,
 ) -> Result<(), AllocError>
-    ensures { OnOk result (Puts text.old text.new (scalar_text here.now.config here.now.unit name.now)) }
+    ensures { OnOk result (Puts text.old text.new
+        (scalar_text here.now.config here.now.unit name.now)) }
 {
     match meaning_of(here, name) {
         Meant::Nothing => put_unknown_variable(alloc, text, here, name),
@@ -384,7 +395,8 @@ fn put_meaning(
     here: &UnitScope<'_>,
     name: &str,
 ) -> Result<(), AllocError>
-    ensures { OnOk result (Puts text.old text.new (meaning_text here.now.config here.now.unit name.now)) }
+    ensures { OnOk result (Puts text.old text.new
+        (meaning_text here.now.config here.now.unit name.now)) }
 {
     match meaning_of(here, name) {
         Meant::Nothing => put_unknown_variable(alloc, text, here, name),
@@ -401,7 +413,8 @@ fn put_member(
     name: &str,
     word: &str,
 ) -> Result<(), AllocError>
-    ensures { OnOk result (Puts text.old text.new (member_text here.now.config here.now.unit access name.now word.now)) }
+    ensures { OnOk result (Puts text.old text.new
+        (member_text here.now.config here.now.unit access name.now word.now)) }
 {
     match meaning_of(here, name) {
         Meant::Nothing => put_unknown_variable(alloc, text, here, name),
@@ -429,7 +442,8 @@ fn put_word(
     name: &str,
     word: &str,
 ) -> Result<(), AllocError>
-    ensures { OnOk result (Puts text.old text.new (word_text here.now.config here.now.unit access name.now word.now)) }
+    ensures { OnOk result (Puts text.old text.new
+        (word_text here.now.config here.now.unit access name.now word.now)) }
 {
     if is_visible(here, access, name, word) {
         Ok(())
@@ -445,7 +459,8 @@ fn put_unknown_variable(
     here: &UnitScope<'_>,
     name: &str,
 ) -> Result<(), AllocError>
-    ensures { OnOk result (Puts text.old text.new (unknown_variable here.now.config here.now.unit name.now)) }
+    ensures { OnOk result (Puts text.old text.new
+        (unknown_variable here.now.config here.now.unit name.now)) }
 {
     if here.names().is_predeclared(name) {
         return put_unseen_line(text, name);
@@ -461,7 +476,8 @@ fn put_unknown(
     name: &str,
     known: &[Candidate<'_>],
 ) -> Result<(), AllocError>
-    ensures { OnOk result (Puts text.old text.new (unknown_text name.now (map candidate_shown known.now))) }
+    ensures { OnOk result (Puts text.old text.new
+        (unknown_text name.now (map candidate_shown known.now))) }
 {
     let near = nearest(alloc, name, known)?;
     put_unknown_line(text, name, near)
@@ -469,7 +485,8 @@ fn put_unknown(
 
 #[tactic(auto, unfolding(crate::specs::NamesUnknown::unknown_line))]
 fn put_unknown_line(text: &mut String, name: &str, near: Option<Near<'_>>) -> Result<(), AllocError>
-    ensures { OnOk result (Puts text.old text.new (unknown_line name.now (option_map near_shown near.entry))) }
+    ensures { OnOk result (Puts text.old text.new
+        (unknown_line name.now (option_map near_shown near.entry))) }
 {
     put_ended(text, name, " is unknown here", near)
 }
@@ -491,7 +508,8 @@ fn put_no_function_line(
     name: &str,
     near: Option<Near<'_>>,
 ) -> Result<(), AllocError>
-    ensures { OnOk result (Puts text.old text.new (no_function_line name.now (option_map near_shown near.entry))) }
+    ensures { OnOk result (Puts text.old text.new
+        (no_function_line name.now (option_map near_shown near.entry))) }
 {
     put_ended(text, name, " is no function", near)
 }

@@ -35,7 +35,8 @@ pub fn put_four(
     third: &str,
     fourth: &str,
 ) -> Result<(), AllocError>
-    ensures { OnOk result (Puts text.old text.new (first.now ++ (second.now ++ (third.now ++ fourth.now)))) }
+    ensures { OnOk result (Puts text.old text.new
+        (first.now ++ (second.now ++ (third.now ++ fourth.now)))) }
 {
     put_two(text, first, second)?;
     put_two(text, third, fourth)
@@ -64,7 +65,8 @@ pub fn put_in_line(
     number: u32,
     end: &str,
 ) -> Result<(), AllocError>
-    ensures { OnOk result (Puts text.old text.new (first.now ++ (second.now ++ (decimal number ++ end.now)))) }
+    ensures { OnOk result (Puts text.old text.new
+        (first.now ++ (second.now ++ (decimal number ++ end.now)))) }
 {
     put_two(text, first, second)?;
     put_number(text, number)?;

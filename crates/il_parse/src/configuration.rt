@@ -45,7 +45,8 @@ fn globals(source: &Source, tokens: &mut Tokens) -> Result<Globals, Stop>
     ensures reads { IfOk result (λ x. Reads (SpellsSomeGlobals source.now) tokens.old x
         tokens.new) }
     ensures refused { IfErr result (λ e. Refuses SpellsSomeGlobals source.now tokens.old e) }
-    ensures begins { IfErr result (λ e. BreaksOff always SpellsSomeGlobals source.now tokens.old e) }
+    ensures begins { IfErr result (λ e. BreaksOff always SpellsSomeGlobals source.now tokens.old
+        e) }
 {
     if !comes(source, tokens, Keyword::VarGlobal) {
         return Ok((None, Items::new(source.alloc())));

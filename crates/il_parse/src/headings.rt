@@ -50,7 +50,8 @@ pub fn program(
     ensures refused { IfErr result (λ e. RefusesBy SpellsProgramBy source.now tokens.old e) }
     ensures begins { IfErr result (λ e. BreaksWith tight (λ x. x.2.2) SpellsWholeProgram source.now
         tokens.old e) }
-    ensures late { IfErr result (λ e. LeavesWith (λ x. x.2.2) (SpellsProgramBy Unexpected) source.now
+    ensures late { IfErr result (λ e. LeavesWith (λ x. x.2.2)
+        (SpellsProgramBy Unexpected) source.now
         tokens.old e) }
 {
     let place = source.placed_word(tokens, Keyword::Program)?;
@@ -108,7 +109,8 @@ pub fn function(
     ensures refused { IfErr result (λ e. RefusesBy SpellsFunctionBy source.now tokens.old e) }
     ensures begins { IfErr result (λ e. BreaksWith tight (λ x. x.3.2) SpellsWholeFunction source.now
         tokens.old e) }
-    ensures late { IfErr result (λ e. LeavesWith (λ x. x.3.2) (SpellsFunctionBy Unexpected) source.now
+    ensures late { IfErr result (λ e. LeavesWith (λ x. x.3.2)
+        (SpellsFunctionBy Unexpected) source.now
         tokens.old e) }
 {
     let place = source.placed_word(tokens, Keyword::Function)?;

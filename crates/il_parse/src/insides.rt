@@ -53,7 +53,8 @@ pub fn block_inside(
 >
     ensures reads { IfOk result (λ x. Reads (SpellsBlockInside source.now) tokens.old x
         tokens.new) }
-    ensures refused { IfErr result (λ e. RefusesAheadBy SpellsBlockInsideBy source.now tokens.old e) }
+    ensures refused { IfErr result (λ e. RefusesAheadBy SpellsBlockInsideBy source.now tokens.old
+        e) }
     ensures begins { IfErr result (λ e. BreaksWith loose (λ x. x.3) SpellsBlockRest source.now
         tokens.old e) }
     ensures late { IfErr result (λ e. LeavesWith (λ x. x.3)

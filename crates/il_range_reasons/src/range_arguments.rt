@@ -24,7 +24,8 @@ fn put_of(
     instance: &str,
     verb: &str,
 ) -> Result<(), AllocError>
-    ensures { OnOk result (Puts text.old text.new (of_text kind.now word.now instance.now verb.now)) }
+    ensures { OnOk result (Puts text.old text.new
+        (of_text kind.now word.now instance.now verb.now)) }
 {
     put_two(text, kind, word)?;
     put_three(text, " of ", instance, verb)
@@ -39,7 +40,8 @@ fn put_input(
     reference: &Reference,
     range: Interval,
 ) -> Result<(), AllocError>
-    ensures { OnOk result (Puts text.old text.new (input_text instance.now word.now scalar reference.now range)) }
+    ensures { OnOk result (Puts text.old text.new
+        (input_text instance.now word.now scalar reference.now range)) }
 {
     put_of(text, "input ", word, instance, " takes ")?;
     put_scalar(text, scalar)?;
@@ -55,7 +57,8 @@ fn put_input_by(
     scalar: Option<Scalar>,
     range: Option<Interval>,
 ) -> Result<(), AllocError>
-    ensures { OnOk result (Puts text.old text.new (input_by instance.now word.now reference.now scalar range)) }
+    ensures { OnOk result (Puts text.old text.new
+        (input_by instance.now word.now reference.now scalar range)) }
 {
     match (scalar, range) {
         (Some(scalar), Some(range)) => {
@@ -89,7 +92,8 @@ fn put_output(
     target: &str,
     aim: Scalar,
 ) -> Result<(), AllocError>
-    ensures { OnOk result (Puts text.old text.new (output_text unit.now instance.now word.now scalar target.now aim)) }
+    ensures { OnOk result (Puts text.old text.new
+        (output_text unit.now instance.now word.now scalar target.now aim)) }
 {
     put_of(text, "output ", word, instance, " is ")?;
     put_scalar(text, scalar)?;
@@ -118,7 +122,8 @@ fn put_output_by(
     target: &str,
     aim: Option<Scalar>,
 ) -> Result<(), AllocError>
-    ensures { OnOk result (Puts text.old text.new (output_by unit.now instance.now word.now scalar target.now aim)) }
+    ensures { OnOk result (Puts text.old text.new
+        (output_by unit.now instance.now word.now scalar target.now aim)) }
 {
     match (scalar, aim) {
         (Some(scalar), Some(aim)) => {
@@ -140,7 +145,8 @@ fn put_argument(
     instance: &str,
     argument: &Argument,
 ) -> Result<(), AllocError>
-    ensures { OnOk result (Puts text.old text.new (argument_text unit.now known.now instance.now argument.now)) }
+    ensures { OnOk result (Puts text.old text.new
+        (argument_text unit.now known.now instance.now argument.now)) }
 {
     match argument {
         Argument::Input { word, operand } => {
@@ -167,7 +173,8 @@ fn put_each(
     instance: &str,
     arguments: &[Argument],
 ) -> Result<(), AllocError>
-    ensures { OnOk result (Puts text.old text.new (flat_map (argument_text unit.now known.now instance.now) arguments.now)) }
+    ensures { OnOk result (Puts text.old text.new
+        (flat_map (argument_text unit.now known.now instance.now) arguments.now)) }
 {
     'arguments: for argument in arguments {
         put_argument(text, unit, known, instance, argument)?;
@@ -182,7 +189,8 @@ pub fn put_arguments(
     known: &PlaceFacts,
     instruction: &Instruction,
 ) -> Result<(), AllocError>
-    ensures { OnOk result (Puts text.old text.new (arguments_text unit.now known.now instruction.now)) }
+    ensures { OnOk result (Puts text.old text.new
+        (arguments_text unit.now known.now instruction.now)) }
 {
     match instruction {
         Instruction::Call {

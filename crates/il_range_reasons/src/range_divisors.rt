@@ -42,7 +42,9 @@ fn put_named_range(
     reference: &Reference,
     range: Interval,
 ) -> Result<(), AllocError>
-    ensures { OnOk result (Puts text.old text.new (head.now ++ (operand_name reference.now ++ (codes " is " ++ (ends_text range ++ codes "\n"))))) }
+    ensures { OnOk result (Puts text.old text.new
+        (head.now ++ (operand_name reference.now ++
+        (codes " is " ++ (ends_text range ++ codes "\n"))))) }
 {
     text.push_str(head)?;
     put_name(text, reference)?;
@@ -90,7 +92,8 @@ fn put_divided_by(
 
 // `the divisor in the parentheses is 0..5`
 fn put_inner_range(text: &mut String, range: Interval) -> Result<(), AllocError>
-    ensures { OnOk result (Puts text.old text.new (codes "the divisor in the parentheses is " ++ (ends_text range ++ codes "\n"))) }
+    ensures { OnOk result (Puts text.old text.new
+        (codes "the divisor in the parentheses is " ++ (ends_text range ++ codes "\n"))) }
 {
     put_range(text, "the divisor in the parentheses is ", range, "\n")
 }
@@ -113,7 +116,8 @@ pub fn put_divisor(
     known: &PlaceFacts,
     instruction: &Instruction,
 ) -> Result<(), AllocError>
-    ensures { OnOk result (Puts text.old text.new (divisor_text unit.now known.now instruction.now)) }
+    ensures { OnOk result (Puts text.old text.new
+        (divisor_text unit.now known.now instruction.now)) }
 {
     match instruction {
         Instruction::Operate { operator, operand } => {

@@ -47,7 +47,8 @@ fn put_outside(
     range: Interval,
     bounds: Subrange,
 ) -> Result<(), AllocError>
-    ensures { OnOk result (Puts text.old text.new (outside_text unit.now name.now index.now range bounds)) }
+    ensures { OnOk result (Puts text.old text.new
+        (outside_text unit.now name.now index.now range bounds)) }
 {
     put(text, "the index")?;
     put_index_name(text, index)?;
@@ -64,7 +65,8 @@ fn put_element(
     index: &Index,
     range: Option<Interval>,
 ) -> Result<(), AllocError>
-    ensures { OnOk result (Puts text.old text.new (element_text unit.now name.now index.now range)) }
+    ensures { OnOk result (Puts text.old text.new
+        (element_text unit.now name.now index.now range)) }
 {
     let Some(range) = range else {
         return Ok(());
@@ -88,7 +90,8 @@ fn put_operand(
     known: &PlaceFacts,
     reference: &Reference,
 ) -> Result<(), AllocError>
-    ensures { OnOk result (Puts text.old text.new (operand_index_text unit.now known.now reference.now)) }
+    ensures { OnOk result (Puts text.old text.new
+        (operand_index_text unit.now known.now reference.now)) }
 {
     match reference {
         Reference::Element(name, index) => {
@@ -105,7 +108,8 @@ fn put_argument(
     known: &PlaceFacts,
     argument: &Argument,
 ) -> Result<(), AllocError>
-    ensures { OnOk result (Puts text.old text.new (argument_index_text unit.now known.now argument.now)) }
+    ensures { OnOk result (Puts text.old text.new
+        (argument_index_text unit.now known.now argument.now)) }
 {
     match argument {
         Argument::Input { operand, .. } => put_operand(text, unit, known, &operand.reference),
@@ -120,7 +124,8 @@ fn put_operands(
     known: &PlaceFacts,
     operands: &[Operand],
 ) -> Result<(), AllocError>
-    ensures { OnOk result (Puts text.old text.new (operands_index_text unit.now known.now operands.now)) }
+    ensures { OnOk result (Puts text.old text.new
+        (operands_index_text unit.now known.now operands.now)) }
 {
     'operands: for operand in operands {
         put_operand(text, unit, known, &operand.reference)?;
@@ -135,7 +140,8 @@ fn put_arguments(
     known: &PlaceFacts,
     arguments: &[Argument],
 ) -> Result<(), AllocError>
-    ensures { OnOk result (Puts text.old text.new (arguments_index_text unit.now known.now arguments.now)) }
+    ensures { OnOk result (Puts text.old text.new
+        (arguments_index_text unit.now known.now arguments.now)) }
 {
     'arguments: for argument in arguments {
         put_argument(text, unit, known, argument)?;
@@ -150,7 +156,8 @@ pub fn put_indexes(
     known: &PlaceFacts,
     instruction: &Instruction,
 ) -> Result<(), AllocError>
-    ensures { OnOk result (Puts text.old text.new (indexes_text unit.now known.now instruction.now)) }
+    ensures { OnOk result (Puts text.old text.new
+        (indexes_text unit.now known.now instruction.now)) }
 {
     match instruction {
         Instruction::Load { operand, .. } => put_operand(text, unit, known, &operand.reference),

@@ -60,7 +60,8 @@ fn put_further_input(
     reference: &Reference,
     range: Interval,
 ) -> Result<(), AllocError>
-    ensures { OnOk result (Puts text.old text.new (further_text name.now scalar reference.now range)) }
+    ensures { OnOk result (Puts text.old text.new
+        (further_text name.now scalar reference.now range)) }
 {
     put_three(text, "an input of ", name, " takes ")?;
     put_scalar(text, scalar)?;
@@ -75,7 +76,8 @@ fn put_further(
     reference: &Reference,
     range: Option<Interval>,
 ) -> Result<(), AllocError>
-    ensures { OnOk result (Puts text.old text.new (further_by name.now scalar reference.now range)) }
+    ensures { OnOk result (Puts text.old text.new
+        (further_by name.now scalar reference.now range)) }
 {
     match (scalar, range) {
         (Some(scalar), Some(range)) => {
@@ -98,7 +100,8 @@ fn put_operands(
     scalars: &[Option<Scalar>],
     operands: &[Operand],
 ) -> Result<(), AllocError>
-    ensures { OnOk result (Puts text.old text.new (operands_told unit.now known.now name.now scalars.now operands.now)) }
+    ensures { OnOk result (Puts text.old text.new
+        (operands_told unit.now known.now name.now scalars.now operands.now)) }
 {
     let Some((scalar, scalars)) = scalars.split_first() else {
         return Ok(());
@@ -120,7 +123,8 @@ fn put_inputs(
     operands: &[Operand],
     scalars: &[Option<Scalar>],
 ) -> Result<(), AllocError>
-    ensures { OnOk result (Puts text.old text.new (inputs_told unit.now known.now name.now operands.now scalars.now)) }
+    ensures { OnOk result (Puts text.old text.new
+        (inputs_told unit.now known.now name.now operands.now scalars.now)) }
 {
     let Some((scalar, scalars)) = scalars.split_first() else {
         return Ok(());
@@ -137,7 +141,9 @@ pub fn put_function(
     name: &str,
     operands: &[Operand],
 ) -> Result<(), AllocError>
-    ensures { OnOk result (Puts text.old text.new (function_told unit.now known.now name.now operands.now (function_named unit.now.config name.now))) }
+    ensures { OnOk result (Puts text.old text.new
+        (function_told unit.now known.now name.now operands.now
+        (function_named unit.now.config name.now))) }
 {
     match unit.own_inputs(name) {
         Some(scalars) => put_inputs(text, unit, known, name, operands, scalars),

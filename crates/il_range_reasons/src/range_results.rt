@@ -115,7 +115,8 @@ fn put_operated(
     right: Interval,
     given: Interval,
 ) -> Result<(), AllocError>
-    ensures { OnOk result (Puts text.old text.new (operated_text elementary kind left right given)) }
+    ensures { OnOk result (Puts text.old text.new
+        (operated_text elementary kind left right given)) }
 {
     put_ends(text, left)?;
     text.push_str(sign_text(kind))?;
@@ -176,7 +177,8 @@ fn put_operator(
     operator: Operator,
     reference: &Reference,
 ) -> Result<(), AllocError>
-    ensures { OnOk result (Puts text.old text.new (operator_text unit.now known.now operator reference.now)) }
+    ensures { OnOk result (Puts text.old text.new
+        (operator_text unit.now known.now operator reference.now)) }
 {
     match operator {
         Operator::Arithmetic(kind) => {
@@ -188,7 +190,8 @@ fn put_operator(
 
 // ` is outside SINT (-128..127)`
 fn put_outside(text: &mut String, scalar: Scalar) -> Result<(), AllocError>
-    ensures { OnOk result (Puts text.old text.new (codes " is outside " ++ (scalar_text scalar ++ codes "\n"))) }
+    ensures { OnOk result (Puts text.old text.new
+        (codes " is outside " ++ (scalar_text scalar ++ codes "\n"))) }
 {
     put(text, " is outside ")?;
     put_scalar(text, scalar)?;
@@ -314,7 +317,8 @@ pub fn put_overflow(
     known: &PlaceFacts,
     instruction: &Instruction,
 ) -> Result<(), AllocError>
-    ensures { OnOk result (Puts text.old text.new (overflow_text unit.now known.now instruction.now)) }
+    ensures { OnOk result (Puts text.old text.new
+        (overflow_text unit.now known.now instruction.now)) }
 {
     match instruction {
         Instruction::Operate { operator, operand } => {

@@ -65,7 +65,8 @@ fn put_fault(
     known: &PlaceFacts,
     instruction: &Instruction,
 ) -> Result<(), AllocError>
-    ensures { OnOk result (Puts text.old text.new (fault_text unit.now fault known.now instruction.now)) }
+    ensures { OnOk result (Puts text.old text.new
+        (fault_text unit.now fault known.now instruction.now)) }
 {
     match fault {
         RangeFault::Overflow => put_overflow(text, unit, known, instruction),

@@ -86,7 +86,8 @@ impl<'t> Source<'t> {
         ensures reads { IfOk result (λ xs. Reads (SpellsArguments self.now) tokens.old xs
             tokens.new) }
         ensures refused { IfErr result (λ e. Refuses SpellsArguments self.now tokens.old e) }
-        ensures begins { IfErr result (λ e. BreaksOff always SpellsArguments self.now tokens.old e) }
+        ensures begins { IfErr result (λ e. BreaksOff always SpellsArguments self.now tokens.old
+            e) }
         ensures shorter { IfOk result (λ _. length tokens.new < length tokens.old) }
     {
         if !self.eat_sign(tokens, Sign::OpenParenthesis) {

@@ -158,7 +158,8 @@ fn next_of<'n>(
 
 // `A uses B in line 12`
 fn put_use(text: &mut String, user: &Unit, used: &Use) -> Result<(), AllocError>
-    ensures { OnOk result (Puts text.old text.new (use_text user.now used.now.unit.now used.now.line)) }
+    ensures { OnOk result (Puts text.old text.new
+        (use_text user.now used.now.unit.now used.now.line)) }
 {
     let used_name = used.unit.name.name.as_str();
     put_three(text, user.name.name.as_str(), " uses ", used_name)?;

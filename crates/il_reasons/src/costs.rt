@@ -37,7 +37,8 @@ fn put_units(
 ) -> Result<(), AllocError>
     requires ways { all.now ≡ map (unit_ways names.now) names.now.units }
     requires costs { costs.now ≡ costs_of names.now }
-    ensures { OnOk result (Puts text.old text.new (flat_map (heading_lines names.now offset) names.now.units)) }
+    ensures { OnOk result (Puts text.old text.new
+        (flat_map (heading_lines names.now offset) names.now.units)) }
 {
     let units = names.config().units.as_slice();
     let all = all.as_slice();
@@ -57,7 +58,9 @@ fn put_heading(
     ways: &Items<Way>,
     offset: u32,
 ) -> Result<(), AllocError>
-    ensures { OnOk result (Puts text.old text.new (if unit.now.place.offset == offset then most_lines units.now costs.now unit.now ways.now else [])) }
+    ensures { OnOk result (Puts text.old text.new
+        (if unit.now.place.offset == offset then most_lines units.now costs.now unit.now ways.now
+        else [])) }
 {
     if unit.place.offset == offset {
         put_most(alloc, text, units, costs, unit, ways)
@@ -75,7 +78,8 @@ fn put_most(
     unit: &Unit,
     ways: &Items<Way>,
 ) -> Result<(), AllocError>
-    ensures { OnOk result (Puts text.old text.new (most_lines units.now costs.now unit.now ways.now)) }
+    ensures { OnOk result (Puts text.old text.new
+        (most_lines units.now costs.now unit.now ways.now)) }
 {
     let rests = rests(alloc, ways.as_slice(), costs.as_slice())?;
     let places = places(alloc, rests.as_slice())?;
@@ -122,7 +126,9 @@ fn put_runs(
     costs: &[u32],
     path: Path<'_>,
 ) -> Result<(), AllocError>
-    ensures { OnOk result (Puts text.old text.new (runs_lines costs.now path.entry.body.now path.entry.ways.now path.entry.places.now 0 units.now)) }
+    ensures { OnOk result (Puts text.old text.new
+        (runs_lines costs.now path.entry.body.now path.entry.ways.now path.entry.places.now 0
+        units.now)) }
 {
     'units: for (number, unit) in units.iter().enumerate() {
         let runs = runs_of(alloc, path, number)?;

@@ -75,7 +75,8 @@ fn put_declared(
 
 // Of the initial value or the type at a place.
 fn put_of_other_type(text: &mut String, config: &Config, offset: u32) -> Result<(), AllocError>
-    ensures { OnOk result (Puts text.old text.new (initials_lines config.now offset ++ misplaced_lines config.now offset)) }
+    ensures { OnOk result (Puts text.old text.new
+        (initials_lines config.now offset ++ misplaced_lines config.now offset)) }
 {
     put_initials(text, config, offset)?;
     put_misplaced(text, config, offset)
@@ -106,7 +107,8 @@ fn put_units(
     number: u16,
     offset: u32,
 ) -> Result<(), AllocError>
-    ensures { OnOk result (Puts text.old text.new (flat_map (unit_lines names.now number offset) names.now.units)) }
+    ensures { OnOk result (Puts text.old text.new
+        (flat_map (unit_lines names.now number offset) names.now.units)) }
 {
     let units = names.config().units.as_slice();
     'units: for at in 0..units.len() {
@@ -148,7 +150,8 @@ fn put_steps(
     number: u16,
     offset: u32,
 ) -> Result<(), AllocError>
-    ensures { OnOk result (Puts text.old text.new (flat_map (step_lines scope.now.config scope.now.unit number offset) steps.now)) }
+    ensures { OnOk result (Puts text.old text.new
+        (flat_map (step_lines scope.now.config scope.now.unit number offset) steps.now)) }
 {
     'steps: for step in steps {
         put_step(alloc, text, scope, step, number, offset)?;
@@ -165,7 +168,8 @@ fn put_step(
     number: u16,
     offset: u32,
 ) -> Result<(), AllocError>
-    ensures { OnOk result (Puts text.old text.new (step_lines scope.now.config scope.now.unit number offset step.now)) }
+    ensures { OnOk result (Puts text.old text.new
+        (step_lines scope.now.config scope.now.unit number offset step.now)) }
 {
     if step.place.offset == offset {
         put_instruction(alloc, text, scope, number, &step.instruction)
@@ -182,7 +186,8 @@ fn put_instruction(
     number: u16,
     instruction: &Instruction,
 ) -> Result<(), AllocError>
-    ensures { OnOk result (Puts text.old text.new (instruction_lines scope.now.config scope.now.unit number instruction.now)) }
+    ensures { OnOk result (Puts text.old text.new
+        (instruction_lines scope.now.config scope.now.unit number instruction.now)) }
 {
     if is_type_number(number) {
         put_types(text, scope, instruction)
@@ -203,7 +208,8 @@ fn put_named(
     number: u16,
     instruction: &Instruction,
 ) -> Result<(), AllocError>
-    ensures { OnOk result (Puts text.old text.new (named_lines scope.now.config scope.now.unit number instruction.now)) }
+    ensures { OnOk result (Puts text.old text.new
+        (named_lines scope.now.config scope.now.unit number instruction.now)) }
 {
     match number {
         21 => put_names(alloc, text, scope, instruction),

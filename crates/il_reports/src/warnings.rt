@@ -34,14 +34,16 @@ pub fn warnings_text(alloc: Global, config: &Config) -> Result<String, AllocErro
 }
 
 fn put_units(alloc: Global, text: &mut String, config: &Config) -> Result<(), AllocError>
-    ensures { OnOk result (Puts text.old text.new (flat_map (unit_text config.now) config.now.units)) }
+    ensures { OnOk result (Puts text.old text.new
+        (flat_map (unit_text config.now) config.now.units)) }
 {
     let needed = Needed::of(alloc, config)?;
     put_each_unit(alloc, text, &needed)
 }
 
 fn put_each_unit(alloc: Global, text: &mut String, needed: &Needed<'_>) -> Result<(), AllocError>
-    ensures { OnOk result (Puts text.old text.new (flat_map (unit_text needed.now.config.now) needed.now.config.now.units)) }
+    ensures { OnOk result (Puts text.old text.new
+        (flat_map (unit_text needed.now.config.now) needed.now.config.now.units)) }
 {
     let units = needed.config.units.as_slice();
     'units: for unit in units {
@@ -67,7 +69,8 @@ fn put_unit_uses(
     needed: &Needed<'_>,
     uses: &UnitUses<'_>,
 ) -> Result<(), AllocError>
-    ensures { OnOk result (Puts text.old text.new (unit_text needed.now.config.now uses.now.unit.now)) }
+    ensures { OnOk result (Puts text.old text.new
+        (unit_text needed.now.config.now uses.now.unit.now)) }
 {
     let unit = uses.unit;
     let name = unit.name.name.as_str();
@@ -87,7 +90,8 @@ fn put_names(
     uses: &UnitUses<'_>,
     declarations: &[Declaration],
 ) -> Result<(), AllocError>
-    ensures { OnOk result (Puts text.old text.new (names_text origin uses.now.unit.now.body.steps declarations.now)) }
+    ensures { OnOk result (Puts text.old text.new
+        (names_text origin uses.now.unit.now.body.steps declarations.now)) }
 {
     'names: for name in declared_names(declarations) {
         let never = name_never(origin, uses, &name);
@@ -144,7 +148,8 @@ fn put_globals(
     units: &[Unit],
     globals: &[Declaration],
 ) -> Result<(), AllocError>
-    ensures { OnOk result (Puts text.old text.new (flat_map (global_text units.now) (declared_names globals.now))) }
+    ensures { OnOk result (Puts text.old text.new
+        (flat_map (global_text units.now) (declared_names globals.now))) }
 {
     if globals.is_empty() {
         return Ok(());
@@ -158,7 +163,8 @@ fn put_each_global(
     uses: &GlobalUses<'_>,
     globals: &[Declaration],
 ) -> Result<(), AllocError>
-    ensures { OnOk result (Puts text.old text.new (flat_map (global_text uses.now.units.now) (declared_names globals.now))) }
+    ensures { OnOk result (Puts text.old text.new
+        (flat_map (global_text uses.now.units.now) (declared_names globals.now))) }
 {
     'names: for name in declared_names(globals) {
         let never = global_never(uses, &name);

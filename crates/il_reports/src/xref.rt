@@ -83,7 +83,8 @@ fn put_declared(
     uses: &UnitUses<'_>,
     declarations: &[Declaration],
 ) -> Result<(), AllocError>
-    ensures { OnOk result (Puts text.old text.new (declared_lines uses.now.unit.now.body.steps declarations.now)) }
+    ensures { OnOk result (Puts text.old text.new
+        (declared_lines uses.now.unit.now.body.steps declarations.now)) }
 {
     'names: for name in declared_names(declarations) {
         put_declared_line(text, uses, &name)?;
@@ -97,7 +98,8 @@ fn put_declared_line(
     uses: &UnitUses<'_>,
     name: &Declared<'_>,
 ) -> Result<(), AllocError>
-    ensures { OnOk result (Puts text.old text.new (declared_line uses.now.unit.now.body.steps (name_shown name.now))) }
+    ensures { OnOk result (Puts text.old text.new
+        (declared_line uses.now.unit.now.body.steps (name_shown name.now))) }
 {
     write!(text, "  {}: declared {}", name.name, name.line)?;
     put_uses(text, uses, name.name, true)?;
@@ -120,7 +122,8 @@ fn put_others(alloc: Global, text: &mut String, unit: &UnitUses<'_>) -> Result<(
 
 #[tactic(auto, unfolding(crate::specs::Xref::other_line))]
 fn put_other_line(text: &mut String, uses: &UnitUses<'_>, name: &str) -> Result<(), AllocError>
-    ensures { OnOk result (Puts text.old text.new (other_line uses.now.unit.now.body.steps name.now)) }
+    ensures { OnOk result (Puts text.old text.new
+        (other_line uses.now.unit.now.body.steps name.now)) }
 {
     write!(text, "  {}", name)?;
     put_uses(text, uses, name, false)?;
@@ -134,7 +137,8 @@ fn put_uses(
     name: &str,
     begun: bool,
 ) -> Result<(), AllocError>
-    ensures { OnOk result (Puts text.old text.new (parts_text begun (used_parts (use_lines uses.now.unit.now.body.steps name.now)))) }
+    ensures { OnOk result (Puts text.old text.new
+        (parts_text begun (used_parts (use_lines uses.now.unit.now.body.steps name.now)))) }
 {
     let begun = put_used(text, Manner::Read, uses.lines(Manner::Read, name), begun)?;
     let begun = put_used(
@@ -159,7 +163,8 @@ fn put_used(
     places: &str,
     begun: bool,
 ) -> Result<bool, AllocError>
-    ensures text { OnOk result (Puts text.old text.new (behind (mark begun) (used_part manner places.now))) }
+    ensures text { OnOk result (Puts text.old text.new
+        (behind (mark begun) (used_part manner places.now))) }
     ensures begun { IfOk result (λ b. b ≡ (begun || is_there (used_part manner places.now))) }
 {
     if places.is_empty() {
@@ -203,7 +208,8 @@ fn put_global_parts(
     units: &[Unit],
     globals: &[Declaration],
 ) -> Result<(), AllocError>
-    ensures { OnOk result (Puts text.old text.new (flat_map (global_line units.now) (declared_names globals.now))) }
+    ensures { OnOk result (Puts text.old text.new
+        (flat_map (global_line units.now) (declared_names globals.now))) }
 {
     let uses = GlobalUses::of(alloc, units)?;
     put_global_lines(text, &uses, globals)
@@ -214,7 +220,8 @@ fn put_global_lines(
     uses: &GlobalUses<'_>,
     globals: &[Declaration],
 ) -> Result<(), AllocError>
-    ensures { OnOk result (Puts text.old text.new (flat_map (global_line uses.now.units.now) (declared_names globals.now))) }
+    ensures { OnOk result (Puts text.old text.new
+        (flat_map (global_line uses.now.units.now) (declared_names globals.now))) }
 {
     'names: for name in declared_names(globals) {
         put_global_line(text, uses, &name)?;
@@ -228,7 +235,8 @@ fn put_global_line(
     uses: &GlobalUses<'_>,
     name: &Declared<'_>,
 ) -> Result<(), AllocError>
-    ensures { OnOk result (Puts text.old text.new (global_line uses.now.units.now (name_shown name.now))) }
+    ensures { OnOk result (Puts text.old text.new
+        (global_line uses.now.units.now (name_shown name.now))) }
 {
     write!(text, "  {}: declared {}", name.name, name.line)?;
     put_global_uses(text, uses, name.name)?;
@@ -237,7 +245,8 @@ fn put_global_line(
 
 // Where units use a global, in each manner, behind the line where it is declared.
 fn put_global_uses(text: &mut String, uses: &GlobalUses<'_>, name: &str) -> Result<(), AllocError>
-    ensures { OnOk result (Puts text.old text.new (parts_text true (used_parts (global_places uses.now.units.now name.now)))) }
+    ensures { OnOk result (Puts text.old text.new
+        (parts_text true (used_parts (global_places uses.now.units.now name.now)))) }
 {
     let begun = put_used(text, Manner::Read, uses.places(Manner::Read, name), true)?;
     let begun = put_used(

@@ -93,7 +93,8 @@ fn detector(numbers: &[i64], flags: &[bool], at: usize) -> EdgeDetector
 #[inline(always)]
 fn put_detector(numbers: &mut [i64], flags: &mut [bool], at: usize, block: EdgeDetector)
     requires { IsSome (put_detector block (rows numbers.old flags.old) at) }
-    ensures { put_detector block (rows numbers.old flags.old) at ≡ Some (rows numbers.new flags.new) }
+    ensures { put_detector block (rows numbers.old flags.old) at
+        ≡ Some (rows numbers.new flags.new) }
 {
     put_flag(numbers, flags, at, 1, block.q);
     put_flag(numbers, flags, at, 2, block.m);
@@ -133,7 +134,8 @@ fn down_counter(numbers: &[i64], flags: &[bool], at: usize) -> DownCounter
 #[inline(always)]
 fn put_counter(numbers: &mut [i64], flags: &mut [bool], at: usize, q: bool, cv: i16, m: bool)
     requires { IsSome (put_counter q cv m (rows numbers.old flags.old) at) }
-    ensures { put_counter q cv m (rows numbers.old flags.old) at ≡ Some (rows numbers.new flags.new) }
+    ensures { put_counter q cv m (rows numbers.old flags.old) at
+        ≡ Some (rows numbers.new flags.new) }
 {
     put_flag(numbers, flags, at, 3, q);
     put_number(numbers, flags, at, 4, i64::from(cv));
@@ -162,7 +164,8 @@ fn up_down_counter(numbers: &[i64], flags: &[bool], at: usize) -> UpDownCounter
 #[inline(always)]
 fn put_up_down_counter(numbers: &mut [i64], flags: &mut [bool], at: usize, block: UpDownCounter)
     requires { IsSome (put_up_down_counter block (rows numbers.old flags.old) at) }
-    ensures { put_up_down_counter block (rows numbers.old flags.old) at ≡ Some (rows numbers.new flags.new) }
+    ensures { put_up_down_counter block (rows numbers.old flags.old) at
+        ≡ Some (rows numbers.new flags.new) }
 {
     put_flag(numbers, flags, at, 5, block.qu);
     put_flag(numbers, flags, at, 6, block.qd);
@@ -189,7 +192,8 @@ fn delay_timer(numbers: &[i64], flags: &[bool], at: usize) -> DelayTimer
 #[inline(always)]
 fn put_delay_timer(numbers: &mut [i64], flags: &mut [bool], at: usize, block: DelayTimer)
     requires { IsSome (put_delay_timer block (rows numbers.old flags.old) at) }
-    ensures { put_delay_timer block (rows numbers.old flags.old) at ≡ Some (rows numbers.new flags.new) }
+    ensures { put_delay_timer block (rows numbers.old flags.old) at
+        ≡ Some (rows numbers.new flags.new) }
 {
     put_flag(numbers, flags, at, 2, block.q);
     put_number(numbers, flags, at, 3, i64::from(block.et));
@@ -216,7 +220,8 @@ fn pulse_timer(numbers: &[i64], flags: &[bool], at: usize) -> PulseTimer
 #[inline(always)]
 fn put_pulse_timer(numbers: &mut [i64], flags: &mut [bool], at: usize, block: PulseTimer)
     requires { IsSome (put_pulse_timer block (rows numbers.old flags.old) at) }
-    ensures { put_pulse_timer block (rows numbers.old flags.old) at ≡ Some (rows numbers.new flags.new) }
+    ensures { put_pulse_timer block (rows numbers.old flags.old) at
+        ≡ Some (rows numbers.new flags.new) }
 {
     put_flag(numbers, flags, at, 2, block.q);
     put_number(numbers, flags, at, 3, i64::from(block.et));
@@ -251,7 +256,8 @@ fn call_rs(numbers: &mut [i64], flags: &mut [bool], at: usize)
 #[inline(always)]
 fn call_r_trig(numbers: &mut [i64], flags: &mut [bool], at: usize)
     requires { IsSome (block_at RTrig None (rows numbers.old flags.old) at) }
-    ensures { block_at RTrig None (rows numbers.old flags.old) at ≡ Some (rows numbers.new flags.new) }
+    ensures { block_at RTrig None (rows numbers.old flags.old) at
+        ≡ Some (rows numbers.new flags.new) }
 {
     let mut block = detector(numbers, flags, at);
     block.r_trig();
@@ -262,7 +268,8 @@ fn call_r_trig(numbers: &mut [i64], flags: &mut [bool], at: usize)
 #[inline(always)]
 fn call_f_trig(numbers: &mut [i64], flags: &mut [bool], at: usize)
     requires { IsSome (block_at FTrig None (rows numbers.old flags.old) at) }
-    ensures { block_at FTrig None (rows numbers.old flags.old) at ≡ Some (rows numbers.new flags.new) }
+    ensures { block_at FTrig None (rows numbers.old flags.old) at
+        ≡ Some (rows numbers.new flags.new) }
 {
     let mut block = detector(numbers, flags, at);
     block.f_trig();
@@ -273,7 +280,8 @@ fn call_f_trig(numbers: &mut [i64], flags: &mut [bool], at: usize)
 #[inline(always)]
 fn call_ctu(numbers: &mut [i64], flags: &mut [bool], at: usize)
     requires { IsSome (block_at Ctu None (rows numbers.old flags.old) at) }
-    ensures { block_at Ctu None (rows numbers.old flags.old) at ≡ Some (rows numbers.new flags.new) }
+    ensures { block_at Ctu None (rows numbers.old flags.old) at
+        ≡ Some (rows numbers.new flags.new) }
 {
     let mut block = up_counter(numbers, flags, at);
     block.ctu();
@@ -284,7 +292,8 @@ fn call_ctu(numbers: &mut [i64], flags: &mut [bool], at: usize)
 #[inline(always)]
 fn call_ctd(numbers: &mut [i64], flags: &mut [bool], at: usize)
     requires { IsSome (block_at Ctd None (rows numbers.old flags.old) at) }
-    ensures { block_at Ctd None (rows numbers.old flags.old) at ≡ Some (rows numbers.new flags.new) }
+    ensures { block_at Ctd None (rows numbers.old flags.old) at
+        ≡ Some (rows numbers.new flags.new) }
 {
     let mut block = down_counter(numbers, flags, at);
     block.ctd();
@@ -295,7 +304,8 @@ fn call_ctd(numbers: &mut [i64], flags: &mut [bool], at: usize)
 #[inline(always)]
 fn call_ctud(numbers: &mut [i64], flags: &mut [bool], at: usize)
     requires { IsSome (block_at Ctud None (rows numbers.old flags.old) at) }
-    ensures { block_at Ctud None (rows numbers.old flags.old) at ≡ Some (rows numbers.new flags.new) }
+    ensures { block_at Ctud None (rows numbers.old flags.old) at
+        ≡ Some (rows numbers.new flags.new) }
 {
     let mut block = up_down_counter(numbers, flags, at);
     block.ctud();
@@ -306,7 +316,8 @@ fn call_ctud(numbers: &mut [i64], flags: &mut [bool], at: usize)
 #[inline(always)]
 fn call_tp(numbers: &mut [i64], flags: &mut [bool], now: u32, at: usize)
     requires { IsSome (block_at Tp (Some (pos now)) (rows numbers.old flags.old) at) }
-    ensures { block_at Tp (Some (pos now)) (rows numbers.old flags.old) at ≡ Some (rows numbers.new flags.new) }
+    ensures { block_at Tp (Some (pos now)) (rows numbers.old flags.old) at
+        ≡ Some (rows numbers.new flags.new) }
 {
     let mut block = pulse_timer(numbers, flags, at);
     block.tp(now);
@@ -317,7 +328,8 @@ fn call_tp(numbers: &mut [i64], flags: &mut [bool], now: u32, at: usize)
 #[inline(always)]
 fn call_ton(numbers: &mut [i64], flags: &mut [bool], now: u32, at: usize)
     requires { IsSome (block_at Ton (Some (pos now)) (rows numbers.old flags.old) at) }
-    ensures { block_at Ton (Some (pos now)) (rows numbers.old flags.old) at ≡ Some (rows numbers.new flags.new) }
+    ensures { block_at Ton (Some (pos now)) (rows numbers.old flags.old) at
+        ≡ Some (rows numbers.new flags.new) }
 {
     let mut block = delay_timer(numbers, flags, at);
     block.ton(now);
@@ -328,7 +340,8 @@ fn call_ton(numbers: &mut [i64], flags: &mut [bool], now: u32, at: usize)
 #[inline(always)]
 fn call_tof(numbers: &mut [i64], flags: &mut [bool], now: u32, at: usize)
     requires { IsSome (block_at Tof (Some (pos now)) (rows numbers.old flags.old) at) }
-    ensures { block_at Tof (Some (pos now)) (rows numbers.old flags.old) at ≡ Some (rows numbers.new flags.new) }
+    ensures { block_at Tof (Some (pos now)) (rows numbers.old flags.old) at
+        ≡ Some (rows numbers.new flags.new) }
 {
     let mut block = delay_timer(numbers, flags, at);
     block.tof(now);

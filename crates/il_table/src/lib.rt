@@ -76,8 +76,11 @@ fn put_short<X: Copy>(
     number: u128,
     entry: X,
 ) -> Result<(), AllocError>
-    ensures ok { OnOk result (HasPut (numbered (λ s. s.number) short.old.entries ++ crowded.old.entries) (numbered (λ s. s.number) short.new.entries ++ crowded.new.entries) number entry) }
-    ensures err { OnErr result ((short.new.entries ≡ short.old.entries) × (crowded.new.entries ≡ crowded.old.entries)) }
+    ensures ok { OnOk result (HasPut
+        (numbered (λ s. s.number) short.old.entries ++ crowded.old.entries)
+        (numbered (λ s. s.number) short.new.entries ++ crowded.new.entries) number entry) }
+    ensures err { OnErr result ((short.new.entries ≡ short.old.entries)
+        × (crowded.new.entries ≡ crowded.old.entries)) }
 {
     let name = Short { number };
     if places::is_full(taken.as_slice(), short.len(), number) && !short.contains_key(&name) {

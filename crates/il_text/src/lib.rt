@@ -46,7 +46,8 @@ fn refusal(text: &[u8], at: usize, line: u32, misread: Misread) -> Refusal
     requires few { line ≤ 262145 }
     requires is_line { line ≡ line_at text.now at }
     ensures number { IsFaultOfBytes result }
-    ensures exactly { result ≡ Fault (number_of_error misread.error) (place_at text.now misread.at) }
+    ensures exactly { result ≡ Fault (number_of_error misread.error)
+        (place_at text.now misread.at) }
 {
     Refusal::Fault {
         number: misread.error.number(),

@@ -120,7 +120,8 @@ pub fn put_index(text: &mut String, index: &Index) -> Result<(), AllocError>
 
 // `A[I]`
 fn put_element(text: &mut String, name: &str, index: &Index) -> Result<(), AllocError>
-    ensures { OnOk result (Puts text.old text.new (name.now ++ (codes "[" ++ (index_text index.now ++ codes "]")))) }
+    ensures { OnOk result (Puts text.old text.new
+        (name.now ++ (codes "[" ++ (index_text index.now ++ codes "]")))) }
 {
     put_two(text, name, "[")?;
     put_index(text, index)?;
@@ -221,7 +222,8 @@ fn put_declared(text: &mut String, line: Option<u32>) -> Result<(), AllocError>
 
 /// `, declared in line N` of the line in which a unit declares a name, where there is one.
 pub fn put_line_of(text: &mut String, unit: &Unit, name: &str) -> Result<(), AllocError>
-    ensures { OnOk result (Puts text.old text.new (declared_text (declared_line unit.now name.now))) }
+    ensures { OnOk result (Puts text.old text.new
+        (declared_text (declared_line unit.now name.now))) }
 {
     put_declared(text, declared_line(unit, name))
 }
@@ -235,7 +237,8 @@ fn put_in_line(text: &mut String, line: u32) -> Result<(), AllocError>
 
 // `, C declared in line N`
 fn put_declared_name(text: &mut String, name: &str, line: u32) -> Result<(), AllocError>
-    ensures { OnOk result (Puts text.old text.new (codes ", " ++ (name.now ++ (codes " declared in line " ++ decimal line)))) }
+    ensures { OnOk result (Puts text.old text.new
+        (codes ", " ++ (name.now ++ (codes " declared in line " ++ decimal line)))) }
 {
     put_two(text, ", ", name)?;
     put_in_line(text, line)

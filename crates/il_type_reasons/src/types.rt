@@ -17,7 +17,8 @@ pub fn put_types(
     scope: &UnitScope<'_>,
     instruction: &Instruction,
 ) -> Result<(), AllocError>
-    ensures { OnOk result (Puts text.old text.new (type_lines scope.now.config scope.now.unit instruction.now)) }
+    ensures { OnOk result (Puts text.old text.new
+        (type_lines scope.now.config scope.now.unit instruction.now)) }
 {
     put_wanted(text, scope, instruction)?;
     put_called(text, scope.names(), instruction)?;

@@ -165,7 +165,9 @@ fn put_word(
     instance: &str,
     argument: &Argument,
 ) -> Result<(), AllocError>
-    ensures { OnOk result (Puts text.old text.new (word_line (rules.instance_block scope.now.config scope.now.unit instance.now) instance.now argument.now)) }
+    ensures { OnOk result (Puts text.old text.new
+        (word_line (rules.instance_block scope.now.config scope.now.unit instance.now) instance.now
+        argument.now)) }
 {
     match argument {
         Argument::Input { word, .. } => {
@@ -187,7 +189,9 @@ fn put_argument(
     before: &[Argument],
     argument: &Argument,
 ) -> Result<(), AllocError>
-    ensures { OnOk result (Puts text.old text.new (argument_lines (rules.instance_block scope.now.config scope.now.unit instance.now) instance.now before.now argument.now)) }
+    ensures { OnOk result (Puts text.old text.new
+        (argument_lines (rules.instance_block scope.now.config scope.now.unit instance.now)
+        instance.now before.now argument.now)) }
 {
     let word = argument_word(argument);
     put_twice(text, is_given(before, word), word)?;
@@ -201,7 +205,10 @@ fn put_arguments(
     instance: &str,
     arguments: &[Argument],
 ) -> Result<(), AllocError>
-    ensures { OnOk result (Puts text.old text.new (arguments_lines (rules.instance_block scope.now.config scope.now.unit instance.now) instance.now [] arguments.now)) }
+    ensures { OnOk result (Puts text.old text.new
+        (arguments_lines
+        (rules.instance_block scope.now.config scope.now.unit instance.now) instance.now []
+        arguments.now)) }
 {
     'arguments: for at in 0..arguments.len() {
         put_argument(text, scope, instance, &arguments[..at], &arguments[at])?;
@@ -217,7 +224,9 @@ fn put_call(
     instance: &str,
     arguments: &[Argument],
 ) -> Result<(), AllocError>
-    ensures { OnOk result (Puts text.old text.new (call_lines (rules.instance_block scope.now.config scope.now.unit instance.now) instance.now arguments.now)) }
+    ensures { OnOk result (Puts text.old text.new
+        (call_lines (rules.instance_block scope.now.config scope.now.unit instance.now) instance.now
+        arguments.now)) }
 {
     match scope.block(instance) {
         Some(block) => {
@@ -235,7 +244,8 @@ pub fn put_taken(
     scope: &UnitScope<'_>,
     instruction: &Instruction,
 ) -> Result<(), AllocError>
-    ensures { OnOk result (Puts text.old text.new (taken_lines scope.now.config scope.now.unit instruction.now)) }
+    ensures { OnOk result (Puts text.old text.new
+        (taken_lines scope.now.config scope.now.unit instruction.now)) }
 {
     match instruction {
         Instruction::Call {

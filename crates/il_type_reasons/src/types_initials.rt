@@ -53,7 +53,8 @@ fn put_value(
     declaration: &Declaration,
     initial: Initial,
 ) -> Result<(), AllocError>
-    ensures { OnOk result (Puts text.old text.new (initial_lines offset declaration.now (Some initial))) }
+    ensures { OnOk result (Puts text.old text.new
+        (initial_lines offset declaration.now (Some initial))) }
 {
     if initial.place.offset == offset {
         put_names(

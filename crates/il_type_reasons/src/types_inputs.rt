@@ -59,7 +59,8 @@ fn put_names(
     found: Option<Elementary>,
     names: &[Named],
 ) -> Result<(), AllocError>
-    ensures { OnOk result (Puts text.old text.new (flat_map (input_line function.now found) names.now)) }
+    ensures { OnOk result (Puts text.old text.new
+        (flat_map (input_line function.now found) names.now)) }
 {
     'names: for named in names {
         put_input(text, function, found, named)?;
@@ -73,7 +74,8 @@ fn put_declarations(
     function: &str,
     declarations: &[Declaration],
 ) -> Result<(), AllocError>
-    ensures { OnOk result (Puts text.old text.new (flat_map (declared_lines function.now) declarations.now)) }
+    ensures { OnOk result (Puts text.old text.new
+        (flat_map (declared_lines function.now) declarations.now)) }
 {
     'declarations: for declaration in declarations {
         put_declaration(text, function, declaration)?;
@@ -92,7 +94,8 @@ fn own_function<'n>(names: &'n Scoped, name: &str) -> Option<&'n Unit>
 
 // The inputs of the own function of a name.
 fn put_inputs(text: &mut String, names: &Scoped, name: &str) -> Result<(), AllocError>
-    ensures { OnOk result (Puts text.old text.new (inputs_lines name.now (function_named names.now name.now))) }
+    ensures { OnOk result (Puts text.old text.new
+        (inputs_lines name.now (function_named names.now name.now))) }
 {
     match own_function(names, name) {
         Some(unit) => put_declarations(text, name, unit.inputs.as_slice()),

@@ -73,7 +73,8 @@ fn names_no_instance(scope: &UnitScope<'_>, name: &str) -> bool
 
 // `V is an array`, where a scalar variable is wanted.
 fn put_array(text: &mut String, scope: &UnitScope<'_>, name: &str) -> Result<(), AllocError>
-    ensures { OnOk result (Puts text.old text.new (array_line scope.now.config scope.now.unit name.now)) }
+    ensures { OnOk result (Puts text.old text.new
+        (array_line scope.now.config scope.now.unit name.now)) }
 {
     if names_array(scope, name) {
         put_two(text, name, " is an array\n")
@@ -84,7 +85,8 @@ fn put_array(text: &mut String, scope: &UnitScope<'_>, name: &str) -> Result<(),
 
 // `V is no array`, before an index.
 fn put_no_array(text: &mut String, scope: &UnitScope<'_>, name: &str) -> Result<(), AllocError>
-    ensures { OnOk result (Puts text.old text.new (no_array_line scope.now.config scope.now.unit name.now)) }
+    ensures { OnOk result (Puts text.old text.new
+        (no_array_line scope.now.config scope.now.unit name.now)) }
 {
     if names_no_array(scope, name) {
         put_two(text, name, " is no array\n")
@@ -95,7 +97,8 @@ fn put_no_array(text: &mut String, scope: &UnitScope<'_>, name: &str) -> Result<
 
 // `V is no instance of a function block`, behind CAL.
 fn put_no_instance(text: &mut String, scope: &UnitScope<'_>, name: &str) -> Result<(), AllocError>
-    ensures { OnOk result (Puts text.old text.new (no_instance_line scope.now.config scope.now.unit name.now)) }
+    ensures { OnOk result (Puts text.old text.new
+        (no_instance_line scope.now.config scope.now.unit name.now)) }
 {
     if names_no_instance(scope, name) {
         put_two(text, name, " is no instance of a function block\n")
@@ -106,7 +109,8 @@ fn put_no_instance(text: &mut String, scope: &UnitScope<'_>, name: &str) -> Resu
 
 // Of an index.
 fn put_index(text: &mut String, scope: &UnitScope<'_>, index: &Index) -> Result<(), AllocError>
-    ensures { OnOk result (Puts text.old text.new (index_kind scope.now.config scope.now.unit index.now)) }
+    ensures { OnOk result (Puts text.old text.new
+        (index_kind scope.now.config scope.now.unit index.now)) }
 {
     match index {
         Index::Number(_) => Ok(()),
@@ -120,7 +124,8 @@ fn put_reference(
     scope: &UnitScope<'_>,
     reference: &Reference,
 ) -> Result<(), AllocError>
-    ensures { OnOk result (Puts text.old text.new (reference_kind scope.now.config scope.now.unit reference.now)) }
+    ensures { OnOk result (Puts text.old text.new
+        (reference_kind scope.now.config scope.now.unit reference.now)) }
 {
     match reference {
         Reference::Literal(_) => Ok(()),
@@ -139,7 +144,8 @@ fn put_operands(
     scope: &UnitScope<'_>,
     operands: &[Operand],
 ) -> Result<(), AllocError>
-    ensures { OnOk result (Puts text.old text.new (operand_kinds scope.now.config scope.now.unit operands.now)) }
+    ensures { OnOk result (Puts text.old text.new
+        (operand_kinds scope.now.config scope.now.unit operands.now)) }
 {
     'operands: for operand in operands {
         put_reference(text, scope, &operand.reference)?;
@@ -153,7 +159,8 @@ fn put_argument(
     scope: &UnitScope<'_>,
     argument: &Argument,
 ) -> Result<(), AllocError>
-    ensures { OnOk result (Puts text.old text.new (argument_kind scope.now.config scope.now.unit argument.now)) }
+    ensures { OnOk result (Puts text.old text.new
+        (argument_kind scope.now.config scope.now.unit argument.now)) }
 {
     match argument {
         Argument::Input { operand, .. } => put_reference(text, scope, &operand.reference),
@@ -167,7 +174,8 @@ fn put_arguments(
     scope: &UnitScope<'_>,
     arguments: &[Argument],
 ) -> Result<(), AllocError>
-    ensures { OnOk result (Puts text.old text.new (argument_kinds scope.now.config scope.now.unit arguments.now)) }
+    ensures { OnOk result (Puts text.old text.new
+        (argument_kinds scope.now.config scope.now.unit arguments.now)) }
 {
     'arguments: for argument in arguments {
         put_argument(text, scope, argument)?;
@@ -181,7 +189,8 @@ pub fn put_kinds(
     scope: &UnitScope<'_>,
     instruction: &Instruction,
 ) -> Result<(), AllocError>
-    ensures { OnOk result (Puts text.old text.new (kind_lines scope.now.config scope.now.unit instruction.now)) }
+    ensures { OnOk result (Puts text.old text.new
+        (kind_lines scope.now.config scope.now.unit instruction.now)) }
 {
     match instruction {
         Instruction::Load { operand, .. } => put_reference(text, scope, &operand.reference),

@@ -64,7 +64,8 @@ pub fn put_literal(text: &mut String, literal: Literal) -> Result<(), AllocError
 
 // `V is INT`, of a scalar variable.
 fn put_name<S: Scope>(text: &mut String, scope: &S, name: &str) -> Result<(), AllocError>
-    ensures { OnOk result (Puts text.old text.new (name_line (S.config scope.now) (S.unit scope.now) name.now)) }
+    ensures { OnOk result (Puts text.old text.new
+        (name_line (S.config scope.now) (S.unit scope.now) name.now)) }
 {
     match scope.name_type(name) {
         Some(found) => put_four(text, name, " is ", type_word(found), "\n"),
@@ -74,7 +75,8 @@ fn put_name<S: Scope>(text: &mut String, scope: &S, name: &str) -> Result<(), Al
 
 // `I is INT`, of the variable of an index.
 fn put_index_type<S: Scope>(text: &mut String, scope: &S, index: &Index) -> Result<(), AllocError>
-    ensures { OnOk result (Puts text.old text.new (index_line (S.config scope.now) (S.unit scope.now) index.now)) }
+    ensures { OnOk result (Puts text.old text.new
+        (index_line (S.config scope.now) (S.unit scope.now) index.now)) }
 {
     match index {
         Index::Number(_) => Ok(()),
@@ -90,7 +92,8 @@ fn put_element<S: Scope>(
     name: &str,
     index: &Index,
 ) -> Result<(), AllocError>
-    ensures { OnOk result (Puts text.old text.new (element_line (S.config scope.now) (S.unit scope.now) name.now index.now)) }
+    ensures { OnOk result (Puts text.old text.new
+        (element_line (S.config scope.now) (S.unit scope.now) name.now index.now)) }
 {
     match scope.element_type(name) {
         Some(found) => {
@@ -111,7 +114,8 @@ fn put_member<S: Scope>(
     name: &str,
     word: &str,
 ) -> Result<(), AllocError>
-    ensures { OnOk result (Puts text.old text.new (member_line (S.config scope.now) (S.unit scope.now) name.now word.now)) }
+    ensures { OnOk result (Puts text.old text.new
+        (member_line (S.config scope.now) (S.unit scope.now) name.now word.now)) }
 {
     match scope.member_type(name, word) {
         Some(found) => {
@@ -128,7 +132,8 @@ fn put_reference<S: Scope>(
     scope: &S,
     reference: &Reference,
 ) -> Result<(), AllocError>
-    ensures { OnOk result (Puts text.old text.new (reference_lines (S.config scope.now) (S.unit scope.now) reference.now)) }
+    ensures { OnOk result (Puts text.old text.new
+        (reference_lines (S.config scope.now) (S.unit scope.now) reference.now)) }
 {
     match reference {
         Reference::Literal(literal) => put_literal(text, *literal),
@@ -147,7 +152,8 @@ fn put_operands<S: Scope>(
     scope: &S,
     operands: &[Operand],
 ) -> Result<(), AllocError>
-    ensures { OnOk result (Puts text.old text.new (operands_lines (S.config scope.now) (S.unit scope.now) operands.now)) }
+    ensures { OnOk result (Puts text.old text.new
+        (operands_lines (S.config scope.now) (S.unit scope.now) operands.now)) }
 {
     'operands: for operand in operands {
         put_reference(text, scope, &operand.reference)?;
@@ -162,7 +168,8 @@ fn put_argument<S: Scope>(
     instance: &str,
     argument: &Argument,
 ) -> Result<(), AllocError>
-    ensures { OnOk result (Puts text.old text.new (argument_lines (S.config scope.now) (S.unit scope.now) instance.now argument.now)) }
+    ensures { OnOk result (Puts text.old text.new
+        (argument_lines (S.config scope.now) (S.unit scope.now) instance.now argument.now)) }
 {
     match argument {
         Argument::Input { word, operand } => {
@@ -183,7 +190,8 @@ fn put_arguments<S: Scope>(
     instance: &str,
     arguments: &[Argument],
 ) -> Result<(), AllocError>
-    ensures { OnOk result (Puts text.old text.new (arguments_lines (S.config scope.now) (S.unit scope.now) instance.now arguments.now)) }
+    ensures { OnOk result (Puts text.old text.new
+        (arguments_lines (S.config scope.now) (S.unit scope.now) instance.now arguments.now)) }
 {
     'arguments: for argument in arguments {
         put_argument(text, scope, instance, argument)?;
@@ -197,7 +205,8 @@ pub fn put_operands_of<S: Scope>(
     scope: &S,
     instruction: &Instruction,
 ) -> Result<(), AllocError>
-    ensures { OnOk result (Puts text.old text.new (operand_lines (S.config scope.now) (S.unit scope.now) instruction.now)) }
+    ensures { OnOk result (Puts text.old text.new
+        (operand_lines (S.config scope.now) (S.unit scope.now) instruction.now)) }
 {
     match instruction {
         Instruction::Load { operand, .. } => put_reference(text, scope, &operand.reference),

@@ -108,7 +108,8 @@ fn put_tested(
 
 // What an instruction takes of the current result.
 fn put_taken(text: &mut String, instruction: &Instruction, types: Types) -> Result<(), AllocError>
-    ensures { OnOk result (Puts text.old text.new (result_lines instruction.now types.result types.deferred)) }
+    ensures { OnOk result (Puts text.old text.new
+        (result_lines instruction.now types.result types.deferred)) }
 {
     match instruction {
         Instruction::Load { .. } => Ok(()),

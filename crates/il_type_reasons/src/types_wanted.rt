@@ -158,7 +158,8 @@ pub fn put_wanted(
     scope: &UnitScope<'_>,
     instruction: &Instruction,
 ) -> Result<(), AllocError>
-    ensures { OnOk result (Puts text.old text.new (wanted_line (wanted_type scope.now.config scope.now.unit instruction.now))) }
+    ensures { OnOk result (Puts text.old text.new
+        (wanted_line (wanted_type scope.now.config scope.now.unit instruction.now))) }
 {
     put_must(text, wanted_type(scope, instruction))
 }

@@ -18,7 +18,8 @@ use std::alloc::{AllocError, Global};
 
 // Words behind others.
 fn put_others(text: &mut String, words: &[&str]) -> Result<(), AllocError>
-    ensures { OnOk result (Puts text.old text.new (flat_map (λ w. codes ", " ++ w) (map (λ w. w.now) words.now))) }
+    ensures { OnOk result (Puts text.old text.new
+        (flat_map (λ w. codes ", " ++ w) (map (λ w. w.now) words.now))) }
 {
     'words: for word in words {
         put_two(text, ", ", *word)?;
@@ -41,7 +42,9 @@ fn put_words(text: &mut String, words: &[&str]) -> Result<(), AllocError>
 
 // `inputs of C1: CU, R, PV`, or `outputs of ..`
 fn put_line(text: &mut String, head: &str, instance: &str, words: &[&str]) -> Result<(), AllocError>
-    ensures { OnOk result (Puts text.old text.new (head.now ++ (instance.now ++ (codes ": " ++ (words_text (map (λ w. w.now) words.now) ++ codes "\n"))))) }
+    ensures { OnOk result (Puts text.old text.new
+        (head.now ++ (instance.now ++
+        (codes ": " ++ (words_text (map (λ w. w.now) words.now) ++ codes "\n"))))) }
 {
     put_three(text, head, instance, ": ")?;
     put_words(text, words)?;
@@ -50,14 +53,16 @@ fn put_line(text: &mut String, head: &str, instance: &str, words: &[&str]) -> Re
 
 // `inputs of C1: CU, R, PV`
 fn put_inputs(text: &mut String, instance: &str, words: &[&str]) -> Result<(), AllocError>
-    ensures { OnOk result (Puts text.old text.new (inputs_line instance.now (map (λ w. w.now) words.now))) }
+    ensures { OnOk result (Puts text.old text.new
+        (inputs_line instance.now (map (λ w. w.now) words.now))) }
 {
     put_line(text, "inputs of ", instance, words)
 }
 
 // `outputs of C1: Q, CV`
 fn put_outputs(text: &mut String, instance: &str, words: &[&str]) -> Result<(), AllocError>
-    ensures { OnOk result (Puts text.old text.new (outputs_line instance.now (map (λ w. w.now) words.now))) }
+    ensures { OnOk result (Puts text.old text.new
+        (outputs_line instance.now (map (λ w. w.now) words.now))) }
 {
     put_line(text, "outputs of ", instance, words)
 }
@@ -106,7 +111,8 @@ fn put_standard(
     instance: &str,
     block: StandardBlock,
 ) -> Result<(), AllocError>
-    ensures { OnOk result (Puts text.old text.new (block_lines instance.now (Some (standard_variables block)))) }
+    ensures { OnOk result (Puts text.old text.new
+        (block_lines instance.now (Some (standard_variables block)))) }
 {
     let words = words_of(block);
     let inputs = standard_words(alloc, words.inputs)?;
@@ -122,7 +128,8 @@ fn put_unit_words(
     instance: &str,
     unit: &Unit,
 ) -> Result<(), AllocError>
-    ensures { OnOk result (Puts text.old text.new (block_lines instance.now (Some (own_block_variables unit.now)))) }
+    ensures { OnOk result (Puts text.old text.new
+        (block_lines instance.now (Some (own_block_variables unit.now)))) }
 {
     let inputs = declared_words(alloc, unit.inputs.as_slice())?;
     let outputs = declared_words(alloc, unit.outputs.as_slice())?;
@@ -138,7 +145,8 @@ fn put_own(
     instance: &str,
     number: usize,
 ) -> Result<(), AllocError>
-    ensures { OnOk result (Puts text.old text.new (block_lines instance.now (variables_of_block names.now (OwnBlock number)))) }
+    ensures { OnOk result (Puts text.old text.new
+        (block_lines instance.now (variables_of_block names.now (OwnBlock number)))) }
 {
     match unit_at(names, number) {
         Some(unit) => put_unit_words(alloc, text, instance, unit),
@@ -154,7 +162,8 @@ pub fn put_block(
     instance: &str,
     block: BlockType,
 ) -> Result<(), AllocError>
-    ensures { OnOk result (Puts text.old text.new (block_lines instance.now (variables_of_block names.now block))) }
+    ensures { OnOk result (Puts text.old text.new
+        (block_lines instance.now (variables_of_block names.now block))) }
 {
     match block {
         BlockType::Standard(standard) => put_standard(alloc, text, instance, standard),

@@ -156,7 +156,8 @@ fn put_declarations(
     offset: u32,
     declarations: &[Declaration],
 ) -> Result<(), AllocError>
-    ensures { OnOk result (Puts text.old text.new (flat_map (written_lines wanted offset) declarations.now)) }
+    ensures { OnOk result (Puts text.old text.new
+        (flat_map (written_lines wanted offset) declarations.now)) }
 {
     'declarations: for declaration in declarations {
         put_written(text, wanted, offset, declaration)?;
@@ -166,14 +167,18 @@ fn put_declarations(
 
 // ` in line 12`, and the end of the line.
 fn put_in_line(text: &mut String, line: u32) -> Result<(), AllocError>
-    ensures { OnOk result (Puts text.old text.new (codes " in line " ++ (decimal line ++ codes "\n"))) }
+    ensures { OnOk result (Puts text.old text.new
+        (codes " in line " ++ (decimal line ++ codes "\n"))) }
 {
     writeln!(text, " in line {}", line)
 }
 
 // `the global V is BOOL in line 12`
 fn put_found(text: &mut String, form: &Form, named: &Named) -> Result<(), AllocError>
-    ensures { OnOk result (Puts text.old text.new (codes "the global " ++ (form_words form.now named.now ++ (codes " in line " ++ (decimal named.now.place.line ++ codes "\n"))))) }
+    ensures { OnOk result (Puts text.old text.new
+        (codes "the global " ++
+        (form_words form.now named.now ++
+        (codes " in line " ++ (decimal named.now.place.line ++ codes "\n"))))) }
 {
     put(text, "the global ")?;
     put_form_words(text, form, named)?;
@@ -221,7 +226,8 @@ fn put_external_globals(
     globals: &[Declaration],
     names: &[Named],
 ) -> Result<(), AllocError>
-    ensures { OnOk result (Puts text.old text.new (flat_map (globals_lines globals.now) names.now)) }
+    ensures { OnOk result (Puts text.old text.new
+        (flat_map (globals_lines globals.now) names.now)) }
 {
     'names: for named in names {
         put_globals(text, globals, named)?;
@@ -236,7 +242,8 @@ fn put_external(
     offset: u32,
     declaration: &Declaration,
 ) -> Result<(), AllocError>
-    ensures { OnOk result (Puts text.old text.new (external_lines globals.now offset declaration.now)) }
+    ensures { OnOk result (Puts text.old text.new
+        (external_lines globals.now offset declaration.now)) }
 {
     put_written(text, Wanted::ScalarsAndArrays, offset, declaration)?;
     if declaration.declared.place.offset == offset {
@@ -253,7 +260,8 @@ fn put_externals(
     offset: u32,
     externals: &[Declaration],
 ) -> Result<(), AllocError>
-    ensures { OnOk result (Puts text.old text.new (flat_map (external_lines globals.now offset) externals.now)) }
+    ensures { OnOk result (Puts text.old text.new
+        (flat_map (external_lines globals.now offset) externals.now)) }
 {
     'externals: for declaration in externals {
         put_external(text, globals, offset, declaration)?;
@@ -323,7 +331,8 @@ fn put_units(
     offset: u32,
     units: &[Unit],
 ) -> Result<(), AllocError>
-    ensures { OnOk result (Puts text.old text.new (flat_map (unit_written globals.now offset) units.now)) }
+    ensures { OnOk result (Puts text.old text.new
+        (flat_map (unit_written globals.now offset) units.now)) }
 {
     'units: for unit in units {
         put_unit(text, globals, offset, unit)?;

@@ -125,7 +125,8 @@ fn run_verified<R: Threads + Wait + Sync>(
     calls: &Reading,
 ) -> Result<Output, Fault>
     requires { runs request ≡ true }
-    ensures is { (source : List ℕ) → IsProgramOutcome request.entry verified source calls.now result }
+    ensures is { (source : List ℕ)
+        → IsProgramOutcome request.entry verified source calls.now result }
     ensures warned { AreWarned request.entry verified result }
     ensures unwritten { result ≢ Err Fault.CannotWrite }
 {

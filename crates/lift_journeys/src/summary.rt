@@ -174,7 +174,8 @@ fn put_figures(text: &mut String, times: &[u32]) -> Result<(), AllocError>
 
 fn put_some_figures(text: &mut String, times: &[u32]) -> Result<(), AllocError>
     requires { 0 < length times.now }
-    ensures { OnOk result (Puts text.old text.new (middle_text times.now ++ greatest_text times.now)) }
+    ensures { OnOk result (Puts text.old text.new
+        (middle_text times.now ++ greatest_text times.now)) }
 {
     put_middle(text, times)?;
     put_greatest(text, times)

@@ -31,7 +31,8 @@ fn put_tasks(text: &mut String, verified: &Verified) -> Result<(), AllocError>
 }
 
 fn put_units(text: &mut String, verified: &Verified) -> Result<(), AllocError>
-    ensures { OnOk result (Puts text.old text.new (flat_map unit_text (unit_lines verified.now.config.units verified.now.costs))) }
+    ensures { OnOk result (Puts text.old text.new
+        (flat_map unit_text (unit_lines verified.now.config.units verified.now.costs))) }
 {
     'units: for unit in verified.units() {
         put_unit(text, unit)?;

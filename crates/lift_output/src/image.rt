@@ -146,7 +146,8 @@ fn put_global(text: &mut String, path: &str, value: Option<Value>) -> Result<(),
 }
 
 fn put_globals(text: &mut String, world: &World) -> Result<(), AllocError>
-    ensures { OnOk result (Puts text.old text.new (globals_text world.now.world.group.globals (global_cells world.now.program.config))) }
+    ensures { OnOk result (Puts text.old text.new
+        (globals_text world.now.world.group.globals (global_cells world.now.program.config))) }
 {
     let cells = world.verified().globals();
     'globals: for cell in cells {

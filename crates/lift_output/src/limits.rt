@@ -112,7 +112,8 @@ fn put_most(
     unit: Option<Usage<'_>>,
     most: usize,
 ) -> Result<(), AllocError>
-    ensures { OnOk result (Puts text.old text.new (most_line name.now (option_map use_shown unit.entry) most)) }
+    ensures { OnOk result (Puts text.old text.new
+        (most_line name.now (option_map use_shown unit.entry) most)) }
 {
     match unit {
         Some(unit) => {

@@ -25,7 +25,8 @@ pub fn put_line(
     before: &Before,
     after: &View<'_>,
 ) -> Result<(), AllocError>
-    ensures { OnOk result (Puts text.old text.new (line_text after.now.config source.now (of_before before.now) after.now.state)) }
+    ensures { OnOk result (Puts text.old text.new
+        (line_text after.now.config source.now (of_before before.now) after.now.state)) }
 {
     put_front(text, source, before)?;
     put_results(text, before, after)?;
@@ -46,7 +47,8 @@ fn put_front(text: &mut String, source: &[u8], before: &Before) -> Result<(), Al
 
 // The current result before a step and behind it.
 fn put_results(text: &mut String, before: &Before, after: &View<'_>) -> Result<(), AllocError>
-    ensures { OnOk result (Puts text.old text.new (results_text (of_before before.now) after.now.state)) }
+    ensures { OnOk result (Puts text.old text.new
+        (results_text (of_before before.now) after.now.state)) }
 {
     put_result(text, before.result)?;
     text.push_str(" -> ")?;
@@ -108,7 +110,8 @@ fn put_names(
     before: &Before,
     after: &View<'_>,
 ) -> Result<(), AllocError>
-    ensures { OnOk result (Puts text.old text.new (names_text after.now.config (of_before before.now) after.now.state)) }
+    ensures { OnOk result (Puts text.old text.new
+        (names_text after.now.config (of_before before.now) after.now.state)) }
 {
     let depth = after.depth();
     if depth < before.depth {
@@ -133,7 +136,9 @@ fn put_left(
     view: &View<'_>,
     caller: Option<&Stand>,
 ) -> Result<(), AllocError>
-    ensures { OnOk result (Puts text.old text.new (left_text view.now.config view.now.state.values (option_map (λ s. of_stand s.now) caller.entry))) }
+    ensures { OnOk result (Puts text.old text.new
+        (left_text view.now.config view.now.state.values
+        (option_map (λ s. of_stand s.now) caller.entry))) }
 {
     let Some(caller) = caller else {
         return Ok(());
@@ -152,7 +157,8 @@ fn put_call(
     path: &str,
     instruction: &Instruction,
 ) -> Result<(), AllocError>
-    ensures { OnOk result (Puts text.old text.new (call_text view.now.state.values path.now instruction.now)) }
+    ensures { OnOk result (Puts text.old text.new
+        (call_text view.now.state.values path.now instruction.now)) }
 {
     let Instruction::Call {
         instance,
@@ -181,7 +187,8 @@ fn put_outs(
     instance: &str,
     arguments: &[Argument],
 ) -> Result<(), AllocError>
-    ensures { OnOk result (Puts text.old text.new (flat_map (out_text view.now.state.values path.now instance.now) arguments.now)) }
+    ensures { OnOk result (Puts text.old text.new
+        (flat_map (out_text view.now.state.values path.now instance.now) arguments.now)) }
 {
     'arguments: for argument in arguments {
         put_out(alloc, text, view, path, instance, argument)?;
@@ -198,7 +205,8 @@ fn put_out(
     instance: &str,
     argument: &Argument,
 ) -> Result<(), AllocError>
-    ensures { OnOk result (Puts text.old text.new (out_text view.now.state.values path.now instance.now argument.now)) }
+    ensures { OnOk result (Puts text.old text.new
+        (out_text view.now.state.values path.now instance.now argument.now)) }
 {
     let Argument::Output { word, target } = argument else {
         return Ok(());
@@ -217,7 +225,8 @@ fn put_argument(
     enters: bool,
     argument: &Argument,
 ) -> Result<(), AllocError>
-    ensures { OnOk result (Puts text.old text.new (argument_text view.now.state.values path.now instance.now enters argument.now)) }
+    ensures { OnOk result (Puts text.old text.new
+        (argument_text view.now.state.values path.now instance.now enters argument.now)) }
 {
     match argument {
         Argument::Input { word, .. } => {
@@ -242,7 +251,8 @@ fn put_step(
     enters: bool,
     step: Option<&Step>,
 ) -> Result<(), AllocError>
-    ensures { OnOk result (Puts text.old text.new (step_text view.now.state.values path.now enters (option_copied step.entry))) }
+    ensures { OnOk result (Puts text.old text.new
+        (step_text view.now.state.values path.now enters (option_copied step.entry))) }
 {
     match step {
         Some(step) => put_instruction(alloc, text, view, path, enters, &step.instruction),
@@ -259,7 +269,8 @@ fn put_instruction(
     enters: bool,
     instruction: &Instruction,
 ) -> Result<(), AllocError>
-    ensures { OnOk result (Puts text.old text.new (instruction_text view.now.state.values path.now enters instruction.now)) }
+    ensures { OnOk result (Puts text.old text.new
+        (instruction_text view.now.state.values path.now enters instruction.now)) }
 {
     match instruction {
         Instruction::Load { operand, .. }
@@ -302,7 +313,9 @@ fn put_arguments(
     enters: bool,
     arguments: &[Argument],
 ) -> Result<(), AllocError>
-    ensures { OnOk result (Puts text.old text.new (flat_map (argument_text view.now.state.values path.now instance.now enters) arguments.now)) }
+    ensures { OnOk result (Puts text.old text.new
+        (flat_map (argument_text view.now.state.values path.now instance.now enters)
+        arguments.now)) }
 {
     'arguments: for argument in arguments {
         put_argument(alloc, text, view, path, instance, enters, argument)?;
@@ -318,7 +331,8 @@ fn put_operands(
     path: &str,
     operands: &[Operand],
 ) -> Result<(), AllocError>
-    ensures { OnOk result (Puts text.old text.new (flat_map (λ o. reference_text view.now.state.values path.now o.reference) operands.now)) }
+    ensures { OnOk result (Puts text.old text.new
+        (flat_map (λ o. reference_text view.now.state.values path.now o.reference) operands.now)) }
 {
     'operands: for operand in operands {
         put_reference(alloc, text, view, path, &operand.reference)?;

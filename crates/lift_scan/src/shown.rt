@@ -106,7 +106,9 @@ fn put_lines(
     source: &[u8],
     text: &mut String,
 ) -> Result<(), AllocError>
-    ensures lines { OnOk result (Puts text.old text.new (lines_text world.old.program.config asked.task asked.until source.now 1000000 world.old.world)) }
+    ensures lines { OnOk result (Puts text.old text.new
+        (lines_text world.old.program.config asked.task asked.until source.now 1000000
+        world.old.world)) }
     ensures same { world.new.program ≡ world.old.program }
 {
     let mut report = Report::new();
@@ -169,7 +171,9 @@ fn put_step(
     task: u8,
     before: &Before,
 ) -> Result<(), AllocError>
-    ensures { OnOk result (Puts text.old text.new (line_by world.now.program.config source.now (of_before before.now) (scan_at world.now.world task))) }
+    ensures { OnOk result (Puts text.old text.new
+        (line_by world.now.program.config source.now (of_before before.now)
+        (scan_at world.now.world task))) }
 {
     match View::of(world, task) {
         Some(view) => put_line(alloc, text, source, before, &view),

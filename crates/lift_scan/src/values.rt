@@ -49,7 +49,8 @@ pub fn put_variable(
     path: &str,
     name: &str,
 ) -> Result<(), AllocError>
-    ensures { OnOk result (Puts text.old text.new (named_text view.now.state.values (meaning.under path.now name.now))) }
+    ensures { OnOk result (Puts text.old text.new
+        (named_text view.now.state.values (meaning.under path.now name.now))) }
 {
     let path = under(String::from_str(alloc, path)?, name)?;
     put_named(text, view, path.as_str())
@@ -64,7 +65,9 @@ pub fn put_member(
     instance: &str,
     word: &str,
 ) -> Result<(), AllocError>
-    ensures { OnOk result (Puts text.old text.new (named_text view.now.state.values (meaning.member_path (meaning.under path.now instance.now) word.now))) }
+    ensures { OnOk result (Puts text.old text.new
+        (named_text view.now.state.values
+        (meaning.member_path (meaning.under path.now instance.now) word.now))) }
 {
     let mut path = under(String::from_str(alloc, path)?, instance)?;
     path.push_str(".")?;
@@ -79,7 +82,8 @@ fn put_numbered(
     array: String,
     number: i64,
 ) -> Result<(), AllocError>
-    ensures { OnOk result (Puts text.old text.new (named_text view.now.state.values (meaning.element_path (string_bytes array) number))) }
+    ensures { OnOk result (Puts text.old text.new
+        (named_text view.now.state.values (meaning.element_path (string_bytes array) number))) }
 {
     let mut path = array;
     write!(path, "[{}]", number)?;
@@ -93,7 +97,8 @@ fn put_indexed(
     array: String,
     index: Option<Value>,
 ) -> Result<(), AllocError>
-    ensures { OnOk result (Puts text.old text.new (indexed_text view.now.state.values (string_bytes array) index)) }
+    ensures { OnOk result (Puts text.old text.new
+        (indexed_text view.now.state.values (string_bytes array) index)) }
 {
     match index {
         Some(Value::Integer(number)) => put_numbered(text, view, array, number),
@@ -110,7 +115,8 @@ fn put_element(
     name: &str,
     index: &Index,
 ) -> Result<(), AllocError>
-    ensures { OnOk result (Puts text.old text.new (element_text view.now.state.values path.now name.now index.now)) }
+    ensures { OnOk result (Puts text.old text.new
+        (element_text view.now.state.values path.now name.now index.now)) }
 {
     let array = under(String::from_str(alloc, path)?, name)?;
     match index {
@@ -130,7 +136,8 @@ pub fn put_reference(
     path: &str,
     reference: &Reference,
 ) -> Result<(), AllocError>
-    ensures { OnOk result (Puts text.old text.new (reference_text view.now.state.values path.now reference.now)) }
+    ensures { OnOk result (Puts text.old text.new
+        (reference_text view.now.state.values path.now reference.now)) }
 {
     match reference {
         Reference::Literal(_) => Ok(()),

@@ -64,7 +64,9 @@ pub(crate) fn put_outputs(text: &mut String, outputs: &[CarOutputs]) -> Result<(
 
 #[tactic(auto, unfolding(crate::specs::Answers::entered_line))]
 fn put_entered(text: &mut String, ticket: u64, slot: u8, from: u8, to: u8) -> Result<(), AllocError>
-    ensures line { OnOk result (Puts text.old text.new (entered_line (record { slot = slot; ticket = ticket; call = record { from = from; to = to } }))) }
+    ensures line { OnOk result (Puts text.old text.new
+        (entered_line (record
+        { slot = slot; ticket = ticket; call = record { from = from; to = to } }))) }
     ensures few { length (entered_line (record
         { slot = slot; ticket = ticket; call = record { from = from; to = to } })) ≤ 41 }
 {
@@ -74,7 +76,8 @@ fn put_entered(text: &mut String, ticket: u64, slot: u8, from: u8, to: u8) -> Re
 
 #[tactic(auto, unfolding(crate::specs::Answers::denied_line))]
 fn put_denied(text: &mut String, car: u8, rule: Rule) -> Result<(), AllocError>
-    ensures line { OnOk result (Puts text.old text.new (denied_line (record { car = car; rule = rule }))) }
+    ensures line { OnOk result (Puts text.old text.new
+        (denied_line (record { car = car; rule = rule }))) }
     ensures few { length (denied_line (record { car = car; rule = rule })) ≤ 41 }
 {
     writeln!(text, "denied {} {}", car, rule.number())

@@ -39,7 +39,8 @@ pub fn serve_group<R: Read, O: Sink, T: Sink>(
         (Consumes (R.remaining reader.old) (R.remaining reader.new))
         (Appends (O.contents out.old) (O.contents out.new))
         (Appends (T.contents trace.old) (T.contents trace.new))) }
-    ensures halted { IfErr result (λ halt. IsHalted verified.config (at_stop (R.remaining reader.new)
+    ensures halted { IfErr result (λ halt. IsHalted verified.config
+        (at_stop (R.remaining reader.new)
         (O.has_failed out.new) (T.has_failed trace.new)) (Consumes (R.remaining reader.old) (R.remaining reader.new)) (O.contents out.old)
         (O.contents out.new)
         (Appends (T.contents trace.old) (T.contents trace.new))

@@ -44,7 +44,8 @@ pub fn serve<R: Read, O: Sink, T: Sink>(
 ) -> Result<(), Stopped>
     requires server { IsServer server.old }
     requires room { 128 ≤ vec_capacity line.old }
-    ensures served { OnOk result (IsServed server.old.rounds.world.program.config server.old.rounds.world.world
+    ensures served { OnOk result (IsServed server.old.rounds.world.program.config
+        server.old.rounds.world.world
         server.old.count server.new.rounds.world.world server.new.count
         (Consumes (R.remaining reader.old) (R.remaining reader.new))
         (Appends (O.contents out.old) (O.contents out.new))

@@ -212,7 +212,8 @@ impl Server {
             (traced_text self.old.rounds.world.program.config said.now self.old.count)) }
         ensures counted { OnOk result (self.new.count
             ≡ self.old.count + length (events_of self.old.rounds.world.program.config said.now)) }
-        ensures fault { IfErr result (λ fault. IsUntraced self.old.rounds.world.program.config said.now
+        ensures fault { IfErr result (λ fault. IsUntraced self.old.rounds.world.program.config
+            said.now
             self.old.count (T.contents trace.old) (T.contents trace.new) (T.has_failed trace.new)
             fault) }
         ensures silent { T.contents trace.old ≡ None → T.contents trace.new ≡ None }
@@ -293,7 +294,8 @@ impl Server {
             × Appends (O.contents out.old) (O.contents out.new) text
             × Appends (T.contents trace.old) (T.contents trace.new) events
             × (ended ≡ is_end said)) }
-        ensures unheard { IfErr result (λ fault. Unheard self.old.rounds.world.program.config line.now
+        ensures unheard { IfErr result (λ fault. Unheard self.old.rounds.world.program.config
+            line.now
             self.old.rounds.world.world self.old.count (O.has_failed out.new) (T.has_failed trace.new)
             (Appends (O.contents out.old) (O.contents out.new))
             (AppendsFront (O.contents out.old) (O.contents out.new))

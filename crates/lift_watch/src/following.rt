@@ -111,7 +111,8 @@ fn put_denied(
     report: &Report,
     round: u32,
 ) -> Result<(), AllocError>
-    ensures { OnOk result (Puts text.old text.new (denied_at all event.now (reply_with reply report.now) round)) }
+    ensures { OnOk result (Puts text.old text.new
+        (denied_at all event.now (reply_with reply report.now) round)) }
 {
     match event {
         TraceEvent::Refresh(_) => put_refresh(text, all, round, denials_in(reply, report)),
@@ -150,7 +151,8 @@ fn put_row_before(
     asked: &Asked,
     world: &World,
 ) -> Result<(), AllocError>
-    ensures { OnOk result (Puts text.old text.new (row_before watched.now event.now round asked.now world.now.world)) }
+    ensures { OnOk result (Puts text.old text.new
+        (row_before watched.now event.now round asked.now world.now.world)) }
 {
     match event {
         TraceEvent::Refresh(_) => put_row_of(text, watched, round, asked, world),
@@ -166,7 +168,8 @@ fn put_row_of(
     asked: &Asked,
     world: &World,
 ) -> Result<(), AllocError>
-    ensures { OnOk result (Puts text.old text.new (row_of watched.now round asked.now world.now.world)) }
+    ensures { OnOk result (Puts text.old text.new
+        (row_of watched.now round asked.now world.now.world)) }
 {
     if round == 0 {
         return Ok(());

@@ -128,7 +128,8 @@ pub fn put_row(
     world: &World,
     watched: &[Watched<'_>],
 ) -> Result<(), AllocError>
-    ensures { OnOk result (Puts text.old text.new (row_text watched.now round asked.now world.now.world)) }
+    ensures { OnOk result (Puts text.old text.new
+        (row_text watched.now round asked.now world.now.world)) }
 {
     write!(text, "{}", round)?;
     put_values(text, asked, world, watched)?;
@@ -141,7 +142,8 @@ fn put_values(
     world: &World,
     watched: &[Watched<'_>],
 ) -> Result<(), AllocError>
-    ensures { OnOk result (Puts text.old text.new (values_text watched.now asked.now world.now.world)) }
+    ensures { OnOk result (Puts text.old text.new
+        (values_text watched.now asked.now world.now.world)) }
 {
     'values: for it in watched {
         put_value(text, value_of(world, asked, *it))?;

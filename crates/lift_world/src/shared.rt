@@ -410,7 +410,8 @@ impl Shared {
         requires fits { SharedFits verified.now.config self.old }
         requires ranges { InRanges verified.now.config (group_in verified.now.config self.old) }
         requires of { IsOf verified.now.config task store.old }
-        requires kept { variables ≡ Variables.Stay → (s : MemoryOf) → memory_at self.old task ≡ Some s
+        requires kept { variables ≡ Variables.Stay → (s : MemoryOf) → memory_at self.old task
+            ≡ Some s
             → StillHas (variables_in verified.now.config task s.variables) store.old.state }
         ensures begins { (s : MemoryOf) → memory_at self.old task ≡ Some s
             → store.new.state
@@ -510,7 +511,8 @@ impl Shared {
             → ScansWhole verified.now.config task (group_in verified.now.config self.old)
             (task_in verified.now.config task s) store.new (group_in verified.now.config self.new)
             report.new }
-        ensures closed { (v : RowsOf) × (self.new.memories.items ≡ with_memory self.old task v None) }
+        ensures closed { (v : RowsOf) × (self.new.memories.items
+            ≡ with_memory self.old task v None) }
         ensures fits { SharedFits verified.now.config self.new }
     {
         self.begin(verified, task, store);
