@@ -10,7 +10,7 @@ use Rattle.il_spec.specs.declared.tree.Named.{Named}
 use Rattle.il_spec.specs.declared.tree.Operand.{Operand as Written}
 use Rattle.il_spec.specs.declared.tree.Unit.{Unit as ProgramUnit}
 use Rattle.il_spec.specs.declared.tree.Config.{Config}
-use Rattle.il_rules.specs.Names.{or_else, entry_of, form_named}
+use Rattle.il_rules.specs.Names.{or_else, entry_of, form_named, standard_function, function_named}
 use Rattle.il_rules.specs.Declarations.{is_within}
 use Rattle.il_table.specs.NameMap.{Text, get}
 use Rattle.il_run.specs.Meaning.{width, natural, Constant, entities, initial_value}
@@ -38,7 +38,7 @@ use Rattle.il_spec.specs.declared.tree.Condition.{Condition}
 use Rattle.il_spec.specs.declared.tree.Argument.{Argument}
 use Rattle.il_spec.specs.declared.tree.Argument.TheVariants.{Input, Output}
 use Rattle.il_scope.specs.declared.entry.BlockType.TheVariants.{Standard, Own}
-use Rattle.il_layout.specs.Flattened.{slot_of, index_in, numbered, typed, untyped, slot_in}
+use Rattle.il_layout.specs.Flattened.{slot_of, index_in, numbered, typed, untyped, slot_in, function_entities, calls_form, invokes}
 use Rattle.il_layout.specs.Places.{capped}
 use Rattle.il_layout.specs.Making.{shown, all_offsets, standard_offset}
 use Rattle.il_layout.specs.Program.{program_names}
@@ -244,5 +244,17 @@ abbrev pub first_of : Config → ProgramUnit → List Variable → Slot
 first_of c u [] = Flag 0
 first_of c u (v ∷ vs) = slot_known 0 (known c u v.name)
 
+-- what calls of a function need
 abbrev pub function_code_of : Config → ProgramUnit → List Variable → List Variable → FunctionCode
 function_code_of c u inputs all = record { first = first_of c u inputs; result = slot_known 0 (known c u u.name.name); fresh = reverse (fresh_list 0 all) }
+
+abbrev pub own_function_code : Config → ProgramUnit → FunctionCode
+own_function_code c u = function_code_of c u (map (shown c) (entities u.inputs)) (map (shown c) (function_entities u))
+
+-- the code of the call of an instance, by the names of a program
+abbrev pub calling_code : Config → ProgramUnit → Condition → Text → List Argument → Flat
+calling_code c u condition instance arguments = calls_form (program_names c u.name.name) c u condition instance arguments (form_named c u instance)
+
+-- the code of the call of a function
+abbrev pub invoking_code : Config → ProgramUnit → Text → List Written → Flat
+invoking_code c u function from = invokes (program_names c u.name.name) c u function from (standard_function function) (function_named c function)

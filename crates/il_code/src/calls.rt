@@ -1,10 +1,8 @@
 // Calls of instances (IEC 61131-3:2003, 2.5.2.2).
 
 ghost use Rattle.std.specs.Prelude.{◌≡◌, IfOk, OnOk};
-ghost use Rattle.il_rules.specs.Names.{form_named};
-ghost use Rattle.il_layout.specs.Flattened.{slot_in, calls_form};
-ghost use Rattle.il_layout.specs.Program.{program_names};
-ghost use Rattle.il_code.specs.Resolving.{assigned_at, copied_at, with_input, with_output, inputs_at, outputs_at, block_call, call_of};
+ghost use Rattle.il_layout.specs.Flattened.{slot_in};
+ghost use Rattle.il_code.specs.Resolving.{assigned_at, copied_at, with_input, with_output, inputs_at, outputs_at, block_call, call_of, calling_code};
 
 use crate::here::Here;
 use crate::operands::{Known, name_operand, operand_for, resolve, slot_known};
@@ -191,10 +189,8 @@ pub fn call(
     instance: &Named,
     arguments: &[Argument],
 ) -> Result<Flat, AllocError>
-    ensures { IfOk result (λ f. f ≡ calls_form
-        (program_names here.now.scope.config here.now.scope.unit.name.name) here.now.scope.config
-        here.now.scope.unit condition instance.now.name arguments.now
-        (form_named here.now.scope.config here.now.scope.unit instance.now.name)) }
+    ensures { IfOk result (λ f. f ≡ calling_code here.now.scope.config here.now.scope.unit condition
+        instance.now.name arguments.now) }
 {
     let known = here.known(instance.name.as_str());
     call_of(alloc, here, condition, arguments, known)

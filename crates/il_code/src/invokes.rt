@@ -1,10 +1,7 @@
 // Calls of functions (IEC 61131-3:2003, 2.5.1).
 
 ghost use Rattle.std.specs.Prelude.{◌≡◌, map, drop, IfOk};
-ghost use Rattle.il_rules.specs.Names.{standard_function, function_named};
-ghost use Rattle.il_layout.specs.Flattened.{invokes};
-ghost use Rattle.il_layout.specs.Program.{program_names};
-ghost use Rattle.il_code.specs.Resolving.{resolve, by_resolved, literal_beside, argument_at, arguments_at, unit_inputs, invoke_of};
+ghost use Rattle.il_code.specs.Resolving.{resolve, by_resolved, literal_beside, argument_at, arguments_at, unit_inputs, invoke_of, invoking_code};
 
 use crate::here::Here;
 use crate::operands::{Resolved, natural, operand_for, resolve, slot_known, typed, untyped};
@@ -140,10 +137,8 @@ pub fn invoke(
     function: &Named,
     from: &[Written],
 ) -> Result<Flat, AllocError>
-    ensures { IfOk result (λ f. f ≡ invokes
-        (program_names here.now.scope.config here.now.scope.unit.name.name) here.now.scope.config
-        here.now.scope.unit function.now.name from.now (standard_function function.now.name)
-        (function_named here.now.scope.config function.now.name)) }
+    ensures { IfOk result (λ f. f ≡ invoking_code here.now.scope.config here.now.scope.unit
+        function.now.name from.now) }
 {
     let name = function.name.as_str();
     invoke_of(

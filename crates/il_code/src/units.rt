@@ -2,11 +2,10 @@
 
 ghost use Rattle.std.specs.Prelude.{◌≡◌, ◌<◌, ◌^◌, reverse, length, map, slice_get, Some, IfOk, option_map};
 ghost use Rattle.il_spec.specs.declared.tree.Unit.{Unit as ProgramUnit};
-ghost use Rattle.il_run.specs.Meaning.{entities};
-ghost use Rattle.il_layout.specs.Flattened.{function_by, function_entities};
-ghost use Rattle.il_layout.specs.Making.{IsChecked, all_offsets, block_lists, shown};
+ghost use Rattle.il_layout.specs.Flattened.{function_by};
+ghost use Rattle.il_layout.specs.Making.{IsChecked, all_offsets, block_lists};
 ghost use Rattle.il_layout.specs.Program.{program_names};
-ghost use Rattle.il_code.specs.Resolving.{fresh_by, fresh_list, first_of, function_code_of};
+ghost use Rattle.il_code.specs.Resolving.{fresh_by, fresh_list, first_of, own_function_code};
 ghost use Rattle.il_layout.specs.Whole.{unit_code};
 
 use crate::bodies::flat_code;
@@ -68,9 +67,7 @@ fn first_of(here: &Here, inputs: &[Variable]) -> Slot
 
 // What calls of a function need.
 fn function_code(alloc: Global, here: &Here) -> Result<FunctionCode, AllocError>
-    ensures { IfOk result (λ f. f ≡ function_code_of here.now.scope.config here.now.scope.unit
-        (map (shown here.now.scope.config) (entities here.now.scope.unit.inputs))
-        (map (shown here.now.scope.config) (function_entities here.now.scope.unit))) }
+    ensures { IfOk result (λ f. f ≡ own_function_code here.now.scope.config here.now.scope.unit) }
 {
     let names = here.scope.names();
     let unit = here.scope.tree();

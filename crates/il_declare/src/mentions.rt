@@ -2,7 +2,7 @@
 
 ghost use Rattle.std.specs.Prelude.{◌≡◌, ◌++◌, [], is_some, flat_map, option_and_then, if◌then◌else◌};
 ghost use Rattle.il_rules.specs.Names.{entry_of, meaning, standard_function, function_named};
-ghost use Rattle.il_rules.specs.Declarations.{unless, is_visible, scalar_numbers, array_numbers, index_name_numbers, member_numbers, reference_numbers, called_numbers, argument_name_numbers, short_form_name_numbers, name_numbers, Reads};
+ghost use Rattle.il_rules.specs.Declarations.{unless, is_visible, scalar_numbers, array_numbers, index_name_numbers, member_numbers, reference_numbers, called_numbers, argument_name_numbers, short_form_name_numbers, function_name_numbers, invoke_name_numbers, name_numbers, Reads};
 ghost use Rattle.il_scope.specs.Views.{variables_of_block};
 ghost use Rattle.il_rules.specs.Least.{IsLeast};
 ghost use Rattle.il_declare.specs.Places.{lowest_at, At, Among};
@@ -101,10 +101,9 @@ fn invoke_fault(
     operands: &[Operand],
     place: Place,
 ) -> Option<Found<DeclareFault>>
-    ensures { result ≡ lowest_at ((if is_some (standard_function function.now.name) then [] else
-        unless (is_some (function_named here.now.config function.now.name)) 21)
-        ++ flat_map (λ o. reference_numbers here.now.config here.now.unit Reads o.reference)
-        operands.now) place }
+    ensures { result
+        ≡ lowest_at (invoke_name_numbers here.now.config here.now.unit function.now.name operands.now)
+        place }
 {
     let unknown = function_fault(here.names(), function.name.as_str(), place);
     earlier(unknown, operands_fault(here, operands, place))
@@ -112,8 +111,7 @@ fn invoke_fault(
 
 // What the name of a function breaks: it is a standard one's or an own one's.
 fn function_fault(names: &Scoped, name: &str, place: Place) -> Option<Found<DeclareFault>>
-    ensures { result ≡ lowest_at (if is_some (standard_function name.now) then [] else unless
-        (is_some (function_named names.now name.now)) 21) place }
+    ensures { result ≡ lowest_at (function_name_numbers names.now name.now) place }
 {
     if standard_function(name).is_some() {
         return None;

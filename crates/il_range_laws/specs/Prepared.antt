@@ -1,5 +1,5 @@
 -- What the laws of the pass ask of a unit (own rules): what earlier phases have checked.
-use Rattle.std.specs.Prelude.{◌≡◌, ℕ, ◌<◌, List, [], ◌∷◌, Option, Some, None}
+use Rattle.std.specs.Prelude.{◌≡◌, ℕ, ◌<◌, List, [], ◌∷◌, length, Option, Some, None}
 use Rattle.il_interval.specs.declared.Interval.{Interval}
 use Rattle.il_spec.specs.declared.tree.Named.{Named}
 use Rattle.il_spec.specs.declared.tree.Place.{Place}
@@ -77,3 +77,7 @@ entry declared = facts declared None []
 -- the pass went over so many places
 abbrev pub went_over : Config → ProgramUnit → Names → List Interval → ℕ → Option (Arrived Facts)
 went_over c u names declared = passed facts_join (moves names c u) (entry declared)
+
+-- the pass goes over each place of a unit, and this arrives
+abbrev pub IsPassed : Config → ProgramUnit → Names → List Interval → Arrived Facts → Type 0
+IsPassed c u names declared arrived = went_over c u names declared (length u.body.steps) ≡ Some arrived

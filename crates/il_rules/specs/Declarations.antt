@@ -261,6 +261,14 @@ abbrev pub short_form_name_numbers : Config → ProgramUnit → Option Operand �
 short_form_name_numbers config unit None = []
 short_form_name_numbers config unit (Some operand) = reference_numbers config unit Reads operand.reference
 
+-- what the name of a function breaks: it is a standard one's or an own one's (2.5.1)
+abbrev pub function_name_numbers : Config → Spelling → List ℕ
+function_name_numbers config name = if is_some (standard_function name) then [] else unless (is_some (function_named config name)) 21
+
+-- what the names of a function's call break
+abbrev pub invoke_name_numbers : Config → ProgramUnit → Spelling → List Operand → List ℕ
+invoke_name_numbers config unit name operands = function_name_numbers config name ++ flat_map (λ o. reference_numbers config unit Reads o.reference) operands
+
 -- what the names of an instruction break; labels are no such names (3.2.1)
 unfoldable pub name_numbers : Config → ProgramUnit → Instruction → List ℕ
 name_numbers config unit (Load negated operand) = reference_numbers config unit Reads operand.reference
@@ -273,9 +281,7 @@ name_numbers config unit (Jump condition label) = []
 name_numbers config unit (Return condition) = []
 name_numbers config unit (Call condition instance arguments) =
     called_numbers (meaning config unit instance.name) ++ flat_map (argument_name_numbers config unit) arguments
-name_numbers config unit (Invoke function operands) =
-    (if is_some (standard_function function.name) then [] else unless (is_some (function_named config function.name)) 21)
-    ++ flat_map (λ o. reference_numbers config unit Reads o.reference) operands
+name_numbers config unit (Invoke function operands) = invoke_name_numbers config unit function.name operands
 
 -- an instruction whose names break the rule of this number, at its operator
 abbrev pub IsNameBroken : Config → ℕ → Place → Type 0

@@ -240,14 +240,17 @@ abbrev pub selected_input_type : Config → ProgramUnit → Reference → Option
 selected_input_type config unit (OfLiteral (Bare n)) = or_else (literal_type (Bare n)) (Some Dint)
 selected_input_type config unit reference = loaded_type config unit reference
 
--- the two inputs of SEL have one type, a bare literal that of LD (2.5.1.5, own rule)
+-- what two inputs of SEL break: they have one type, a bare literal that of LD (2.5.1.5, own rule)
+abbrev pub pair_numbers : Config → ProgramUnit → Reference → Reference → List ℕ
+pair_numbers config unit a b =
+    loaded_numbers config unit a ++ loaded_numbers config unit b ++ agreement_numbers (selected_input_type config unit a) (selected_input_type config unit b)
+
+-- what all inputs of SEL break
 abbrev pub selected_numbers : Config → ProgramUnit → List Operand → List ℕ
 selected_numbers config unit [] = []
 selected_numbers config unit (a ∷ []) = loaded_numbers config unit a.reference
 selected_numbers config unit (a ∷ b ∷ rest) =
-    loaded_numbers config unit a.reference
-    ++ loaded_numbers config unit b.reference
-    ++ agreement_numbers (selected_input_type config unit a.reference) (selected_input_type config unit b.reference)
+    pair_numbers config unit a.reference b.reference
 
 -- what a standard function's arguments break but for their number and a missing result (2.5.1.5)
 abbrev pub standard_numbers : Config → ProgramUnit → StandardFunction → List Operand → Option Elementary → List ℕ
@@ -348,6 +351,11 @@ store_type_numbers config unit Negated target before = boolean_store_numbers con
 store_type_numbers config unit Set target before = boolean_store_numbers config unit target before
 store_type_numbers config unit Reset target before = boolean_store_numbers config unit target before
 
+-- what a store breaks: its place, and the types
+abbrev pub store_numbers : Config → ProgramUnit → Store → Reference → Option Elementary → List ℕ
+store_numbers config unit store target before =
+    index_numbers config unit target ++ written_numbers config unit target ++ store_type_numbers config unit store target before
+
 -- the word that an argument gives
 abbrev pub argument_word : Argument → Spelling
 argument_word (Input word operand) = word.name
@@ -413,11 +421,17 @@ abbrev pub load_numbers : Config → ProgramUnit → Bool → Reference → List
 load_numbers config unit false reference = loaded_numbers config unit reference
 load_numbers config unit true reference = wanted_numbers config unit reference Boolean
 
+-- what the call of a function breaks: there is a result, indices have their type, and the arguments those of the inputs
+abbrev pub invoke_numbers : Config → ProgramUnit → Spelling → List Operand → Option Elementary → List ℕ
+invoke_numbers config unit name operands before =
+    presence_numbers before
+    ++ flat_map (λ o. index_numbers config unit o.reference) operands
+    ++ function_numbers config unit (standard_function name) (function_named config name) operands before
+
 -- what an instruction breaks of 30 to 33 and 37, with the type of the current result before it, and at a `)` what waits for it (3.2.2, 3.2.3)
 unfoldable pub typing_numbers : Config → ProgramUnit → Instruction → Option Elementary → Option Deferred → List ℕ
 typing_numbers config unit (Load negated operand) before deferred = load_numbers config unit negated operand.reference
-typing_numbers config unit (StoreInto store target) before deferred =
-    index_numbers config unit target.reference ++ written_numbers config unit target.reference ++ store_type_numbers config unit store target.reference before
+typing_numbers config unit (StoreInto store target) before deferred = store_numbers config unit store target.reference before
 typing_numbers config unit Not before deferred = result_numbers before Boolean
 typing_numbers config unit (Operate operator operand) before deferred =
     taken_numbers operator before ++ maybe_wanted_numbers config unit operand.reference (operand_type operator before)
@@ -427,10 +441,7 @@ typing_numbers config unit (Jump condition label) before deferred = condition_nu
 typing_numbers config unit (Return condition) before deferred = condition_numbers condition before
 typing_numbers config unit (Call condition instance arguments) before deferred =
     condition_numbers condition before ++ call_numbers config unit (instance_block config unit instance.name) arguments
-typing_numbers config unit (Invoke function operands) before deferred =
-    presence_numbers before
-    ++ flat_map (λ o. index_numbers config unit o.reference) operands
-    ++ function_numbers config unit (standard_function function.name) (function_named config function.name) operands before
+typing_numbers config unit (Invoke function operands) before deferred = invoke_numbers config unit function.name operands before
 
 -- what a short form loads; without it the inner part begins with no result (3.2.2)
 abbrev pub short_form_type : Config → ProgramUnit → Option Operand → Option Elementary

@@ -2,3 +2,4 @@ pub mod Pieces
 pub mod Refused
 pub mod LexicalErrors
 pub mod Lanes
+pub mod Durations

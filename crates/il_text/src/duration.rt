@@ -1,13 +1,14 @@
 // Durations (IEC 61131-3:2003, 2.2.3.1).
 
-ghost use Rattle.std.specs.Prelude.{◌≡◌, ℕ, ℤ, pos, ◌+◌, ◌*◌, ◌<◌, ◌≤◌, min, List, ◌∷◌, length, slice_index, true, Some, option_map, IfOk, IfErr};
+ghost use Rattle.std.specs.Prelude.{◌≡◌, ℕ, ℤ, pos, ◌<◌, ◌≤◌, min, length, slice_index, true, Some, option_map, IfOk, IfErr};
 ghost use Rattle.std.specs.List.{prefix_len};
 ghost use Rattle.std.specs.Char.{is_ascii_digit, is_ascii_alphabetic};
 ghost use Rattle.std.specs.Str.Parse.{digits_value};
 ghost use Rattle.il_spec.specs.declared.tree.Elementary.TheVariants.{Time};
 ghost use Rattle.il_spec.specs.ElementaryTypes.{IsValueOf};
-ghost use Rattle.il_spec.specs.Text.{parts_value, duration_value, upper_case};
+ghost use Rattle.il_spec.specs.Text.{duration_value};
 ghost use Rattle.il_text.specs.LexicalErrors.{form_or_size};
+ghost use Rattle.il_text.specs.Durations.{IsPartOf};
 
 use crate::bytes::is_in_upper_case;
 use crate::error::LexicalError;
@@ -62,11 +63,7 @@ fn capped_count(digits: &[u8]) -> u64
 // The part of this unit, which is given in upper case, at the front: nothing, where another unit stands there.
 fn part_of<'a>(bytes: &'a [u8], unit: &[u8], milliseconds: u64) -> Part<'a>
     requires { milliseconds ≤ 86400000 }
-    ensures { (count : ℕ) × (result.milliseconds ≡ min count 2147483648 * milliseconds)
-        × ((units : List (List ℕ × ℕ))
-        → parts_value ((unit.now, milliseconds) ∷ units) (upper_case bytes.now)
-        ≡ option_map (λ n. count * milliseconds + n)
-        (parts_value units (upper_case result.rest.now))) }
+    ensures { IsPartOf bytes.now unit.now milliseconds result }
 {
     let digits = digits_len(bytes);
     let behind = &bytes[digits..];

@@ -181,10 +181,10 @@ impl<G: Naming> Locked<G> {
         ensures other { ¬ (IsOpenHere self.old (task_of share.old) scanned.entry)
             → fault_of result ≡ Some NotOpen }
         ensures even { count_of share.old % 2 ≡ 0 → fault_of result ≡ Some NotOpen }
-        ensures done { IfOk result (λ r. (between : Page)
-            × Adds self.old (entry.Commit (task_of share.old)) (Committed report.new) between
-            × OnOk r.1 (Adds between (entry.Start (task_of share.old)) Started self.new)
-            × OnErr r.1 (self.new ≡ between)) }
+        ensures done { IfOk result (λ r. (page : Page)
+            × Adds self.old (entry.Commit (task_of share.old)) (Committed report.new) page
+            × OnOk r.1 (Adds page (entry.Start (task_of share.old)) Started self.new)
+            × OnErr r.1 (self.new ≡ page)) }
         ensures turned { IfOk result (λ r. IsTurned G.program.config (task_of share.old)
             (count_of share.old) scanned.entry report.new r.1) }
         ensures next { IfOk result (λ r. IsNoneOrFull (fault_in r.1)) }

@@ -3,7 +3,7 @@ use Rattle.std.specs.Prelude.{◌≡◌, ℕ, ◌≤◌, Bool, false, List, [], 
 use Rattle.std.specs.Coded.{Coded, code_by, coded×}
 use Rattle.il_spec.specs.declared.tree.Config.{Config}
 use Rattle.il_spec.specs.contracts.tree.Config as config
-use Rattle.il_run.specs.State.{State}
+use Rattle.il_run.specs.State.{State, Values}
 use Rattle.il_run.specs.Scan.{Reaches}
 use Rattle.il_machine.specs.Standing.{Standing, IsOf, StillHas}
 use Rattle.lift_spec.specs.Calls.{ticket_of}
@@ -58,6 +58,13 @@ pub record StoresFit (c : Config) (tasks : List (Option TaskState)) (stores : Li
 -- each task between scans has its variables still in its store, so that its next scan finds them there
 abbrev pub KeepVariables : List (Option TaskState) → List (Option Standing) → Type 0
 KeepVariables tasks stores = (t : ℕ) (x : TaskState) (s : Standing) → flat (slice_get tasks t) ≡ Some x → flat (slice_get stores t) ≡ Some s → x.tickets ≡ None → StillHas x.variables s.state
+
+-- COMMITS
+
+-- what the commit of an open scan of a task leaves, whose scan left these values
+abbrev pub CommitsOpen : Config → ℕ → Group → Values → Group → Report → Type 0
+CommitsOpen c t before values after report =
+    (x : TaskState) (tickets : List (Option ℕ)) → task_at before t ≡ Some x → x.tickets ≡ Some tickets → committed_group c before t x tickets values ≡ (after, report)
 
 -- WHOLE SCANS
 

@@ -2,3 +2,4 @@ pub mod Seen
 pub mod Running
 pub mod Groups
 pub mod Worlds
+pub mod Scanned

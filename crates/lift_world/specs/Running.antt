@@ -2,11 +2,15 @@
 use Rattle.std.specs.Prelude.{◌≡◌, ℕ, zero, suc, ◌+◌, Bool, false, List, [], ◌∷◌, ◌++◌, length, slice_get, slice_set, Option, Some, None, is_some}
 use Rattle.il_spec.specs.declared.tree.Config.{Config}
 use Rattle.il_run.specs.State.{Values}
+use Rattle.il_run.specs.Scan.{restricted}
 use Rattle.il_machine.specs.Scanning.{IsRunnable, OwnsDeclared, FitsOwn, variables_in}
 use Rattle.il_machine.specs.Sharing.{globals_in, FitsGlobals}
 use Rattle.il_layout.specs.Layout.{Rows}
 use Rattle.lift_spec.specs.Image.{sizes_of, Obeys}
-use Rattle.lift_spec.specs.World.{Group, TaskState, flat, serve_with, committed_group, InRanges}
+use Rattle.lift_spec.specs.World.{Group, TaskState, flat, serve_with, tell_all, committed_group, InRanges}
+use Rattle.lift_spec.specs.Settle.{settled_car, with_outputs, denials_of}
+use Rattle.lift_spec.specs.Snapshot.{assigned}
+use Rattle.lift_spec.specs.declared.image.Motor.{Motor}
 use Rattle.lift_spec.specs.declared.image.Image.{Image}
 use Rattle.lift_spec.specs.declared.calls.Slot.{Slot}
 use Rattle.lift_spec.specs.declared.calls.Slot.TheVariants.{Free, Waiting, Told}
@@ -174,6 +178,31 @@ pub record CommitsUnder (c : Config) (t : ℕ) (before : Shared) (tickets : List
   pub group : (s : TaskMemory) → memory_at before t ≡ Some s → committed_group c (group_in c before) t (task_in c t s) tickets values ≡ (group_in c after, report)
   pub closed : (v : Rows) × (after.memories.items ≡ with_memory before t v None)
   pub fits : SharedFits c after
+
+-- a task is between scans, with what a scan that left these values left of its variables
+abbrev pub ClosesWith : Config → ℕ → TaskMemory → Values → Option TaskMemory → Type 0
+ClosesWith c t s values after =
+    (v : Rows) × (after ≡ Some (record { variables = v; tickets = None })) × FitsOwn c t v × OwnsDeclared c t (variables_in c t v) × (variables_in c t v ≡ restricted (variables_in c t s.variables) values)
+
+-- the same among the tasks, of which the others stay
+abbrev pub ClosesAmong : Config → ℕ → Shared → TaskMemory → Values → Shared → Type 0
+ClosesAmong c t before s values after =
+    (v : Rows) × (after.memories.items ≡ with_memory before t v None) × (variables_in c t v ≡ restricted (variables_in c t s.variables) values)
+
+-- these calls and answers come of it when GROUP's values tell each call that they assign, under these tickets
+abbrev pub TellsTo : Calls → List (Option ℕ) → Values → Calls → List Answered → Type 0
+TellsTo calls tickets values after answers = tell_all calls [] 1 tickets (assigned (length tickets) values) ≡ (after, answers)
+
+-- GROUP's commit, once its calls are told
+abbrev pub CommitsTold : Config → Shared → List Answered → Values → Shared → Report → Type 0
+CommitsTold c before answers values after report =
+    (calls : Calls) (tickets : List (Option ℕ)) → TellsTo calls tickets values before.calls answers → CommitsUnder c 0 (record before { calls = calls }) tickets values after report
+
+-- what is reported of a car whose outputs are settled, with these answers
+abbrev pub settled_report : Image → ℕ → Motor → Bool → List Answered → Report
+settled_report image car motor opens answers =
+    let settled = settled_car image car motor opens in
+    record { outputs = with_outputs image.outputs car settled.outputs; denials = denials_of car settled.denials; answers = answers; entered = [] }
 
 -- the ticket of the slot of a wish, among these; 0 wishes none
 abbrev pub wished_ticket : List (Option ℕ) → ℕ → Option ℕ

@@ -7,7 +7,7 @@ ghost use Rattle.lift_spec.specs.Calls.{enter_all, IsCall};
 ghost use Rattle.lift_spec.specs.Image.{sizes_of, FieldsInRange, Obeys};
 ghost use Rattle.lift_spec.specs.Snapshot.{scan_begins};
 ghost use Rattle.lift_spec.specs.World.{TaskState, task_at, opening_group, beginning_of, started_group, committed_group, refreshed_group, InRanges};
-ghost use Rattle.lift_world.specs.Groups.{is_open_in, ScansWhole};
+ghost use Rattle.lift_world.specs.Groups.{is_open_in, CommitsOpen, ScansWhole};
 
 use crate::shared::{Shared, Variables};
 use il_machine::{Store, Value, Verified};
@@ -186,11 +186,8 @@ impl Core {
             × (task_at self.old.group task ≡ Some x) × (x.tickets ≡ Some tickets) }
         requires of { IsOf verified.now.config task store.now }
         ensures config { self.new.config ≡ self.old.config }
-        ensures group { (x : TaskState) (tickets : List (Option ℕ))
-            → task_at self.old.group task ≡ Some x → x.tickets ≡ Some tickets
-            → committed_group verified.now.config self.old.group task x tickets
-            store.now.state.values
-            ≡ (self.new.group, report.new) }
+        ensures group { CommitsOpen verified.now.config task self.old.group store.now.state.values
+            self.new.group report.new }
     {
         store.holds();
         self.shared.commit(verified, task, store, report);

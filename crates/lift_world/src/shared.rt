@@ -4,18 +4,17 @@ ghost use Rattle.std.specs.Prelude.{◌≡◌, ◌≢◌, ℕ, suc, ◌≤◌, [
 ghost use Rattle.il_spec.specs.declared.tree.Config.{Config as ConfigOf};
 ghost use Rattle.il_table.specs.NameMap as values;
 ghost use Rattle.il_run.specs.Ranges.{HoldGlobals};
-ghost use Rattle.il_run.specs.Scan.{restricted};
 ghost use Rattle.lift_world.specs.declared.shared.TaskMemory.{TaskMemory as MemoryOf};
 ghost use Rattle.il_layout.specs.Layout.{Rows as RowsOf};
-ghost use Rattle.il_machine.specs.Scanning.{FitsOwn, OwnsDeclared, variables_in};
+ghost use Rattle.il_machine.specs.Scanning.{FitsOwn, variables_in};
 ghost use Rattle.il_machine.specs.Standing.{IsOf, StillHas, IsBeginning, beginning_in, beginning_with};
 ghost use Rattle.lift_spec.specs.Image.{sizes_of, FieldsInRange};
-ghost use Rattle.lift_spec.specs.Calls.{Calls as CallsOf, ticket_of, enter_all, SlotInRange};
-ghost use Rattle.lift_spec.specs.Settle.{settled_car, settled_all, with_outputs, denials_of};
-ghost use Rattle.lift_spec.specs.Snapshot.{scan_begins, program_of, wishes_of, assigned, written_globals};
-ghost use Rattle.lift_spec.specs.World.{InRanges, flat, opening_task, opening_tasks_from, opening_group, beginning_of, tell_all, refreshed_group};
-ghost use Rattle.lift_world.specs.Running.{memory_at, task_in, task_by, tasks_in, group_in, is_open, FitDeclared, SharedFits, with_memory, HasOpenScan, Commits, CommitsUnder, wished_ticket};
-ghost use Rattle.lift_world.specs.Groups.{ScansWhole};
+ghost use Rattle.lift_spec.specs.Calls.{ticket_of, enter_all, SlotInRange};
+ghost use Rattle.lift_spec.specs.Settle.{settled_car, settled_all, with_outputs};
+ghost use Rattle.lift_spec.specs.Snapshot.{scan_begins, program_of, wishes_of, written_globals};
+ghost use Rattle.lift_spec.specs.World.{InRanges, flat, opening_task, opening_tasks_from, opening_group, beginning_of, refreshed_group};
+ghost use Rattle.lift_world.specs.Running.{memory_at, task_in, task_by, tasks_in, group_in, is_open, FitDeclared, SharedFits, with_memory, HasOpenScan, Commits, CommitsUnder, ClosesWith, ClosesAmong, TellsTo, CommitsTold, settled_report, wished_ticket};
+ghost use Rattle.lift_world.specs.Scanned.{ScansMemory};
 ghost use Rattle.il_machine.specs.Sharing.{globals_in, FitsGlobals};
 
 use crate::calling::{clear, enter_all, report_denials, serve, tell_all, tell_all_now, ticket_in};
@@ -229,12 +228,7 @@ fn close_task(memory: &mut Option<TaskMemory>, verified: &Verified, task: u8, st
         → FitsOwn verified.now.config task s.variables }
     requires of { IsOf verified.now.config task store.now }
     ensures { (s : MemoryOf) → memory.old ≡ Some s
-        → (v : RowsOf) × (memory.new ≡ Some (record { variables = v; tickets = None }))
-        × FitsOwn verified.now.config task v
-        × OwnsDeclared verified.now.config task (variables_in verified.now.config task v)
-        × (variables_in verified.now.config task v
-        ≡ restricted (variables_in verified.now.config task s.variables)
-        store.now.state.values) }
+        → ClosesWith verified.now.config task s store.now.state.values memory.new }
 {
     if let Some(memory) = memory {
         store.copy_variables(verified, &mut memory.variables);
@@ -266,14 +260,7 @@ fn settle(image: &mut Image, car: u8, motor: Motor, opens: bool, report: &mut Re
           outputs = with_outputs image.old.outputs car
               (settled_car image.old car motor opens).outputs;
         } }
-    ensures report { report.new
-        ≡ record {
-          outputs = with_outputs image.old.outputs car
-              (settled_car image.old car motor opens).outputs;
-          denials = denials_of car (settled_car image.old car motor opens).denials;
-          answers = report.old.answers;
-          entered = [];
-        } }
+    ensures report { report.new ≡ settled_report image.old car motor opens report.old.answers }
 {
     let _room = image.outputs.len();
     let settled = settle_car(image, car, motor, opens);
@@ -293,9 +280,8 @@ fn tell_assigned(
 )
     requires of { IsOf verified.now.config 0 store.now }
     requires slots { length calls.old.slots ≡ (sizes_of verified.now.config).slots }
-    ensures { tell_all calls.old [] 1 (map ticket_of calls.old.slots)
-        (assigned (length (map ticket_of calls.old.slots)) store.now.state.values)
-        ≡ (calls.new, answers.new) }
+    ensures { TellsTo calls.old (map ticket_of calls.old.slots) store.now.state.values calls.new
+        answers.new }
 {
     if store.assigns_none(verified) {
         clear(answers);
@@ -508,9 +494,7 @@ impl Shared {
         requires kept { (s : MemoryOf) → memory_at self.old task ≡ Some s
             → StillHas (variables_in verified.now.config task s.variables) store.old.state }
         ensures scan { (s : MemoryOf) → memory_at self.old task ≡ Some s
-            → ScansWhole verified.now.config task (group_in verified.now.config self.old)
-            (task_in verified.now.config task s) store.new (group_in verified.now.config self.new)
-            report.new }
+            → ScansMemory verified.now.config task self.old s store.new self.new report.new }
         ensures closed { (v : RowsOf) × (self.new.memories.items
             ≡ with_memory self.old task v None) }
         ensures fits { SharedFits verified.now.config self.new }
@@ -637,10 +621,7 @@ impl Shared {
         requires there { IsSome (memory_at self.old 0) }
         requires fits { SharedFits verified.now.config self.old }
         requires of { IsOf verified.now.config 0 store.now }
-        ensures { (calls : CallsOf) (tickets : List (Option ℕ))
-            → tell_all calls [] 1 tickets (assigned (length tickets) store.now.state.values)
-            ≡ (self.old.calls, report.old.answers)
-            → CommitsUnder verified.now.config 0 (record self.old { calls = calls }) tickets
+        ensures { CommitsTold verified.now.config self.old report.old.answers
             store.now.state.values self.new report.new }
     {
         let _room = self.image.outputs.len();
@@ -661,10 +642,7 @@ impl Shared {
             ≡ written_globals (program_of verified.now.config task)
             (globals_in verified.now.config self.old.globals) store.now.state.values }
         ensures closed { (s : MemoryOf) → memory_at self.old task ≡ Some s
-            → (v : RowsOf) × (self.new.memories.items ≡ with_memory self.old task v None)
-            × (variables_in verified.now.config task v
-            ≡ restricted (variables_in verified.now.config task s.variables)
-            store.now.state.values) }
+            → ClosesAmong verified.now.config task self.old s store.now.state.values self.new }
         ensures fits { SharedFits verified.now.config self.new }
     {
         store.copy_globals(verified, &mut self.globals);
