@@ -8,7 +8,8 @@ use Rattle.lift_host.specs.declared.status.Status.{Status}
 use Rattle.lift_host.specs.Requests.{explains, flags_of, plain_words}
 use Rattle.lift_host.specs.Servings.{Serves}
 use Rattle.lift_shell.specs.Runs.{AskForRun, Held}
-use Rattle.lift_command.specs.Programs.{AreUntouched, HasAnswered, HasServed, IsPlainAnswer, IsProgramAnswer, IsRunAnswer, IsUnread, Streams, plain, printed, printed_run, served, streams, unread, unread_run}
+use Rattle.lift_command.specs.Programs.{AreUntouched, HasAnswered, IsPlainAnswer, IsProgramAnswer, IsRunAnswer, IsUnread, plain, printed, printed_run, served, unread, unread_run}
+use Rattle.lift_command.specs.Servings.{Streams}
 
 pub if_some : {A : Type 0} {P Q : A → Type 0} (o : Option A) → ((x : A) → P x → Q x) → IfSome o P → IfSome o Q
 if_some (Some x) f is = f x is

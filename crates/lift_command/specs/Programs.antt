@@ -1,6 +1,5 @@
 -- What the program gives of its words (own rules).
-use Rattle.std.specs.Prelude.{◌≡◌, ◌||◌, ℕ, Bool, false, List, [], Option, Some, None, if◌then◌else◌}
-use Rattle.std.specs.Io.KnownBytes.{Consumes}
+use Rattle.std.specs.Prelude.{◌≡◌, ◌||◌, ℕ, Bool, false, List, [], Option, Some, None, if◌then◌else◌, map, string_bytes}
 use Rattle.lift_host.specs.declared.files.ReadFault.{ReadFault}
 use Rattle.lift_host.specs.declared.serving.Serving.{Serving}
 use Rattle.lift_host.specs.declared.status.Fault.TheVariants.{NoMemory}
@@ -8,6 +7,7 @@ use Rattle.lift_host.specs.declared.status.Status.{Status}
 use Rattle.lift_host.specs.declared.status.Status.TheVariants as with_status
 use Rattle.lift_host.specs.Messages.{message_of}
 use Rattle.lift_host.specs.declared.request.Flags.{Flags}
+use Rattle.lift_host.specs.declared.request.Plain.{Plain}
 use Rattle.lift_host.specs.Requests.{explains, flags_of, plain_words}
 use Rattle.lift_host.specs.Servings.{Serves}
 use Rattle.lift_shell.specs.Runs.{HasPrinted, Held, IsAnswer, stream}
@@ -17,20 +17,7 @@ use Rattle.lift_command.specs.declared.memory_trace.MemoryTrace.{MemoryTrace}
 use Rattle.lift_command.specs.declared.program.Outcome.{Outcome}
 use Rattle.il_reasons.specs.Reasons.{IsReason}
 use Rattle.lift_command.specs.Runs.{IsTextOutcome}
-use Rattle.lift_command.specs.Servings.{TraceHeld, held_trace, IsUntouched, IsServeAnswer}
-use Rattle.lift_serve.specs.Serving.{at_stop}
-
--- what the program reads and writes, before and after: what is left of the standard input, the two outputs, and the trace, and whether that failed
-pub record Streams : Type 0 where
-  pub input : Option (List ℕ)
-  pub left : Option (List ℕ)
-  pub out : Held
-  pub err : Held
-  pub trace : TraceHeld
-  pub trace_failed : Bool
-
-abbrev pub streams : Option (List ℕ) → Option (List ℕ) → Held → Held → TraceHeld → Bool → Streams
-streams input left out err trace trace_failed = record { input = input; left = left; out = out; err = err; trace = trace; trace_failed = trace_failed }
+use Rattle.lift_command.specs.Servings.{Streams, streams, held_trace, IsUntouched, IsServeAnswer}
 
 -- nothing is taken of the input, no trace is made, and nothing traced
 pub record AreUntouched (s : Streams) : Type 0 where
@@ -47,15 +34,14 @@ pub record IsUnread (out err : Held) (ends : Status) : Type 0 where
 abbrev pub HasAnswered : (List ℕ → ℕ → List ℕ → Type 0) → (List ℕ → ℕ → ReadFault → Type 0) → Bool → List (List ℕ) → Flags → Held → Held → Status → Type 0
 HasAnswered reads fails wanted words flags = HasPrinted (IsAnswer reads fails IsTextOutcome IsReason wanted words flags)
 
--- what serving gives, by its streams
-abbrev pub HasServed : (List ℕ → ℕ → List ℕ → Type 0) → (List ℕ → ℕ → ReadFault → Type 0) → Bool → Serving → Streams → Status → Type 0
-HasServed reads fails wanted serving s ends =
-    IsServeAnswer reads fails wanted serving (at_stop s.left s.out.failed s.trace_failed) (Consumes s.input s.left) s.out.before s.out.after s.trace (Writes s.err.before s.err.after s.err.failed) (s.err.after ≡ s.err.before) ends
-
 -- Words as they are read ask to serve, and the group was served; or they don't, and the input and the trace are untouched.
 pub data IsPlainAnswer (reads : List ℕ → ℕ → List ℕ → Type 0) (fails : List ℕ → ℕ → ReadFault → Type 0) (wanted : Bool) (words : List (List ℕ)) (flags : Flags) (s : Streams) (ends : Status) : Type 0 where
-  served : (serving : Serving) → Serves words serving → HasServed reads fails wanted serving s ends → IsPlainAnswer reads fails wanted words flags s ends
+  served : (serving : Serving) → Serves words serving → IsServeAnswer reads fails wanted serving s ends → IsPlainAnswer reads fails wanted words flags s ends
   printed : ((serving : Serving) → Serves words serving → ⊥) → HasAnswered reads fails wanted words flags s.out s.err ends → AreUntouched s → IsPlainAnswer reads fails wanted words flags s ends
+
+-- the same by what was read of the words
+abbrev pub IsAnswerToRead : (List ℕ → ℕ → List ℕ → Type 0) → (List ℕ → ℕ → ReadFault → Type 0) → Bool → Plain → Streams → Status → Type 0
+IsAnswerToRead reads fails always words = IsPlainAnswer reads fails (always || words.explains) (map string_bytes words.words.items) words.flags
 
 -- The words as they are read have that answer, explained where `--explain` stands among them, or always. Memory for them may be missing.
 pub data IsProgramAnswer (reads : List ℕ → ℕ → List ℕ → Type 0) (fails : List ℕ → ℕ → ReadFault → Type 0) (always : Bool) (words : List (List ℕ)) (s : Streams) (ends : Status) : Type 0 where

@@ -1,6 +1,7 @@
 -- What `serve` gives (own rules).
 use Rattle.std.specs.Prelude.{◌≡◌, ◌++◌, ℕ, nat_lt, Bool, true, List, [], Option, Some, None, Ok, Err, if◌then◌else◌}
-use Rattle.std.specs.Io.KnownBytes.{Appends}
+use Rattle.std.specs.Io.KnownBytes.{Appends, Consumes}
+use Rattle.std.specs.declared.io.traits.Read.{Ghosts as Read}
 use Rattle.il_spec.specs.declared.fault.Refusal.{Refusal}
 use Rattle.il_spec.specs.declared.tree.Config.{Config}
 use Rattle.il_machine.specs.Scanning.{Program}
@@ -8,13 +9,14 @@ use Rattle.lift_host.specs.declared.files.Cause.TheVariants.{Other}
 use Rattle.lift_host.specs.declared.files.ReadFault.{ReadFault}
 use Rattle.lift_host.specs.declared.serving.Serving.{Serving}
 use Rattle.lift_host.specs.declared.serving.Tracing.{Tracing}
+use Rattle.lift_host.specs.declared.sink.Sink.{Ghosts as Sink}
 use Rattle.lift_host.specs.declared.status.Fault.{Fault}
 use Rattle.lift_host.specs.declared.status.Fault.TheVariants.{Misuse, RefusedText, Refused, BadPress, TooManyPresses, BadFire, BadSpan, BadScan, BadName, CannotRead, CannotWrite, NoMemory}
 use Rattle.lift_host.specs.declared.status.Status.{Status}
 use Rattle.lift_host.specs.declared.status.Status.TheVariants as with_status
 use Rattle.lift_host.specs.Messages.{fault_of, fault_of_reading, message_of, status_of}
-use Rattle.lift_shell.specs.Runs.{IsExplained, IsUnreadBelow, most_bytes}
-use Rattle.lift_host.specs.Writes.{AppendsFront}
+use Rattle.lift_shell.specs.Runs.{Held, stream, written, IsExplained, IsUnreadBelow, most_bytes}
+use Rattle.lift_host.specs.Writes.{AppendsFront, Writes}
 use Rattle.il_reasons.specs.Reasons.{IsReason}
 use Rattle.lift_messages.specs.Places.{IsTextShownBelow}
 use Rattle.lift_serve.specs.declared.group.Halt.{Halt}
@@ -28,7 +30,7 @@ use Rattle.lift_serve.specs.declared.serve.Stop.TheVariants as stop
 use Rattle.lift_serve.specs.declared.server.ServeFault.{ServeFault}
 use Rattle.lift_serve.specs.declared.server.ServeFault.TheVariants as fault
 use Rattle.lift_serve.specs.Ending.{IsEnded, IsHalted}
-use Rattle.lift_serve.specs.Serving.{AtStop}
+use Rattle.lift_serve.specs.Serving.{AtStop, at_stop}
 use Rattle.lift_command.specs.Loaded.{IsLoaded}
 
 -- HOW IT ENDS
@@ -96,6 +98,45 @@ pub record IsMade (name : List ℕ) (sync : Bool) (t : TraceHeld) (created : Opt
   pub empty : IsNew created
   pub told : created ≡ None → t.after ≡ None
 
+-- what the program reads and writes, before and after: what is left of the standard input, the two outputs, and the trace, and whether that failed
+pub record Streams : Type 0 where
+  pub input : Option (List ℕ)
+  pub left : Option (List ℕ)
+  pub out : Held
+  pub err : Held
+  pub trace : TraceHeld
+  pub trace_failed : Bool
+
+abbrev pub streams : Option (List ℕ) → Option (List ℕ) → Held → Held → TraceHeld → Bool → Streams
+streams input left out err trace trace_failed = record { input = input; left = left; out = out; err = err; trace = trace; trace_failed = trace_failed }
+
+-- those of a trace, an input and two outputs, each before and after
+abbrev pub between : {T I O E : Type 0} → Sink T → Read I → Sink O → Sink E → T → T → I → I → O → O → E → E → Streams
+between trace input out err t u i j o p e f =
+    streams (input.remaining i) (input.remaining j) (written out o p) (written err e f) (held_trace (trace.contents t) (trace.contents u) (trace.made t) (trace.made u)) (trace.has_failed u)
+
+-- how they are where serving stops
+abbrev pub stop_of : Streams → AtStop
+stop_of s = at_stop s.left s.out.failed s.trace_failed
+
+-- these bytes are taken of the input
+abbrev pub Takes : Streams → List ℕ → Type 0
+Takes s = Consumes s.input s.left
+
+-- these are told on the standard error
+abbrev pub Tells : Streams → List ℕ → Type 0
+Tells s = Writes s.err.before s.err.after s.err.failed
+
+-- nothing is
+abbrev pub IsSilent : Streams → Type 0
+IsSilent s = s.err.after ≡ s.err.before
+
+-- nothing is taken of the input, no trace is made, and no line is written
+pub record NothingServed (s : Streams) : Type 0 where
+  pub untraced : IsUntouched s.trace
+  pub untaken : Takes s []
+  pub unanswered : s.out.after ≡ s.out.before
+
 -- a trace that is wanted is made as the file of its name; otherwise no file is made, and nothing is known of what is put there
 abbrev pub IsCreated : Option Tracing → TraceHeld → Option (List ℕ) → Type 0
 IsCreated None t created = (created ≡ t.before) × (t.is ≡ t.was)
@@ -104,11 +145,11 @@ IsCreated (Some tracing) t created = IsMade tracing.name.now tracing.sync t crea
 -- WHAT IT GIVES
 
 -- Of a configuration: its trace was wanted and could not be created; or its lines were answered and traced, to the end or up to a stop. The stop's fault is told.
-pub data IsLoadedAnswer (c : Config) (tracing : Option Tracing) (at : AtStop) (Taken : List ℕ → Type 0) (old new : Option (List ℕ)) (t : TraceHeld) (Told : List ℕ → Type 0) (Silent : Type 0) (status : Status) : Type 0 where
-  uncreated : (wanted : Tracing) → tracing ≡ Some wanted → at.trace_failed ≡ true → IsUntouched t → Taken [] → new ≡ old → Told (message_of CannotWrite) → status ≡ with_status.CannotWrite → IsLoadedAnswer c tracing at Taken old new t Told Silent status
-  ended : (created : Option (List ℕ)) → IsCreated tracing t created → IsEnded c Taken (Appends old new) (Appends created t.after) → Silent → status ≡ with_status.Done → IsLoadedAnswer c tracing at Taken old new t Told Silent status
-  halted : (created : Option (List ℕ)) → IsCreated tracing t created → (halt : Halt) → IsHalted c at Taken old new (Appends created t.after) (AppendsFront created t.after) halt → Told (message_of (fault_of_halt halt)) → status ≡ status_of (fault_of_halt halt)
-      → IsLoadedAnswer c tracing at Taken old new t Told Silent status
+pub data IsLoadedAnswer (c : Config) (tracing : Option Tracing) (s : Streams) (status : Status) : Type 0 where
+  uncreated : (wanted : Tracing) → tracing ≡ Some wanted → s.trace_failed ≡ true → NothingServed s → Tells s (message_of CannotWrite) → status ≡ with_status.CannotWrite → IsLoadedAnswer c tracing s status
+  ended : (created : Option (List ℕ)) → IsCreated tracing s.trace created → IsEnded c (Takes s) (Appends s.out.before s.out.after) (Appends created s.trace.after) → IsSilent s → status ≡ with_status.Done → IsLoadedAnswer c tracing s status
+  halted : (created : Option (List ℕ)) → IsCreated tracing s.trace created → (halt : Halt) → IsHalted c (stop_of s) (Takes s) s.out.before s.out.after (Appends created s.trace.after) (AppendsFront created s.trace.after) halt → Tells s (message_of (fault_of_halt halt)) → status ≡ status_of (fault_of_halt halt)
+      → IsLoadedAnswer c tracing s status
 
 -- below a refusal of FILE its place, its line, and what is told of it
 abbrev pub IsRefusalBelow : List ℕ → List ℕ → Fault → List ℕ → Type 0
@@ -142,11 +183,11 @@ abbrev pub IsUnreadAnswer : Bool → List ℕ → ReadFault → (List ℕ → Ty
 IsUnreadAnswer wanted name why = IsFaultTold wanted (IsUnreadBelow name why) (fault_of_reading why)
 
 -- of what was read of FILE: it is refused, no line was taken or written and no trace was made, or it is served
-pub data IsTextAnswer (wanted : Bool) (serving : Serving) (text : List ℕ) (at : AtStop) (Taken : List ℕ → Type 0) (old new : Option (List ℕ)) (t : TraceHeld) (Told : List ℕ → Type 0) (Silent : Type 0) (status : Status) : Type 0 where
-  refused : (why : Refusal) → IsLoaded text (Err why) → IsRefusedAnswer wanted serving.file.now text (fault_of why) Told status → IsUntouched t → Taken [] → new ≡ old → IsTextAnswer wanted serving text at Taken old new t Told Silent status
-  accepted : (program : Program) → IsLoaded text (Ok program) → IsLoadedAnswer program.config serving.trace at Taken old new t Told Silent status → IsTextAnswer wanted serving text at Taken old new t Told Silent status
+pub data IsTextAnswer (wanted : Bool) (serving : Serving) (text : List ℕ) (s : Streams) (status : Status) : Type 0 where
+  refused : (why : Refusal) → IsLoaded text (Err why) → IsRefusedAnswer wanted serving.file.now text (fault_of why) (Tells s) status → NothingServed s → IsTextAnswer wanted serving text s status
+  accepted : (program : Program) → IsLoaded text (Ok program) → IsLoadedAnswer program.config serving.trace s status → IsTextAnswer wanted serving text s status
 
 -- FILE can't be read, no line was taken or written and no trace was made, or it is read
-pub data IsServeAnswer (reads : List ℕ → ℕ → List ℕ → Type 0) (fails : List ℕ → ℕ → ReadFault → Type 0) (wanted : Bool) (serving : Serving) (at : AtStop) (Taken : List ℕ → Type 0) (old new : Option (List ℕ)) (t : TraceHeld) (Told : List ℕ → Type 0) (Silent : Type 0) (status : Status) : Type 0 where
-  unread : (why : ReadFault) → fails serving.file.now most_bytes why → IsUnreadAnswer wanted serving.file.now why Told status → IsUntouched t → Taken [] → new ≡ old → IsServeAnswer reads fails wanted serving at Taken old new t Told Silent status
-  read : (text : List ℕ) → reads serving.file.now most_bytes text → IsTextAnswer wanted serving text at Taken old new t Told Silent status → IsServeAnswer reads fails wanted serving at Taken old new t Told Silent status
+pub data IsServeAnswer (reads : List ℕ → ℕ → List ℕ → Type 0) (fails : List ℕ → ℕ → ReadFault → Type 0) (wanted : Bool) (serving : Serving) (s : Streams) (status : Status) : Type 0 where
+  unread : (why : ReadFault) → fails serving.file.now most_bytes why → IsUnreadAnswer wanted serving.file.now why (Tells s) status → NothingServed s → IsServeAnswer reads fails wanted serving s status
+  read : (text : List ℕ) → reads serving.file.now most_bytes text → IsTextAnswer wanted serving text s status → IsServeAnswer reads fails wanted serving s status

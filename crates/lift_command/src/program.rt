@@ -1,11 +1,11 @@
 // The program `liftplc`.
 
-ghost use Rattle.std.specs.Prelude.{◌≡◌, ◌||◌, IfSome, IsNone, false, map, string_bytes};
-ghost use Rattle.lift_command.specs.Programs.{HasLeft, IsPlainAnswer, IsProgramAnswer, IsRunAnswer, streams};
-ghost use Rattle.lift_command.specs.Servings.{held_trace};
+ghost use Rattle.std.specs.Prelude.{◌≡◌, IfSome, IsNone, false, map, string_bytes};
+ghost use Rattle.lift_command.specs.Programs.{HasLeft, IsAnswerToRead, IsProgramAnswer, IsRunAnswer};
+ghost use Rattle.lift_command.specs.Servings.{between};
 ghost use Rattle.lift_host.specs.Messages.{message_of, status_of};
 ghost use Rattle.lift_host.specs.Requests.{plain_words};
-ghost use Rattle.lift_shell.specs.Runs.{AskForRun, stream};
+ghost use Rattle.lift_shell.specs.Runs.{AskForRun, written};
 ghost use Rattle.lift_host.specs.Writes.{Writes};
 
 use crate::disk_trace::DiskTrace;
@@ -41,11 +41,9 @@ pub fn command<R: Threads + Wait + Sync, F: TextFiles, T: TraceSink, I: Read, O:
 ) -> Status
     requires { O.has_failed out.old ≡ false }
     ensures { IsProgramAnswer (F.gives files.now) (F.fails files.now) explains
-        (map string_bytes words.now) (streams (I.remaining input.old) (I.remaining input.new)
-        (stream (O.contents out.old) (O.contents out.new) (O.has_failed out.new))
-        (stream (E.contents err.old) (E.contents err.new) (E.has_failed err.new))
-        (held_trace (T.contents trace.old) (T.contents trace.new) (T.made trace.old)
-        (T.made trace.new)) (T.has_failed trace.new)) result }
+        (map string_bytes words.now)
+        (between T.Sink I.Read O.Sink E.Sink trace.old trace.new input.old input.new out.old out.new
+        err.old err.new) result }
 {
     match command_alone(alloc, words, explains, files, trace, input, out, err) {
         Some(status) => status,
@@ -67,11 +65,8 @@ pub fn command_alone<F: TextFiles, T: TraceSink, I: Read, O: Sink, E: Sink>(
     requires { O.has_failed out.old ≡ false }
     ensures answered { IfSome result (IsProgramAnswer (F.gives files.now) (F.fails files.now)
         explains (map string_bytes words.now)
-        (streams (I.remaining input.old) (I.remaining input.new)
-        (stream (O.contents out.old) (O.contents out.new) (O.has_failed out.new))
-        (stream (E.contents err.old) (E.contents err.new) (E.has_failed err.new))
-        (held_trace (T.contents trace.old) (T.contents trace.new) (T.made trace.old)
-        (T.made trace.new)) (T.has_failed trace.new))) }
+        (between T.Sink I.Read O.Sink E.Sink trace.old trace.new input.old input.new out.old out.new
+        err.old err.new)) }
     ensures run { IsNone result → AskForRun (plain_words (map string_bytes words.now)) }
     ensures unread { IsNone result → (input.new ≡ input.old) × (trace.new ≡ trace.old) }
     ensures unwritten { IsNone result → (out.new ≡ out.old) × (err.new ≡ err.old) }
@@ -94,13 +89,10 @@ fn plain_alone<F: TextFiles, T: TraceSink, I: Read, O: Sink, E: Sink>(
     err: &mut E,
 ) -> Option<Status>
     requires { O.has_failed out.old ≡ false }
-    ensures answered { IfSome result (IsPlainAnswer (F.gives files.now) (F.fails files.now)
-        (explains || words.now.explains) (map string_bytes words.now.words.items) words.now.flags
-        (streams (I.remaining input.old) (I.remaining input.new)
-        (stream (O.contents out.old) (O.contents out.new) (O.has_failed out.new))
-        (stream (E.contents err.old) (E.contents err.new) (E.has_failed err.new))
-        (held_trace (T.contents trace.old) (T.contents trace.new) (T.made trace.old)
-        (T.made trace.new)) (T.has_failed trace.new))) }
+    ensures answered { IfSome result (IsAnswerToRead (F.gives files.now) (F.fails files.now)
+        explains words.now
+        (between T.Sink I.Read O.Sink E.Sink trace.old trace.new input.old input.new out.old out.new
+        err.old err.new)) }
     ensures run { IsNone result → AskForRun (map string_bytes words.now.words.items) }
     ensures unread { IsNone result → (input.new ≡ input.old) × (trace.new ≡ trace.old) }
     ensures unwritten { IsNone result → (out.new ≡ out.old) × (err.new ≡ err.old) }
@@ -126,9 +118,8 @@ fn command_run<R: Threads + Wait + Sync, F: TextFiles, O: Sink, E: Sink>(
 ) -> Status
     requires { O.has_failed out.old ≡ false }
     ensures { IsRunAnswer (F.gives files.now) (F.fails files.now) explains
-        (map string_bytes words.now) (stream (O.contents out.old) (O.contents out.new)
-        (O.has_failed out.new)) (stream (E.contents err.old) (E.contents err.new)
-        (E.has_failed err.new)) result }
+        (map string_bytes words.now) (written O.Sink out.old out.new)
+        (written E.Sink err.old err.new) result }
 {
     match read_words(alloc, words) {
         Ok(plain) => run(rt, alloc, &plain, files, &Liftplc, explains, out, err),

@@ -1,13 +1,11 @@
 // `serve`: a configuration behind lines.
 
 ghost use Rattle.std.specs.Prelude.{◌≡◌, ◌++◌, Some, None, true, IfOk, OnOk, OnErr};
-ghost use Rattle.std.specs.Io.KnownBytes.{Consumes};
 ghost use Rattle.lift_host.specs.Messages.{message_of, status_of};
 ghost use Rattle.lift_shell.specs.Runs.{IsExplained};
 ghost use Rattle.lift_host.specs.Writes.{Writes};
-ghost use Rattle.lift_serve.specs.Serving.{at_stop};
 ghost use Rattle.lift_host.specs.declared.serving.Tracing.{Tracing as TracingOf};
-ghost use Rattle.lift_command.specs.Servings.{IsNew, IsUntouched, held_trace, IsServeAnswer, IsTextAnswer, IsLoadedAnswer, IsRefusalBelow, IsRefusedAnswer, IsUnreadAnswer, fault_of_halt, fault_of_input, fault_of_line, fault_of_stop, fault_of_wrong, shown_line};
+ghost use Rattle.lift_command.specs.Servings.{IsNew, IsUntouched, held_trace, between, IsServeAnswer, IsTextAnswer, IsLoadedAnswer, IsRefusalBelow, IsRefusedAnswer, IsUnreadAnswer, fault_of_halt, fault_of_input, fault_of_line, fault_of_stop, fault_of_wrong, shown_line};
 
 use crate::liftplc::loaded;
 use il_machine::Verified;
@@ -53,12 +51,8 @@ pub fn serve<F: TextFiles, T: TraceSink, I: Read, O: Sink, E: Sink>(
     err: &mut E,
 ) -> Status
     ensures { IsServeAnswer (F.gives files.now) (F.fails files.now) explains serving.entry
-        (at_stop (I.remaining input.new) (O.has_failed out.new) (T.has_failed trace.new))
-        (Consumes (I.remaining input.old) (I.remaining input.new)) (O.contents out.old)
-        (O.contents out.new) (held_trace (T.contents trace.old) (T.contents trace.new)
-        (T.made trace.old) (T.made trace.new))
-        (Writes (E.contents err.old) (E.contents err.new) (E.has_failed err.new))
-        (E.contents err.new ≡ E.contents err.old) result }
+        (between T.Sink I.Read O.Sink E.Sink trace.old trace.new input.old input.new out.old out.new
+        err.old err.new) result }
 {
     match files.read(alloc, serving.file, MOST_BYTES) {
         Ok(text) => serve_text(alloc, serving, &text, explains, trace, input, out, err),
@@ -103,12 +97,8 @@ fn serve_text<T: TraceSink, I: Read, O: Sink, E: Sink>(
     err: &mut E,
 ) -> Status
     ensures { IsTextAnswer explains serving.entry text.now
-        (at_stop (I.remaining input.new) (O.has_failed out.new) (T.has_failed trace.new))
-        (Consumes (I.remaining input.old) (I.remaining input.new)) (O.contents out.old)
-        (O.contents out.new) (held_trace (T.contents trace.old) (T.contents trace.new)
-        (T.made trace.old) (T.made trace.new))
-        (Writes (E.contents err.old) (E.contents err.new) (E.has_failed err.new))
-        (E.contents err.new ≡ E.contents err.old) result }
+        (between T.Sink I.Read O.Sink E.Sink trace.old trace.new input.old input.new out.old out.new
+        err.old err.new) result }
 {
     match loaded(alloc, text) {
         Ok(verified) => serve_loaded(alloc, verified, serving.trace, trace, input, out, err),
@@ -181,12 +171,8 @@ fn serve_loaded<T: TraceSink, I: Read, O: Sink, E: Sink>(
     err: &mut E,
 ) -> Status
     ensures { IsLoadedAnswer verified.config tracing.entry
-        (at_stop (I.remaining input.new) (O.has_failed out.new) (T.has_failed trace.new))
-        (Consumes (I.remaining input.old) (I.remaining input.new)) (O.contents out.old)
-        (O.contents out.new) (held_trace (T.contents trace.old) (T.contents trace.new)
-        (T.made trace.old) (T.made trace.new))
-        (Writes (E.contents err.old) (E.contents err.new) (E.has_failed err.new))
-        (E.contents err.new ≡ E.contents err.old) result }
+        (between T.Sink I.Read O.Sink E.Sink trace.old trace.new input.old input.new out.old out.new
+        err.old err.new) result }
 {
     if create(tracing, trace).is_err() {
         verified.release();

@@ -105,6 +105,11 @@ IsApart option rest positional None = rest ≡ positional
 IsApart option rest positional (Some value) =
     (before : List (List ℕ)) × (after : List (List ℕ)) × (rest ≡ before ++ option ∷ value ∷ after) × (positional ≡ before ++ after) × (IsOption value → ⊥)
 
+-- words apart in any such way are these, with this value
+abbrev pub IsOnlyApart : List ℕ → List (List ℕ) → List (List ℕ) → Option (List ℕ) → Type 0
+IsOnlyApart option words found value =
+    (positional : List (List ℕ)) (other : Option (List ℕ)) → IsApart option words positional other → LeaveOut option positional → (positional ≡ found) × (other ≡ value)
+
 -- a value, and behind it words without another option and its value
 pub record IsBehind (option : List ℕ) (words : List (List ℕ)) (value : List ℕ) (others : List (List ℕ)) (other : Option (List ℕ)) : Type 0 where
   pub behind : List (List ℕ)
@@ -128,6 +133,13 @@ pub data AreApart (one two : List ℕ) (words positional : List (List ℕ)) (fir
   without : words ≡ positional → first ≡ None → second ≡ None → AreApart one two words positional first second
   one_first : IsFirstApart one two words positional first second → AreApart one two words positional first second
   two_first : IsFirstApart two one words positional second first → AreApart one two words positional first second
+
+-- words that are no options stand apart in any such way as these
+abbrev pub AreOnlyApart : List ℕ → List ℕ → List (List ℕ) → List (List ℕ) → Type 0
+AreOnlyApart one two words found = (positional : List (List ℕ)) (first second : Option (List ℕ)) → AreApart one two words positional first second → AreNoOptions positional → positional ≡ found
+
+abbrev pub IsOnlyBehind : List ℕ → List (List ℕ) → List (List ℕ) → Type 0
+IsOnlyBehind option words found = (value : List ℕ) (others : List (List ℕ)) (other : Option (List ℕ)) → IsBehind option words value others other → AreNoOptions others → others ≡ found
 
 -- FILE and ROUNDS, with any words behind them, and `--fire ROUND` and `--calls CALLS` anywhere among them; no other word is an option
 pub record GiveRounds (words : List (List ℕ)) (rounds : Rounds) : Type 0 where

@@ -1,7 +1,7 @@
 // What the words ask for.
 
 ghost use Rattle.std.specs.Prelude.{◌≡◌, ◌≤◌, ◌<◌, ◌∷◌, ◌++◌, ◌↔◌, [], ℕ, Bool, List, Option, Some, true, false, IfSome, IfOk, IsNone, IsTrue, MatchOption, OnOk, codes, bytes_eq, flat_map, length, map, option_map, slice_get, string_bytes};
-ghost use Rattle.lift_host.specs.Requests.{IsNumberTo, IsDigits, IsOption, AreNoOptions, LeaveOut, IsApart, AreApart, IsBehind, IsFlagApart, IsFile, IsFileBeside, IsFileWith, AreFiles, GiveRounds, GiveTrace, GiveDrawing, GiveFollowed, GiveScan, AreNames, Takes, TakesTrace, Asks, BeginsWithDigit, BeginWithName, NeedsName, AreNamesFirst, plain_words, plain_word, cut_word, cut_scan_word, flag_of, second_of, json_of, own_flag, own_second, own_json, asked_json, is_flag, explains, names_flag, flags_of, with_flags, command_of, name_of, word_of, words_of};
+ghost use Rattle.lift_host.specs.Requests.{IsNumberTo, IsDigits, IsOption, AreNoOptions, LeaveOut, IsApart, IsOnlyApart, AreApart, AreOnlyApart, IsBehind, IsOnlyBehind, IsFlagApart, IsFile, IsFileBeside, IsFileWith, AreFiles, GiveRounds, GiveTrace, GiveDrawing, GiveFollowed, GiveScan, AreNames, Takes, TakesTrace, Asks, BeginsWithDigit, BeginWithName, NeedsName, AreNamesFirst, plain_words, plain_word, cut_word, cut_scan_word, flag_of, second_of, json_of, own_flag, own_second, own_json, asked_json, is_flag, explains, names_flag, flags_of, with_flags, command_of, name_of, word_of, words_of};
 ghost use Rattle.lift_host.specs.declared.request.Name.{Name};
 ghost use Rattle.lift_host.specs.declared.request.Request.{Request};
 ghost use Rattle.lift_host.specs.declared.request.Rounds.{Rounds};
@@ -827,10 +827,8 @@ fn options_apart<'w>(one: &str, two: &str, rest: &'w [String]) -> Option<Options
         (words_of apart.positional) (option_map (λ value. value.now) apart.first)
         (option_map (λ value. value.now) apart.second)) }
     ensures plain { IfSome result (λ apart. AreNoOptions (words_of apart.positional)) }
-    ensures only { IfSome result (λ apart. (positional : List (List ℕ))
-        (first second : Option (List ℕ))
-        → AreApart one.now two.now (map string_bytes rest.now) positional first second
-        → AreNoOptions positional → positional ≡ words_of apart.positional) }
+    ensures only { IfSome result (λ apart. AreOnlyApart one.now two.now
+        (map string_bytes rest.now) (words_of apart.positional)) }
     ensures none { IsNone result → (positional : List (List ℕ)) (first second : Option (List ℕ))
         → AreApart one.now two.now (map string_bytes rest.now) positional first second
         → AreNoOptions positional → ⊥ }
@@ -893,11 +891,8 @@ fn from_value<'w>(option: &str, words: &'w [String]) -> Option<Behind<'w>>
         (option_map (λ value. value.now) behind.other)) }
     ensures plain { IfSome result (λ behind. AreNoOptions (map string_bytes behind.front.now
         ++ map string_bytes behind.back.now)) }
-    ensures only { IfSome result (λ behind. (value : List ℕ) (others : List (List ℕ))
-        (other : Option (List ℕ))
-        → IsBehind option.now (map string_bytes words.now) value others other
-        → AreNoOptions others
-        → others ≡ map string_bytes behind.front.now ++ map string_bytes behind.back.now) }
+    ensures only { IfSome result (λ behind. IsOnlyBehind option.now (map string_bytes words.now)
+        (map string_bytes behind.front.now ++ map string_bytes behind.back.now)) }
     ensures none { IsNone result → (value : List ℕ) (others : List (List ℕ))
         (other : Option (List ℕ))
         → IsBehind option.now (map string_bytes words.now) value others other
@@ -932,11 +927,9 @@ pub(crate) fn apart<'w>(option: &str, words: &'w [String]) -> Option<WordsApart<
     ensures some { IfSome result (λ apart. IsApart option.now (map string_bytes words.now)
         (map string_bytes apart.front.now ++ map string_bytes apart.back.now)
         (option_map (λ value. value.now) apart.value)) }
-    ensures only { IfSome result (λ apart. (positional : List (List ℕ)) (value : Option (List ℕ))
-        → IsApart option.now (map string_bytes words.now) positional value
-        → LeaveOut option.now positional
-        → (positional ≡ map string_bytes apart.front.now ++ map string_bytes apart.back.now)
-        × (value ≡ option_map (λ value. value.now) apart.value)) }
+    ensures only { IfSome result (λ apart. IsOnlyApart option.now (map string_bytes words.now)
+        (map string_bytes apart.front.now ++ map string_bytes apart.back.now)
+        (option_map (λ value. value.now) apart.value)) }
     ensures none { IsNone result → (positional : List (List ℕ)) (value : Option (List ℕ))
         → IsApart option.now (map string_bytes words.now) positional value
         → LeaveOut option.now positional → ⊥ }
@@ -1090,7 +1083,7 @@ pub fn read_words(alloc: Global, words: &[String]) -> Result<Plain, AllocError>
 
 // The flag of the words' command.
 fn own_flag(words: &[String]) -> Option<&'static str>
-    ensures { option_map (λ flag. flag.now) result ≡ own_flag (map string_bytes words.now) }
+    ensures { option_map (λ f. f.now) result ≡ own_flag (map string_bytes words.now) }
 {
     'words: for word in words {
         if !is_explain(word) {
@@ -1102,7 +1095,7 @@ fn own_flag(words: &[String]) -> Option<&'static str>
 
 // The second flag of the words' command.
 fn own_second(words: &[String]) -> Option<&'static str>
-    ensures { option_map (λ flag. flag.now) result ≡ own_second (map string_bytes words.now) }
+    ensures { option_map (λ f. f.now) result ≡ own_second (map string_bytes words.now) }
 {
     'words: for word in words {
         if !is_explain(word) {
@@ -1114,7 +1107,7 @@ fn own_second(words: &[String]) -> Option<&'static str>
 
 // `--json`, where the words' command takes it.
 fn own_json(words: &[String]) -> Option<&'static str>
-    ensures { option_map (λ flag. flag.now) result ≡ own_json (map string_bytes words.now) }
+    ensures { option_map (λ f. f.now) result ≡ own_json (map string_bytes words.now) }
 {
     'words: for word in words {
         if !is_explain(word) {
@@ -1126,7 +1119,7 @@ fn own_json(words: &[String]) -> Option<&'static str>
 
 // The same, where `--summary` isn't one of the words.
 fn asked_json(words: &[String]) -> Option<&'static str>
-    ensures { option_map (λ flag. flag.now) result ≡ asked_json (map string_bytes words.now) }
+    ensures { option_map (λ f. f.now) result ≡ asked_json (map string_bytes words.now) }
 {
     if names_flag(Some(SUMMARY), words) {
         None
@@ -1137,7 +1130,7 @@ fn asked_json(words: &[String]) -> Option<&'static str>
 
 // The flag of a command's own.
 fn flag_of(command: &str) -> Option<&'static str>
-    ensures { option_map (λ flag. flag.now) result ≡ flag_of command.now }
+    ensures { option_map (λ f. f.now) result ≡ flag_of command.now }
 {
     match command {
         "check" => Some(LIMITS),
@@ -1150,7 +1143,7 @@ fn flag_of(command: &str) -> Option<&'static str>
 
 // The second flag of a command: `--left` of `run`, `--cut` of one that is always over a trace.
 fn second_of(command: &str) -> Option<&'static str>
-    ensures { option_map (λ flag. flag.now) result ≡ second_of command.now }
+    ensures { option_map (λ f. f.now) result ≡ second_of command.now }
 {
     match command {
         "run" => Some(LEFT),
@@ -1161,7 +1154,7 @@ fn second_of(command: &str) -> Option<&'static str>
 
 // `--json`, where a command takes it.
 fn json_of(command: &str) -> Option<&'static str>
-    ensures { option_map (λ flag. flag.now) result ≡ json_of command.now }
+    ensures { option_map (λ f. f.now) result ≡ json_of command.now }
 {
     match command {
         "check" | "ranges" | "xref" | "calls" | "denials" => Some(JSON),
@@ -1171,7 +1164,7 @@ fn json_of(command: &str) -> Option<&'static str>
 
 // Whether a word is the flag, where there is one.
 fn is_flag(flag: Option<&str>, word: &str) -> bool
-    ensures { result ≡ is_flag (option_map (λ flag. flag.now) flag.entry) word.now }
+    ensures { result ≡ is_flag (option_map (λ f. f.now) flag.entry) word.now }
 {
     match flag {
         Some(flag) => word == flag,
@@ -1193,7 +1186,7 @@ fn explains(words: &[String]) -> bool
 
 // Whether the flag is one of the words.
 fn names_flag(flag: Option<&str>, words: &[String]) -> bool
-    ensures { result ≡ names_flag (option_map (λ flag. flag.now) flag.entry)
+    ensures { result ≡ names_flag (option_map (λ f. f.now) flag.entry)
         (map string_bytes words.now) }
 {
     'words: for word in words {
@@ -1213,8 +1206,8 @@ fn plain_words(
     json: Option<&str>,
 ) -> Result<Vec<String>, AllocError>
     ensures { IfOk result (λ plain. map string_bytes plain.items
-        ≡ flat_map (plain_word (option_map (λ flag. flag.now) own.entry)
-        (option_map (λ flag. flag.now) second.entry) (option_map (λ flag. flag.now) json.entry))
+        ≡ flat_map (plain_word (option_map (λ f. f.now) own.entry)
+        (option_map (λ f. f.now) second.entry) (option_map (λ f. f.now) json.entry))
         (map string_bytes words.now)) }
 {
     let mut plain = Vec::new(alloc);
@@ -1234,9 +1227,9 @@ fn add_plain(
     json: Option<&str>,
 ) -> Result<(), AllocError>
     ensures { OnOk result (map string_bytes plain.new.items ≡ map string_bytes plain.old.items
-        ++ plain_word (option_map (λ flag. flag.now) own.entry)
-        (option_map (λ flag. flag.now) second.entry)
-        (option_map (λ flag. flag.now) json.entry) word.now) }
+        ++ plain_word (option_map (λ f. f.now) own.entry)
+        (option_map (λ f. f.now) second.entry)
+        (option_map (λ f. f.now) json.entry) word.now) }
 {
     if is_explain(word) || is_flag(own, word) || is_flag(second, word) || is_flag(json, word) {
         return Ok(());

@@ -32,6 +32,10 @@ front cut text = before_first (is_cut cut) text
 abbrev pub behind : Cut → List ℕ → List ℕ
 behind cut text = after_first (is_cut cut) text
 
+-- the place of the first cut; that of the end, where there is none
+abbrev pub cut_place : Cut → List ℕ → ℕ
+cut_place cut text = position_or_len (is_cut cut) text
+
 -- whether there is a cut
 abbrev pub has : Cut → List ℕ → Bool
 has cut text = nat_lt (position_or_len (is_cut cut) text) (length text)

@@ -1,8 +1,8 @@
 // Texts in pieces.
 
 ghost use Rattle.std.specs.Prelude.{◌≡◌, ◌∷◌, ◌<◌, Some, length, option_map, bytes_eq, MatchOption};
-ghost use Rattle.std.specs.List.{position_or_len, before_first, after_first};
-ghost use Rattle.lift_json.specs.Pieces.{sign_of, is_cut, front, behind, has, pieces_left, is_number};
+ghost use Rattle.std.specs.List.{before_first, after_first};
+ghost use Rattle.lift_json.specs.Pieces.{sign_of, is_cut, cut_place, front, behind, has, pieces_left, is_number};
 
 /// Where a text is cut.
 #[derive(Clone, Copy)]
@@ -33,8 +33,8 @@ impl Cut {
 
 // What stands before the first cut and what stands behind it.
 fn parts(cut: Cut, text: &str) -> Option<(&str, &str)>
-    ensures { MatchOption result (position_or_len (is_cut cut) text.now ≡ length text.now)
-        (λ x. (position_or_len (is_cut cut) text.now < length text.now)
+    ensures { MatchOption result (cut_place cut text.now ≡ length text.now)
+        (λ x. (cut_place cut text.now < length text.now)
         × (x.0.now ≡ before_first (is_cut cut) text.now)
         × (x.1.now ≡ after_first (is_cut cut) text.now)) }
 {

@@ -4,3 +4,4 @@ pub mod Driven
 pub mod Notices
 pub mod Rounds
 pub mod Shown
+pub mod Observing

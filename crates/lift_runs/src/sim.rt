@@ -2,7 +2,6 @@
 
 ghost use Rattle.std.specs.Prelude.{◌≡◌, ◌++◌, ◌≤◌, ◌+◌, ℕ, true, [], ◌∷◌, map, flat_map, length, Ok, OnOk, IfOk, IfErr, List};
 ghost use Rattle.il_spec.specs.declared.fault.Refusal.TheVariants.{Memory};
-ghost use Rattle.lift_spec.specs.declared.journal.Entry.{Entry as EntryOf};
 ghost use Rattle.lift_spec.specs.World.{opening};
 ghost use Rattle.il_machine.specs.Scanning.{HasTask};
 ghost use Rattle.lift_spec.specs.declared.event.Event.TheVariants.{Press as PressOf, Gather as GatherOf, Refresh as RefreshOf};
@@ -15,7 +14,7 @@ ghost use Rattle.lift_spec.specs.declared.journal.Entry.TheVariants as entry;
 ghost use Rattle.lift_journal.specs.Rounds.{Happen, desk_events, floors_rising, tasks_in_order, scan_entries, entered_calls_of};
 ghost use Rattle.lift_journal.specs.Closed.{IsClosed};
 ghost use Rattle.lift_runs.specs.Driven.{call_of, ArePressed, AreSettings, IsSimulated, AreTasks};
-ghost use Rattle.lift_runs.specs.Shown.{Commit, IsShown, ScansCommit, RoundShown, behind_all, commits_text};
+ghost use Rattle.lift_runs.specs.Observing.{ScansObserved, RoundObserved, IsObserved};
 
 use crate::ahead::{at_first, presses_by_round, presses_due, set_in, settings_by_round};
 use crate::observer::{Nobody, Observer};
@@ -128,11 +127,8 @@ fn scan_all<O: Observer>(
 ) -> Result<(), AllocError>
     requires tasks { AreTasks world.old.program.config tasks.now }
     requires closed { IsClosed world.old.world }
-    ensures scans { OnOk result ((commits : List Commit)
-        × ScansCommit world.old.program.config tasks.now world.old.world world.new.world commits
-        × (O.text observer.new ≡ O.text observer.old
-        ++ commits_text (O.shows observer.old) number commits)
-        × (O.shows observer.new ≡ behind_all commits (O.shows observer.old))) }
+    ensures scans { OnOk result (ScansObserved O.Observer number world.old.program.config tasks.now
+        world.old.world world.new.world observer.old observer.new) }
     ensures closed { OnOk result (IsClosed world.new.world) }
     ensures journal { OnOk result (entries.new.items ≡ entries.old.items
         ++ flat_map scan_entries tasks.now) }
@@ -165,13 +161,9 @@ fn round<O: Observer>(
     requires plant { IsPlantOf (sizes_of world.old.program.config) plant.old }
     requires closed { IsClosed world.old.world }
     requires idle { due.idle ≡ true → world.old.world.desk ≡ [] }
-    ensures round { OnOk result ((last : List EntryOf)
-        × (entries.new.items ≡ entries.old.items ++ last) × (text : List ℕ)
-        × (O.text observer.new ≡ O.text observer.old ++ text) × (commits : List Commit)
-        × (O.shows observer.new ≡ behind_all commits (O.shows observer.old))
-        × RoundShown (O.shows observer.old) number world.old.program.config
-        (map call_of due.entry.presses.now) due.entry.switches plant.old plant.new
-        world.old.world world.new.world last commits text) }
+    ensures round { OnOk result (RoundObserved O.Observer number
+        (map call_of due.entry.presses.now) due.entry.switches plant.old plant.new world.old
+        world.new entries.old.items entries.new.items observer.old observer.new) }
     ensures plant { OnOk result (IsPlantOf (sizes_of world.old.program.config) plant.new) }
     ensures closed { OnOk result (IsClosed world.new.world) }
     ensures idle { OnOk result (due.entry.idle ≡ true → due.entry.presses.now ≡ []
@@ -204,10 +196,9 @@ fn run_rounds<O: Observer>(
     requires settings { AreSettings (sizes_of world.old.program.config).cars drive.settings.now }
     requires tasks { tasks.now ≡ tasks_in_order world.old.program.config }
     requires none { entries.old.items ≡ [] }
-    ensures rounds { OnOk result ((text : List ℕ)
-        × (O.text observer.new ≡ O.text observer.old ++ text)
-        × IsShown (O.shows observer.old) world.old.program.config drive.entry.presses.now
-        drive.entry.settings.now rounds entries.new.items text) }
+    ensures rounds { OnOk result (IsObserved O.Observer world.old.program.config
+        drive.entry.presses.now drive.entry.settings.now rounds entries.new.items
+        observer.old observer.new) }
     ensures same { world.new.program ≡ world.old.program }
 {
     let _config = world.verified().config();
@@ -254,10 +245,9 @@ pub fn simulate_on<O: Observer>(
     requires opening { world.old.world ≡ opening world.old.program.config }
     requires calls { ArePressed (sizes_of world.old.program.config) drive.presses.now }
     requires settings { AreSettings (sizes_of world.old.program.config).cars drive.settings.now }
-    ensures rounds { IfOk result (λ entries. (text : List ℕ)
-        × (O.text observer.new ≡ O.text observer.old ++ text)
-        × IsShown (O.shows observer.old) world.old.program.config drive.entry.presses.now
-        drive.entry.settings.now rounds entries.items text) }
+    ensures rounds { IfOk result (λ entries. IsObserved O.Observer world.old.program.config
+        drive.entry.presses.now drive.entry.settings.now rounds entries.items
+        observer.old observer.new) }
 {
     let _config = world.verified().config();
     let tasks = tasks_in(world.verified());
@@ -294,10 +284,9 @@ pub fn simulate_before<O: Observer>(
 ) -> Result<Vec<Entry>, Refusal>
     requires calls { ArePressed (sizes_of verified.config) drive.presses.now }
     requires settings { AreSettings (sizes_of verified.config).cars drive.settings.now }
-    ensures rounds { IfOk result (λ entries. (text : List ℕ)
-        × (O.text observer.new ≡ O.text observer.old ++ text)
-        × IsShown (O.shows observer.old) verified.config drive.entry.presses.now
-        drive.entry.settings.now rounds entries.items text) }
+    ensures rounds { IfOk result (λ entries. IsObserved O.Observer verified.config
+        drive.entry.presses.now drive.entry.settings.now rounds entries.items
+        observer.old observer.new) }
     ensures memory { IfErr result (λ refusal. refusal ≡ Memory) }
 {
     let mut world = World::new(alloc, verified)?;

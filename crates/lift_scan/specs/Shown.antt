@@ -50,6 +50,11 @@ abbrev pub from_seen : Config → ℕ → Option ℕ → List ℕ → (World →
 from_seen c task until source rest w None = []
 from_seen c task until source rest w (Some seen) = behind_reply c task until source rest seen (happens c w (Instruction task))
 
+-- A text grows by the line of a step, which leads from a world to another. After it more is shown, or nothing.
+abbrev pub ShowsNext : Config → Asked → List ℕ → World → World → List ℕ → List ℕ → Bool → Type 0
+ShowsNext c asked source w v old new more =
+    (rest : World → List ℕ) → old ++ from_seen c asked.task asked.until source rest w (seen_in c w asked.task) ≡ new ++ rest_if more rest v
+
 -- the lines of the next instructions of a task's open scan, so many at most: those of the definitions' world, up to the scan's end or the line behind which nothing more is shown
 unfoldable pub lines_text : Config → ℕ → Option ℕ → List ℕ → ℕ → World → List ℕ
 lines_text c task until source zero w = []

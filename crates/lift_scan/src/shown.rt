@@ -3,9 +3,9 @@
 ghost use Rattle.std.specs.Prelude.{◌≡◌, ◌++◌, ℕ, List, IfOk, IfErr, OnOk, option_map, string_bytes, take};
 ghost use Rattle.base_texts.specs.Puts.{Puts};
 ghost use Rattle.lift_spec.specs.Snapshot.{task_name};
-ghost use Rattle.lift_spec.specs.World.{World as WorldOf, scan_at};
+ghost use Rattle.lift_spec.specs.World.{scan_at};
 ghost use Rattle.lift_scan.specs.Lines.{of_before};
-ghost use Rattle.lift_scan.specs.Shown.{is_last, seen_in, line_by, from_seen, rest_if, lines_text, heading, IsScanShown, IsScanStopped};
+ghost use Rattle.lift_scan.specs.Shown.{is_last, seen_in, line_by, lines_text, heading, ShowsNext, IsScanShown, IsScanStopped};
 
 use crate::before::{Before, next_step};
 use crate::chosen::{Asked, Chosen, choose};
@@ -129,10 +129,8 @@ fn put_next(
     text: &mut String,
     report: &mut Report,
 ) -> Result<bool, AllocError>
-    ensures shown { IfOk result (λ more. (rest : WorldOf → List ℕ) → string_bytes text.old
-        ++ from_seen world.old.program.config asked.task asked.until source.now rest
-        world.old.world (seen_in world.old.program.config world.old.world asked.task)
-        ≡ string_bytes text.new ++ rest_if more rest world.new.world) }
+    ensures shown { IfOk result (ShowsNext world.old.program.config asked source.now world.old.world
+        world.new.world (string_bytes text.old) (string_bytes text.new)) }
     ensures same { world.new.program ≡ world.old.program }
 {
     let Some(seen) = seen(alloc, world, asked.task)? else {

@@ -3,3 +3,4 @@ pub mod Serving
 pub mod Answers
 pub mod Coming
 pub mod Ending
+pub mod Between

@@ -6,10 +6,9 @@ ghost use Rattle.lift_spec.specs.Image.{sizes_of, FieldsInRange};
 ghost use Rattle.lift_spec.specs.Replies.{Reply as ReplyOf};
 ghost use Rattle.lift_spec.specs.World.{happens};
 ghost use Rattle.lift_journal.specs.Closed.{IsClosed};
-ghost use Rattle.lift_runs.specs.declared.notice.Notice.{Notice as NoticeOf};
-ghost use Rattle.lift_runs.specs.Rounds.{IsRoundOf};
 ghost use Rattle.lift_serve.specs.Saying.{IsSpelled, IsTaken};
-ghost use Rattle.lift_serve.specs.Answers.{notice_line, outputs_line, press_line, stop_line, greatest_answer, Acts};
+ghost use Rattle.lift_serve.specs.declared.said.Said.TheVariants.{Round as RoundSaid};
+ghost use Rattle.lift_serve.specs.Answers.{press_line, stop_line, greatest_answer, Acts};
 
 use crate::answer::{put_notices, put_outputs, put_press};
 use crate::said::Said;
@@ -24,10 +23,8 @@ fn act_round(rounds: &mut Rounds, fields: Fields, text: &mut String) -> Result<(
     requires inside { FieldsInRange (sizes_of rounds.old.world.program.config) fields }
     requires closed { IsClosed rounds.old.world.world }
     requires empty { string_bytes text.old ≡ [] }
-    ensures acts { OnOk result ((notices : List NoticeOf)
-        × IsRoundOf rounds.old.world.program.config fields rounds.old.world.world
-        rounds.new.world.world notices × (string_bytes text.new ≡ flat_map notice_line notices
-        ++ outputs_line rounds.new.world.world.group.image.outputs)) }
+    ensures acts { OnOk result (Acts rounds.old.world.program.config (RoundSaid fields)
+        rounds.old.world.world rounds.new.world.world (string_bytes text.new)) }
     ensures room { OnOk result (length (string_bytes text.new) ≤ greatest_answer) }
     ensures closed { OnOk result (IsClosed rounds.new.world.world) }
     ensures same { rounds.new.world.program ≡ rounds.old.world.program }

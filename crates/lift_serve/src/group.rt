@@ -1,10 +1,8 @@
 // A group from its opening to the end of its lines.
 
 ghost use Rattle.std.specs.Prelude.{◌≡◌, None, OnOk, IfErr};
-ghost use Rattle.std.specs.Io.KnownBytes.{Appends, Consumes};
-ghost use Rattle.lift_host.specs.Writes.{AppendsFront};
-ghost use Rattle.lift_serve.specs.Ending.{Ends, IsEnded, IsHalted, IsHaltWritten};
-ghost use Rattle.lift_serve.specs.Serving.{at_stop};
+ghost use Rattle.lift_serve.specs.Ending.{Ends, IsHaltWritten};
+ghost use Rattle.lift_serve.specs.Between.{EndsGroup, HaltsGroup};
 
 use crate::serve::{Stop, Stopped, serve};
 use crate::server::{ServeFault, Server};
@@ -35,16 +33,10 @@ pub fn serve_group<R: Read, O: Sink, T: Sink>(
     out: &mut O,
     trace: &mut T,
 ) -> Result<(), Halt>
-    ensures ended { OnOk result (IsEnded verified.config
-        (Consumes (R.remaining reader.old) (R.remaining reader.new))
-        (Appends (O.contents out.old) (O.contents out.new))
-        (Appends (T.contents trace.old) (T.contents trace.new))) }
-    ensures halted { IfErr result (λ halt. IsHalted verified.config
-        (at_stop (R.remaining reader.new)
-        (O.has_failed out.new) (T.has_failed trace.new)) (Consumes (R.remaining reader.old) (R.remaining reader.new)) (O.contents out.old)
-        (O.contents out.new)
-        (Appends (T.contents trace.old) (T.contents trace.new))
-        (AppendsFront (T.contents trace.old) (T.contents trace.new)) halt) }
+    ensures ended { OnOk result (EndsGroup R.Read O.Sink T.Sink verified.config reader.old reader.new
+        out.old out.new trace.old trace.new) }
+    ensures halted { IfErr result (HaltsGroup R.Read O.Sink T.Sink verified.config reader.old
+        reader.new out.old out.new trace.old trace.new) }
     ensures silent { T.contents trace.old ≡ None → T.contents trace.new ≡ None }
     ensures made { T.made trace.new ≡ T.made trace.old }
 {

@@ -1,9 +1,8 @@
 // Lines, one behind the other.
 
 ghost use Rattle.std.specs.Prelude.{◌≡◌, ◌≤◌, None, OnOk, IfErr, vec_capacity};
-ghost use Rattle.std.specs.Io.KnownBytes.{Appends, Consumes};
-ghost use Rattle.lift_host.specs.Writes.{AppendsFront};
-ghost use Rattle.lift_serve.specs.Serving.{IsServer, IsServed, IsStopped, at_stop};
+ghost use Rattle.lift_serve.specs.Serving.{IsServer};
+ghost use Rattle.lift_serve.specs.Between.{ServesAll, Stops};
 
 use crate::input::{Came, next_line};
 use crate::server::{ServeFault, Server};
@@ -44,19 +43,10 @@ pub fn serve<R: Read, O: Sink, T: Sink>(
 ) -> Result<(), Stopped>
     requires server { IsServer server.old }
     requires room { 128 ≤ vec_capacity line.old }
-    ensures served { OnOk result (IsServed server.old.rounds.world.program.config
-        server.old.rounds.world.world
-        server.old.count server.new.rounds.world.world server.new.count
-        (Consumes (R.remaining reader.old) (R.remaining reader.new))
-        (Appends (O.contents out.old) (O.contents out.new))
-        (Appends (T.contents trace.old) (T.contents trace.new))) }
-    ensures stopped { IfErr result (λ s. IsStopped server.old.rounds.world.program.config
-        server.old.rounds.world.world server.old.count (at_stop (R.remaining reader.new)
-        (O.has_failed out.new) (T.has_failed trace.new)) (Consumes (R.remaining reader.old) (R.remaining reader.new))
-        (Appends (O.contents out.old) (O.contents out.new))
-        (AppendsFront (O.contents out.old) (O.contents out.new))
-        (Appends (T.contents trace.old) (T.contents trace.new))
-        (AppendsFront (T.contents trace.old) (T.contents trace.new)) s.stop s.line) }
+    ensures served { OnOk result (ServesAll R.Read O.Sink T.Sink server.old server.new reader.old
+        reader.new out.old out.new trace.old trace.new) }
+    ensures stopped { IfErr result (Stops R.Read O.Sink T.Sink server.old reader.old reader.new
+        out.old out.new trace.old trace.new) }
     ensures stop { server.new.stop ≡ server.old.stop }
     ensures silent { T.contents trace.old ≡ None → T.contents trace.new ≡ None }
     ensures made { T.made trace.new ≡ T.made trace.old }

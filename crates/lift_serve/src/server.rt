@@ -6,13 +6,13 @@ ghost use Rattle.base_texts.specs.Puts.{Puts};
 ghost use Rattle.lift_spec.specs.World.{opening};
 ghost use Rattle.lift_spec.specs.declared.trace.TraceEvent.TheVariants.{Gather};
 ghost use Rattle.lift_spec.specs.Image.{sizes_of, FieldsInRange, Obeys};
-ghost use Rattle.lift_host.specs.Writes.{AppendsFront};
 ghost use Rattle.lift_trace.specs.Text.{last_line};
 ghost use Rattle.lift_trace.specs.Writing.{events_text};
 ghost use Rattle.lift_journal.specs.Rounds.{TakesAll, counting_from};
 ghost use Rattle.lift_serve.specs.Saying.{scan_events, events_of, Says, IsSpelled, IsTaken};
 ghost use Rattle.lift_serve.specs.Answers.{Acts, greatest_answer, outputs_line};
-ghost use Rattle.lift_serve.specs.Serving.{IsServer, Hears, Unheard, IsUntraced, traced_text, record_text, is_end};
+ghost use Rattle.lift_serve.specs.Serving.{IsServer, IsUntraced, traced_text, record_text, is_end};
+ghost use Rattle.lift_serve.specs.Between.{config_of, world_of, IsUnanswered, IsHeard, IsUnheard};
 ghost use Rattle.lift_serve.specs.declared.said.Said.{Said as SaidOf};
 
 use crate::act::act;
@@ -186,7 +186,7 @@ impl Server {
     // How many events are traced of it.
     fn events_in(&self, said: &Said) -> u64
         requires { IsServer self.now }
-        ensures { result ≡ length (events_of self.now.rounds.world.program.config said.now) }
+        ensures { result ≡ length (events_of (config_of self.now) said.now) }
     {
         let _config = self.rounds.world.verified().config();
         match said {
@@ -207,15 +207,13 @@ impl Server {
         trace: &mut T,
     ) -> Result<(), ServeFault>
         requires server { IsServer self.old }
-        requires says { Says self.old.rounds.world.program.config line.now said.now }
+        requires says { Says (config_of self.old) line.now said.now }
         ensures traced { OnOk result (Appends (T.contents trace.old) (T.contents trace.new)
-            (traced_text self.old.rounds.world.program.config said.now self.old.count)) }
+            (traced_text (config_of self.old) said.now self.old.count)) }
         ensures counted { OnOk result (self.new.count
-            ≡ self.old.count + length (events_of self.old.rounds.world.program.config said.now)) }
-        ensures fault { IfErr result (λ fault. IsUntraced self.old.rounds.world.program.config
-            said.now
-            self.old.count (T.contents trace.old) (T.contents trace.new) (T.has_failed trace.new)
-            fault) }
+            ≡ self.old.count + length (events_of (config_of self.old) said.now)) }
+        ensures fault { IfErr result (IsUntraced (config_of self.old) said.now self.old.count
+            (T.contents trace.old) (T.contents trace.new) (T.has_failed trace.new)) }
         ensures silent { T.contents trace.old ≡ None → T.contents trace.new ≡ None }
         ensures made { T.made trace.new ≡ T.made trace.old }
         ensures same { self.new.rounds.world ≡ self.old.rounds.world }
@@ -253,17 +251,12 @@ impl Server {
     // What is said is done, and answered.
     fn answer_said<O: Sink>(&mut self, said: Said, out: &mut O) -> Result<(), ServeFault>
         requires server { IsServer self.old }
-        requires numbers { IsSpelled self.old.rounds.world.program.config said }
-        requires taken { IsTaken self.old.rounds.world.program.config said }
+        requires numbers { IsSpelled (config_of self.old) said }
+        requires taken { IsTaken (config_of self.old) said }
         ensures answered { OnOk result ((text : List ℕ)
-            × Acts self.old.rounds.world.program.config said self.old.rounds.world.world self.new.rounds.world.world
-            text × Appends (O.contents out.old) (O.contents out.new) text) }
-        ensures fault { IfErr result (λ fault. ((fault ≡ ServeFault.Memory)
-            × Appends (O.contents out.old) (O.contents out.new) [])
-            ⊎ ((fault ≡ ServeFault.Output) × (O.has_failed out.new ≡ true)
-            × ((text : List ℕ) × Acts self.old.rounds.world.program.config said self.old.rounds.world.world
-            self.new.rounds.world.world text
-            × AppendsFront (O.contents out.old) (O.contents out.new) text))) }
+            × Acts (config_of self.old) said (world_of self.old) (world_of self.new) text
+            × Appends (O.contents out.old) (O.contents out.new) text) }
+        ensures fault { IfErr result (IsUnanswered O.Sink self.old self.new said out.old out.new) }
         ensures same { self.new.rounds.world.program ≡ self.old.rounds.world.program }
         ensures count { self.new.count ≡ self.old.count }
         ensures stop { self.new.stop ≡ self.old.stop }
@@ -288,19 +281,10 @@ impl Server {
         trace: &mut T,
     ) -> Result<bool, ServeFault>
         requires { IsServer self.old }
-        ensures heard { IfOk result (λ ended. (said : SaidOf) × (text : List ℕ)
-            × (events : List ℕ) × Hears self.old.rounds.world.program.config line.now said
-            self.old.rounds.world.world self.new.rounds.world.world self.old.count self.new.count text events
-            × Appends (O.contents out.old) (O.contents out.new) text
-            × Appends (T.contents trace.old) (T.contents trace.new) events
-            × (ended ≡ is_end said)) }
-        ensures unheard { IfErr result (λ fault. Unheard self.old.rounds.world.program.config
-            line.now
-            self.old.rounds.world.world self.old.count (O.has_failed out.new) (T.has_failed trace.new)
-            (Appends (O.contents out.old) (O.contents out.new))
-            (AppendsFront (O.contents out.old) (O.contents out.new))
-            (Appends (T.contents trace.old) (T.contents trace.new))
-            (AppendsFront (T.contents trace.old) (T.contents trace.new)) fault) }
+        ensures heard { IfOk result (IsHeard O.Sink T.Sink self.old self.new line.now out.old out.new
+            trace.old trace.new) }
+        ensures unheard { IfErr result (IsUnheard O.Sink T.Sink self.old line.now out.old out.new
+            trace.old trace.new) }
         ensures silent { T.contents trace.old ≡ None → T.contents trace.new ≡ None }
         ensures made { T.made trace.new ≡ T.made trace.old }
         ensures same { self.new.rounds.world.program ≡ self.old.rounds.world.program }
@@ -308,12 +292,11 @@ impl Server {
         ensures server { OnOk result (IsServer self.new) }
         // the events that are traced of the line lead to the world behind it
         ensures replays { OnOk result ((said : SaidOf)
-            × Says self.old.rounds.world.program.config line.now said
-            × TakesAll self.old.rounds.world.program.config self.old.rounds.world.world
-            (events_of self.old.rounds.world.program.config said) self.new.rounds.world.world) }
-        ensures ranges { OnOk result (FieldsInRange (sizes_of self.old.rounds.world.program.config)
-            self.new.rounds.world.world.group.image.fields) }
-        ensures obeys { OnOk result (Obeys self.new.rounds.world.world.group.image) }
+            × Says (config_of self.old) line.now said × TakesAll (config_of self.old)
+            (world_of self.old) (events_of (config_of self.old) said) (world_of self.new)) }
+        ensures ranges { OnOk result (FieldsInRange (sizes_of (config_of self.old))
+            (world_of self.new).group.image.fields) }
+        ensures obeys { OnOk result (Obeys (world_of self.new).group.image) }
     {
         let said = match read_said(&self.rounds.world, line) {
             Ok(said) => said,

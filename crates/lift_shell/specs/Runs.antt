@@ -12,6 +12,7 @@ use Rattle.lift_host.specs.declared.request.Request.{Request}
 use Rattle.lift_host.specs.declared.request.Request.TheVariants as request
 use Rattle.lift_host.specs.declared.request.Rounds.{Rounds}
 use Rattle.lift_host.specs.declared.request.Simulating.TheVariants as simulating
+use Rattle.lift_host.specs.declared.sink.Sink.{Ghosts as Sink}
 use Rattle.lift_host.specs.declared.status.Fault.{Fault}
 use Rattle.lift_host.specs.declared.status.Fault.TheVariants as fault
 use Rattle.lift_host.specs.declared.status.Status.{Status}
@@ -218,6 +219,10 @@ pub record Held : Type 0 where
 
 abbrev pub stream : Option (List ℕ) → Option (List ℕ) → Bool → Held
 stream before after failed = record { before = before; after = after; failed = failed }
+
+-- that of a sink
+abbrev pub written : {X : Type 0} → Sink X → X → X → Held
+written sink old new = stream (sink.contents old) (sink.contents new) (sink.has_failed new)
 
 -- Where it is done, the standard output has the output of one of these answers, and the standard error its warnings, if it may have some. Otherwise
 -- the standard error has the one message of the answer's fault, or of a standard output that failed, and below it what stands there. Unless the

@@ -3,7 +3,7 @@
 ghost use Rattle.std.specs.Prelude.{◌≡◌, ◌≢◌, ◌||◌, ◌↔◌, ℕ, List, [], Bool, Err, IfSome, IsNone, IfOk, IfErr, IsTrue, true, false, map, option_map, string_bytes};
 ghost use Rattle.lift_host.specs.Messages.{fault_of_reading};
 ghost use Rattle.lift_host.specs.Requests.{name_of};
-ghost use Rattle.lift_shell.specs.Runs.{AskForRun, IsForRun, IsAnswerOf, IsFileAnswer, IsCallsRead, IsWordsOutcome, IsOtherRead, IsTraceText, IsTraceFault, IsExplained, IsOutcomeExplained, IsFaultBelow, IsUnreadBelow, IsLateName, HasPrinted, stream, most_bytes, most_calls_bytes, most_trace_bytes, runs, other_source, other_of, other_name, press_sentence};
+ghost use Rattle.lift_shell.specs.Runs.{AskForRun, IsForRun, IsAnswerOf, IsFileAnswer, IsCallsRead, IsWordsOutcome, IsOtherRead, IsTraceText, IsTraceFault, IsExplained, IsOutcomeExplained, IsFaultBelow, IsUnreadBelow, IsLateName, HasPrinted, written, most_bytes, most_calls_bytes, most_trace_bytes, runs, other_source, other_of, other_name, press_sentence};
 ghost use Rattle.lift_messages.specs.Notices.{word_notice};
 ghost use Rattle.lift_messages.specs.Places.{IsShownBelow, IsTextShownBelow};
 
@@ -44,8 +44,7 @@ pub fn run<R: Threads + Wait + Sync, F: TextFiles, C: Commands, O: Sink, E: Sink
     requires { O.has_failed out.old ≡ false }
     ensures { HasPrinted (IsAnswerOf (F.gives files.now) (F.fails files.now)
         (C.gives commands.now) (C.reasons commands.now) explains words.now)
-        (stream (O.contents out.old) (O.contents out.new) (O.has_failed out.new))
-        (stream (E.contents err.old) (E.contents err.new) (E.has_failed err.new)) result }
+        (written O.Sink out.old out.new) (written E.Sink err.old err.new) result }
 {
     let answer = answer(rt, alloc, words, files, commands, explains);
     show(answer.outcome, &answer.below, out, err)
@@ -65,8 +64,7 @@ pub fn run_alone<F: TextFiles, C: Commands, O: Sink, E: Sink>(
     ensures printed { IfSome result (HasPrinted
         (IsAnswerOf (F.gives files.now) (F.fails files.now) (C.gives commands.now)
         (C.reasons commands.now) explains words.now)
-        (stream (O.contents out.old) (O.contents out.new) (O.has_failed out.new))
-        (stream (E.contents err.old) (E.contents err.new) (E.has_failed err.new))) }
+        (written O.Sink out.old out.new) (written E.Sink err.old err.new)) }
     ensures run { IsNone result → AskForRun (map string_bytes words.now.words.items) }
     ensures unwritten { IsNone result → (out.new ≡ out.old) × (err.new ≡ err.old) }
 {

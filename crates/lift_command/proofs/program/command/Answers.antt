@@ -1,7 +1,7 @@
 use Rattle.std.proofs.Common.{refl, ap, map, string_bytes, subst}
 use Rattle.lift_shell.specs.Runs.{stream}
-use Rattle.lift_command.specs.Servings.{held_trace}
-use Rattle.lift_command.specs.Programs.{IsRunAnswer, streams}
+use Rattle.lift_command.specs.Servings.{held_trace, streams}
+use Rattle.lift_command.specs.Programs.{IsRunAnswer}
 use Rattle.lift_command.proofs.Answering.{of_run}
 use Rattle.lift_command.proofs.program.command.Goals as goal
 

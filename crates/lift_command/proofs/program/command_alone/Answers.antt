@@ -1,7 +1,7 @@
 use Rattle.std.proofs.Common.{refl, map, string_bytes, subst}
 use Rattle.lift_shell.specs.Runs.{AskForRun, stream}
-use Rattle.lift_command.specs.Servings.{held_trace}
-use Rattle.lift_command.specs.Programs.{IsPlainAnswer, plain, streams, unread}
+use Rattle.lift_command.specs.Servings.{held_trace, streams}
+use Rattle.lift_command.specs.Programs.{IsPlainAnswer, plain, unread}
 use Rattle.lift_command.proofs.Answering.{as_read, if_some}
 use Rattle.lift_command.proofs.program.command_alone.Goals as goal
 

@@ -2,8 +2,8 @@ use Rattle.std.proofs.Common.{refl, map, string_bytes, subst}
 use Rattle.lift_host.specs.declared.serving.Serving.{Serving}
 use Rattle.lift_host.specs.Servings.{Serves}
 use Rattle.lift_shell.specs.Runs.{stream}
-use Rattle.lift_command.specs.Servings.{held_trace}
-use Rattle.lift_command.specs.Programs.{HasServed, printed, served, streams}
+use Rattle.lift_command.specs.Servings.{held_trace, streams, IsServeAnswer}
+use Rattle.lift_command.specs.Programs.{printed, served}
 use Rattle.lift_command.proofs.Answering.{if_some}
 use Rattle.lift_command.proofs.program.plain_alone.Goals as goal
 
@@ -13,7 +13,7 @@ returns-in-Some-clause-answered g c =
     let err = stream (g.E.Sink.contents c.args.err.now) (g.E.Sink.contents c.serve.new.err) (g.E.Sink.has_failed c.serve.new.err) in
     let all = streams (g.I.Read.remaining c.args.input.now) (g.I.Read.remaining c.serve.new.input) out err (held_trace (g.T.Sink.contents c.args.trace.now) (g.T.Sink.contents c.serve.new.trace) (g.T.Sink.made c.args.trace.now) (g.T.Sink.made c.serve.new.trace)) (g.T.Sink.has_failed c.serve.new.trace) in
     served c.in-Some.serving (subst (λ ws. Serves (map string_bytes ws) c.in-Some.serving) c.deref.ensures.value c.in-Some.ensures.found)
-    (subst (λ wanted. HasServed (g.F.TextFiles.gives c.args.files.now) (g.F.TextFiles.fails c.args.files.now) wanted c.in-Some.serving all c.serve.result) c.is_wanted-wanted.ensures c.serve.ensures)
+    (subst (λ wanted. IsServeAnswer (g.F.TextFiles.gives c.args.files.now) (g.F.TextFiles.fails c.args.files.now) wanted c.in-Some.serving all c.serve.result) c.is_wanted-wanted.ensures c.serve.ensures)
 
 pub returns-in-None-clause-answered : goal.returns-in-None-clause-answered
 returns-in-None-clause-answered g c =

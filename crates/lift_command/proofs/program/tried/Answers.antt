@@ -1,8 +1,8 @@
 use Rattle.std.proofs.Common.{List, ℕ, Bool, Some, None, [], map, string_bytes, sym, subst}
 use Rattle.std.specs.Prelude.{false, if◌then◌else◌}
 use Rattle.lift_shell.specs.Runs.{stream}
-use Rattle.lift_command.specs.Programs.{IsProgramAnswer, streams, taken_by, traced_by}
-use Rattle.lift_command.specs.Servings.{held_trace}
+use Rattle.lift_command.specs.Programs.{IsProgramAnswer, taken_by, traced_by}
+use Rattle.lift_command.specs.Servings.{held_trace, streams}
 use Rattle.lift_command.proofs.program.tried.Goals as goal
 
 pub returns : goal.returns

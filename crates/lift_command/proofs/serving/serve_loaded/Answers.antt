@@ -34,4 +34,4 @@ returns-then-is_err g c =
     let err = sym c.is_err.ensures.value ∙ c.if-is_err.true in
     let wanted = if_err c.create.result err c.create.ensures.wanted in
     let told = subst (Writes (g.E.Sink.contents c.args.err.now) (g.E.Sink.contents c.tell.new.err) (g.E.Sink.has_failed c.tell.new.err)) (append-nil (message_of CannotWrite)) c.tell.ensures in
-    s.uncreated wanted.0 wanted.1 (if_err c.create.result err c.create.ensures.failed) (if_err c.create.result err c.create.ensures.unmade) (consumes_none (g.I.Read.remaining c.args.input.now)) refl told refl
+    s.uncreated wanted.0 wanted.1 (if_err c.create.result err c.create.ensures.failed) (record { untraced = if_err c.create.result err c.create.ensures.unmade; untaken = consumes_none (g.I.Read.remaining c.args.input.now); unanswered = refl }) told refl

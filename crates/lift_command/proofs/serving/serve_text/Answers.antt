@@ -10,4 +10,4 @@ returns-in-Ok g c = s.accepted c.in-Ok.verified c.in-Ok.ensures c.serve_loaded.e
 pub returns-in-Err : goal.returns-in-Err
 returns-in-Err g c =
     let said = subst (λ f. s.IsRefusedAnswer c.args.explains c.args.serving.file.now c.args.text.now f (Writes (g.E.Sink.contents c.args.err.now) (g.E.Sink.contents c.tell_refused.new.err) (g.E.Sink.has_failed c.tell_refused.new.err)) c.tell_refused.result) c.into.ensures c.tell_refused.ensures in
-    s.refused c.in-Err.refusal c.in-Err.ensures said (record { unwritten = refl; unmade = refl }) (consumes_none (g.I.Read.remaining c.args.input.now)) refl
+    s.refused c.in-Err.refusal c.in-Err.ensures said (record { untraced = record { unwritten = refl; unmade = refl }; untaken = consumes_none (g.I.Read.remaining c.args.input.now); unanswered = refl })
