@@ -133,9 +133,9 @@ abbrev pub SpellsNextBy : Keyword → ℕ → Bool → Bool → SyntaxError → 
 SpellsNextBy last depth load full error text x ts rest = SpellsEntry text last x ts rest × MayComeBy error depth load full x
 
 -- it leaves fewer tokens if it is an instruction
-abbrev pub Shortens : List Token → Entry → List Token → Type 0
-Shortens ts (entry.Step s) rest = length rest < length ts
-Shortens ts (entry.End labels place) rest = ⊤
+abbrev pub ShortensByStep : List Token → Entry → List Token → Type 0
+ShortensByStep ts (entry.Step s) rest = length rest < length ts
+ShortensByStep ts (entry.End labels place) rest = ⊤
 
 -- a word that ends a body
 abbrev pub IsLast : Keyword → Type 0

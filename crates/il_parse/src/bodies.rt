@@ -4,11 +4,11 @@ ghost use Rattle.std.specs.Prelude.{◌≡◌, ◌⊎◌, ◌<◌, ◌≤◌, le
 ghost use Rattle.il_spec.specs.Grammar.{loose, TheLineEnd, depth_after, needs_load, SpellsBody};
 ghost use Rattle.il_spec.specs.declared.keyword.Keyword.{Keyword};
 ghost use Rattle.il_read.specs.Lead.{lead_at};
-ghost use Rattle.il_read.specs.Reads.{Reads, RefusesBy, Eats, fault_at, Refuses};
+ghost use Rattle.il_read.specs.Reads.{Reads, RefusesBy, Eats, fault_at, Refuses, Shortens};
 ghost use Rattle.il_read.specs.declared.stop.SyntaxError.TheVariants.{Unexpected, TooMany};
 ghost use Rattle.il_read.specs.declared.stop.Stop.TheVariants.{Memory};
 ghost use Rattle.il_parse.specs.Ahead.{RefusesAheadBy, RefusesAhead};
-ghost use Rattle.il_parse.specs.Bodies.{closes_lead, leaves_lead, ends_lead, loads_lead, begins_lead, may_begin, SpellsPlaced, RefusesPlaced, HasLabels, TakesEnd, SpellsNext, SpellsNextBy, Shortens, IsLast, SpellsSteps, SpellsStepsBy, SpellsSmallBody, SpellsBodyBy};
+ghost use Rattle.il_parse.specs.Bodies.{closes_lead, leaves_lead, ends_lead, loads_lead, begins_lead, may_begin, SpellsPlaced, RefusesPlaced, HasLabels, TakesEnd, SpellsNext, SpellsNextBy, ShortensByStep, IsLast, SpellsSteps, SpellsStepsBy, SpellsSmallBody, SpellsBodyBy};
 ghost use Rattle.il_read.specs.declared.lead.Lead.TheVariants as begins;
 ghost use Rattle.il_parse.specs.GoesOn.{BreaksPlaced, BreaksFrom, BreaksSteps, BreaksWith};
 ghost use Rattle.il_parse.specs.Late.{EndsNone, LeavesRest, LeavesSteps, LeavesWith};
@@ -126,7 +126,7 @@ fn placed(
     ensures begins { IfErr result (λ e. (last : Keyword) → BreaksPlaced last depth load full
         source.now tokens.old e) }
     ensures late { IfErr result (λ e. EndsNone full source.now tokens.old e) }
-    ensures shorter { IfOk result (λ _. length tokens.new < length tokens.old) }
+    ensures shorter { Shortens tokens.old tokens.new result }
 {
     let Some(place) = tokens.place() else {
         return Err(tokens.outside());
@@ -214,7 +214,7 @@ fn outer(
         (SpellsNextBy last 0 load full) source.now tokens.old e) }
     ensures begins { IfErr result (λ e. BreaksFrom last 0 load full source.now tokens.old e) }
     ensures late { IfErr result (λ e. LeavesRest last 0 load full source.now tokens.old e) }
-    ensures shorter { IfOk result (λ x. Shortens tokens.old x tokens.new) }
+    ensures shorter { IfOk result (λ x. ShortensByStep tokens.old x tokens.new) }
 {
     let (labels, alone) = labels(source, tokens)?;
     let lead = source.lead(tokens);
@@ -247,7 +247,7 @@ fn next_entry(
         (SpellsNextBy last depth load full) source.now tokens.old e) }
     ensures begins { IfErr result (λ e. BreaksFrom last depth load full source.now tokens.old e) }
     ensures late { IfErr result (λ e. LeavesRest last depth load full source.now tokens.old e) }
-    ensures shorter { IfOk result (λ x. Shortens tokens.old x tokens.new) }
+    ensures shorter { IfOk result (λ x. ShortensByStep tokens.old x tokens.new) }
 {
     if depth == 0 {
         return outer(source, tokens, last, load, full);

@@ -1,10 +1,10 @@
 // Lists of variables (IEC 61131-3:2003, 2.4.3).
 
-ghost use Rattle.std.specs.Prelude.{◌≡◌, ◌<◌, ◌≤◌, length, IfOk, IfErr};
+ghost use Rattle.std.specs.Prelude.{◌<◌, IfOk, IfErr};
 ghost use Rattle.il_spec.specs.Grammar.{AfterLines, No, TheWord, SpellsDeclaration, SpellsExternal, SpellsList, SpellsFilledList, SpellsOptionalList, skip_line_ends};
 ghost use Rattle.il_spec.specs.declared.keyword.Keyword.TheVariants as word;
 ghost use Rattle.il_grammar_laws.specs.GoesOn.{always};
-ghost use Rattle.il_read.specs.Reads.{Reads, Refuses, Stands, Misses, Comes, BreaksOff, NamesFirst};
+ghost use Rattle.il_read.specs.Reads.{Reads, Refuses, Stands, Misses, Comes, BreaksOff, NamesFirst, Shortens};
 ghost use Rattle.il_read.specs.declared.stop.Stop.TheVariants.{Memory};
 ghost use Rattle.il_parse.specs.Ahead.{RefusesAhead, MissesAhead};
 ghost use Rattle.il_parse.specs.Lists.{SpellsFull, SpellsExternalsInside};
@@ -123,7 +123,7 @@ fn external(source: &Source, tokens: &mut Tokens) -> Result<Declaration, Stop>
     ensures reads { IfOk result (λ d. Reads (SpellsExternal source.now) tokens.old d tokens.new) }
     ensures refused { IfErr result (λ e. Refuses SpellsExternal source.now tokens.old e) }
     ensures begins { IfErr result (λ e. BreaksOff always SpellsExternal source.now tokens.old e) }
-    ensures shorter { IfOk result (λ _. length tokens.new < length tokens.old) }
+    ensures shorter { Shortens tokens.old tokens.new result }
 {
     let name = source.named(tokens)?;
     tokens.skip_lines();

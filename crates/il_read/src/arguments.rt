@@ -1,9 +1,9 @@
 // Arguments of calls, and operands of functions (IEC 61131-3:2003, 3.2.3).
 
-ghost use Rattle.std.specs.Prelude.{◌<◌, ◌≤◌, length, IfOk, IfErr};
+ghost use Rattle.std.specs.Prelude.{◌<◌, IfOk, IfErr};
 ghost use Rattle.il_spec.specs.Grammar.{SpellsArguments, SpellsOperands};
 ghost use Rattle.il_grammar_laws.specs.GoesOn.{always};
-ghost use Rattle.il_read.specs.Reads.{Reads, Refuses, SpellsCalled, SpellsInside, SpellsListed, SpellsOpened, BreaksOff};
+ghost use Rattle.il_read.specs.Reads.{Reads, Refuses, SpellsCalled, SpellsInside, SpellsListed, SpellsOpened, BreaksOff, Shortens};
 
 use crate::lead::Lead;
 use crate::source::Source;
@@ -19,7 +19,7 @@ impl<'t> Source<'t> {
         ensures reads { IfOk result (λ os. Reads (SpellsListed self.now) tokens.old os tokens.new) }
         ensures refused { IfErr result (λ e. Refuses SpellsListed self.now tokens.old e) }
         ensures begins { IfErr result (λ e. BreaksOff always SpellsListed self.now tokens.old e) }
-        ensures shorter { IfOk result (λ _. length tokens.new < length tokens.old) }
+        ensures shorter { Shortens tokens.old tokens.new result }
     {
         let mut operands = Items::new(self.alloc());
         'operands: loop {
@@ -38,7 +38,7 @@ impl<'t> Source<'t> {
             tokens.new) }
         ensures refused { IfErr result (λ e. Refuses SpellsOperands self.now tokens.old e) }
         ensures begins { IfErr result (λ e. BreaksOff always SpellsOperands self.now tokens.old e) }
-        ensures shorter { IfOk result (λ _. length tokens.new < length tokens.old) }
+        ensures shorter { Shortens tokens.old tokens.new result }
     {
         if let Lead::LineEnd = self.lead(tokens) {
             tokens.advance();
@@ -52,7 +52,7 @@ impl<'t> Source<'t> {
         ensures reads { IfOk result (λ xs. Reads (SpellsInside self.now) tokens.old xs tokens.new) }
         ensures refused { IfErr result (λ e. Refuses SpellsInside self.now tokens.old e) }
         ensures begins { IfErr result (λ e. BreaksOff always SpellsInside self.now tokens.old e) }
-        ensures shorter { IfOk result (λ _. length tokens.new < length tokens.old) }
+        ensures shorter { Shortens tokens.old tokens.new result }
     {
         let mut arguments = Items::new(self.alloc());
         'arguments: loop {
@@ -71,7 +71,7 @@ impl<'t> Source<'t> {
         ensures reads { IfOk result (λ xs. Reads (SpellsOpened self.now) tokens.old xs tokens.new) }
         ensures refused { IfErr result (λ e. Refuses SpellsOpened self.now tokens.old e) }
         ensures begins { IfErr result (λ e. BreaksOff always SpellsOpened self.now tokens.old e) }
-        ensures shorter { IfOk result (λ _. length tokens.new < length tokens.old) }
+        ensures shorter { Shortens tokens.old tokens.new result }
     {
         if self.eat_sign(tokens, Sign::CloseParenthesis) {
             self.line_end(tokens)?;
@@ -88,7 +88,7 @@ impl<'t> Source<'t> {
         ensures refused { IfErr result (λ e. Refuses SpellsArguments self.now tokens.old e) }
         ensures begins { IfErr result (λ e. BreaksOff always SpellsArguments self.now tokens.old
             e) }
-        ensures shorter { IfOk result (λ _. length tokens.new < length tokens.old) }
+        ensures shorter { Shortens tokens.old tokens.new result }
     {
         if !self.eat_sign(tokens, Sign::OpenParenthesis) {
             self.line_end(tokens)?;
@@ -103,7 +103,7 @@ impl<'t> Source<'t> {
         ensures reads { IfOk result (λ x. Reads (SpellsCalled self.now) tokens.old x tokens.new) }
         ensures refused { IfErr result (λ e. Refuses SpellsCalled self.now tokens.old e) }
         ensures begins { IfErr result (λ e. BreaksOff always SpellsCalled self.now tokens.old e) }
-        ensures shorter { IfOk result (λ _. length tokens.new < length tokens.old) }
+        ensures shorter { Shortens tokens.old tokens.new result }
     {
         let instance = self.named(tokens)?;
         let arguments = self.arguments(tokens)?;

@@ -7,7 +7,7 @@ ghost use Rattle.il_spec.specs.Grammar.{SomeName, TheText, TheWord, ADecimal, Sp
 ghost use Rattle.il_read.specs.declared.stop.Stop.TheVariants.{Memory};
 ghost use Rattle.il_read.specs.Lead.{lead_at};
 ghost use Rattle.il_grammar_laws.specs.GoesOn.{always};
-ghost use Rattle.il_read.specs.Reads.{Reads, Refuses, Stands, Misses, BreaksOff, NamesFirst};
+ghost use Rattle.il_read.specs.Reads.{Reads, Refuses, Stands, Misses, BreaksOff, NamesFirst, Shortens};
 ghost use Rattle.il_read.specs.Settings.{AnInterval, PlacedDecimal, FollowsColon, TakesLabel, TakesWord, SpellsSized, SpellsPriority, SpellsSchedule, SpellsTimes, SpellsProgramName, SpellsBound, SpellsWith, PlacedWord, StandsThere, SpellsFloors, SpellsThree, IsSizeWord};
 
 use crate::lead::Lead;
@@ -74,7 +74,7 @@ impl<'t> Source<'t> {
         ensures reads { IfOk result (λ u. Stands (SomeName self.now) tokens.old tokens.new) }
         ensures refused { IfErr result (λ e. Misses SomeName self.now tokens.old e) }
         ensures first { IfErr result (λ e. NamesFirst tokens.old e) }
-        ensures shorter { IfOk result (λ _. length tokens.new < length tokens.old) }
+        ensures shorter { Shortens tokens.old tokens.new result }
     {
         if let Lead::Name = self.lead(tokens) {
             tokens.advance();
@@ -90,7 +90,7 @@ impl<'t> Source<'t> {
         ensures refused { IfErr result (λ e. Misses
             (λ text. TheText text word.now) self.now tokens.old e) }
         ensures first { IfErr result (λ e. NamesFirst tokens.old e) }
-        ensures shorter { IfOk result (λ _. length tokens.new < length tokens.old) }
+        ensures shorter { Shortens tokens.old tokens.new result }
     {
         let Some(token) = tokens.first() else {
             return Err(tokens.outside());
@@ -110,7 +110,7 @@ impl<'t> Source<'t> {
         ensures reads { IfOk result (λ v. Reads (ADecimal self.now) tokens.old v tokens.new) }
         ensures refused { IfErr result (λ e. Refuses ADecimal self.now tokens.old e) }
         ensures first { IfErr result (λ e. NamesFirst tokens.old e) }
-        ensures shorter { IfOk result (λ _. length tokens.new < length tokens.old) }
+        ensures shorter { Shortens tokens.old tokens.new result }
     {
         let Some(token) = tokens.first() else {
             return Err(tokens.outside());
@@ -131,7 +131,7 @@ impl<'t> Source<'t> {
         ensures reads { IfOk result (λ v. Reads AnInterval tokens.old v tokens.new) }
         ensures refused { IfErr result (λ e. Refuses (λ text. AnInterval) self.now tokens.old e) }
         ensures first { IfErr result (λ e. NamesFirst tokens.old e) }
-        ensures shorter { IfOk result (λ _. length tokens.new < length tokens.old) }
+        ensures shorter { Shortens tokens.old tokens.new result }
     {
         let Lead::Typed(Literal::Time(value)) = self.lead(tokens) else {
             return Err(tokens.outside());
@@ -145,7 +145,7 @@ impl<'t> Source<'t> {
         ensures reads { IfOk result (λ s. Reads (PlacedDecimal self.now) tokens.old s tokens.new) }
         ensures refused { IfErr result (λ e. Refuses PlacedDecimal self.now tokens.old e) }
         ensures begins { IfErr result (λ e. BreaksOff always PlacedDecimal self.now tokens.old e) }
-        ensures shorter { IfOk result (λ _. length tokens.new < length tokens.old) }
+        ensures shorter { Shortens tokens.old tokens.new result }
     {
         let Some(place) = tokens.place() else {
             return Err(tokens.outside());
@@ -161,7 +161,7 @@ impl<'t> Source<'t> {
         ensures reads { IfOk result (λ s. Reads (SpellsSized self.now) tokens.old s tokens.new) }
         ensures refused { IfErr result (λ e. Refuses SpellsSized self.now tokens.old e) }
         ensures begins { IfErr result (λ e. BreaksOff always SpellsSized self.now tokens.old e) }
-        ensures shorter { IfOk result (λ _. length tokens.new < length tokens.old) }
+        ensures shorter { Shortens tokens.old tokens.new result }
     {
         self.word(tokens, Keyword::Elementary(Elementary::Int))?;
         tokens.skip_lines();
@@ -178,7 +178,7 @@ impl<'t> Source<'t> {
             (λ text. SpellsSize text word.now) self.now tokens.old e) }
         ensures begins { IsSizeWord word.now → IfErr result (λ e. BreaksOff always (λ text.
             SpellsSize text word.now) self.now tokens.old e) }
-        ensures shorter { IfOk result (λ _. length tokens.new < length tokens.old) }
+        ensures shorter { Shortens tokens.old tokens.new result }
     {
         self.plain_word(tokens, word)?;
         tokens.skip_lines();
@@ -192,7 +192,7 @@ impl<'t> Source<'t> {
         ensures reads { IfOk result (λ v. Reads (SpellsPriority self.now) tokens.old v tokens.new) }
         ensures refused { IfErr result (λ e. Refuses SpellsPriority self.now tokens.old e) }
         ensures begins { IfErr result (λ e. BreaksOff always SpellsPriority self.now tokens.old e) }
-        ensures shorter { IfOk result (λ _. length tokens.new < length tokens.old) }
+        ensures shorter { Shortens tokens.old tokens.new result }
     {
         self.word(tokens, Keyword::Priority)?;
         tokens.skip_lines();
@@ -211,7 +211,7 @@ impl<'t> Source<'t> {
         ensures reads { IfOk result (λ x. Reads (SpellsSchedule self.now) tokens.old x tokens.new) }
         ensures refused { IfErr result (λ e. Refuses SpellsSchedule self.now tokens.old e) }
         ensures begins { IfErr result (λ e. BreaksOff always SpellsSchedule self.now tokens.old e) }
-        ensures shorter { IfOk result (λ _. length tokens.new < length tokens.old) }
+        ensures shorter { Shortens tokens.old tokens.new result }
     {
         let interval = self.interval(tokens)?;
         tokens.skip_lines();
@@ -226,7 +226,7 @@ impl<'t> Source<'t> {
         ensures reads { IfOk result (λ x. Reads (SpellsTimes self.now) tokens.old x tokens.new) }
         ensures refused { IfErr result (λ e. Refuses SpellsTimes self.now tokens.old e) }
         ensures begins { IfErr result (λ e. BreaksOff always SpellsTimes self.now tokens.old e) }
-        ensures shorter { IfOk result (λ _. length tokens.new < length tokens.old) }
+        ensures shorter { Shortens tokens.old tokens.new result }
     {
         self.sign(tokens, Sign::OpenParenthesis)?;
         tokens.skip_lines();
@@ -244,7 +244,7 @@ impl<'t> Source<'t> {
         ensures refused { IfErr result (λ e. Refuses
             (λ text. PlacedWord text keyword) self.now tokens.old e) }
         ensures first { IfErr result (λ e. NamesFirst tokens.old e) }
-        ensures shorter { IfOk result (λ _. length tokens.new < length tokens.old) }
+        ensures shorter { Shortens tokens.old tokens.new result }
     {
         let Some(place) = tokens.place() else {
             return Err(tokens.outside());
@@ -265,7 +265,7 @@ impl<'t> Source<'t> {
         ensures reads { IfOk result (λ t. Reads (SpellsTask self.now) tokens.old t tokens.new) }
         ensures refused { IfErr result (λ e. Refuses SpellsTask self.now tokens.old e) }
         ensures begins { IfErr result (λ e. BreaksOff always SpellsTask self.now tokens.old e) }
-        ensures shorter { IfOk result (λ _. length tokens.new < length tokens.old) }
+        ensures shorter { Shortens tokens.old tokens.new result }
     {
         let place = self.placed_word(tokens, Keyword::Task)?;
         tokens.skip_lines();
@@ -282,7 +282,7 @@ impl<'t> Source<'t> {
         ensures refused { IfErr result (λ e. Refuses SpellsProgramName self.now tokens.old e) }
         ensures begins { IfErr result (λ e. BreaksOff always SpellsProgramName self.now tokens.old
             e) }
-        ensures shorter { IfOk result (λ _. length tokens.new < length tokens.old) }
+        ensures shorter { Shortens tokens.old tokens.new result }
     {
         let program = self.named(tokens)?;
         tokens.skip_lines();
@@ -294,7 +294,7 @@ impl<'t> Source<'t> {
         ensures reads { IfOk result (λ x. Reads (SpellsBound self.now) tokens.old x tokens.new) }
         ensures refused { IfErr result (λ e. Refuses SpellsBound self.now tokens.old e) }
         ensures begins { IfErr result (λ e. BreaksOff always SpellsBound self.now tokens.old e) }
-        ensures shorter { IfOk result (λ _. length tokens.new < length tokens.old) }
+        ensures shorter { Shortens tokens.old tokens.new result }
     {
         let task = self.named(tokens)?;
         tokens.skip_lines();
@@ -309,7 +309,7 @@ impl<'t> Source<'t> {
         ensures reads { IfOk result (λ x. Reads (SpellsWith self.now) tokens.old x tokens.new) }
         ensures refused { IfErr result (λ e. Refuses SpellsWith self.now tokens.old e) }
         ensures begins { IfErr result (λ e. BreaksOff always SpellsWith self.now tokens.old e) }
-        ensures shorter { IfOk result (λ _. length tokens.new < length tokens.old) }
+        ensures shorter { Shortens tokens.old tokens.new result }
     {
         self.word(tokens, Keyword::With)?;
         tokens.skip_lines();
@@ -323,7 +323,7 @@ impl<'t> Source<'t> {
         ensures refused { IfErr result (λ e. Refuses SpellsProgramLine self.now tokens.old e) }
         ensures begins { IfErr result (λ e. BreaksOff always SpellsProgramLine self.now tokens.old
             e) }
-        ensures shorter { IfOk result (λ _. length tokens.new < length tokens.old) }
+        ensures shorter { Shortens tokens.old tokens.new result }
     {
         let place = self.placed_word(tokens, Keyword::Program)?;
         tokens.skip_lines();
@@ -343,7 +343,7 @@ impl<'t> Source<'t> {
         ensures reads { IfOk result (λ x. Reads (SpellsFloors self.now) tokens.old x tokens.new) }
         ensures refused { IfErr result (λ e. Refuses SpellsFloors self.now tokens.old e) }
         ensures begins { IfErr result (λ e. BreaksOff always SpellsFloors self.now tokens.old e) }
-        ensures shorter { IfOk result (λ _. length tokens.new < length tokens.old) }
+        ensures shorter { Shortens tokens.old tokens.new result }
     {
         let floors = self.size(tokens, "FLOORS")?;
         tokens.skip_lines();
@@ -358,7 +358,7 @@ impl<'t> Source<'t> {
         ensures reads { IfOk result (λ x. Reads (SpellsThree self.now) tokens.old x tokens.new) }
         ensures refused { IfErr result (λ e. Refuses SpellsThree self.now tokens.old e) }
         ensures begins { IfErr result (λ e. BreaksOff always SpellsThree self.now tokens.old e) }
-        ensures shorter { IfOk result (λ _. length tokens.new < length tokens.old) }
+        ensures shorter { Shortens tokens.old tokens.new result }
     {
         self.word(tokens, Keyword::VarGlobal)?;
         tokens.skip_lines();
