@@ -4,7 +4,7 @@ ghost use Rattle.std.specs.Prelude.{ℕ, ◌≡◌, IfOk, IfErr, IsErrAnd, map};
 ghost use Rattle.il_spec.specs.declared.fault.Refusal.TheVariants.{Fault};
 ghost use Rattle.il_spec.specs.declared.tree.Config.{Config as ConfigOf};
 ghost use Rattle.il_spec.specs.declared.tree.Place.{Place};
-ghost use Rattle.il_rules.specs.Faults.{BreaksDeclarations, Broken, Typing, HasNoFault, IsRefusedBy};
+ghost use Rattle.il_rules.specs.Faults.{HasNoFault, IsRefusedBy};
 ghost use Rattle.il_rules.specs.Written.{IsWritten, IsNested};
 ghost use Rattle.il_run.specs.Annotation.{Annotated};
 ghost use Rattle.il_parse.specs.Refused.{IsFault};
@@ -17,7 +17,7 @@ ghost use Rattle.il_machine.specs.Sharing.{ArePlans};
 ghost use Rattle.lift_run_laws.specs.Runs.{RunsWell};
 ghost use Rattle.lift_load.specs.Loading.{IsSpelled, SpellsOnly, SpellsNone, IsUnbroken, IsAccepted, IsRefusedFor, IsSpelledWith, IsExplained, ReportsFaultOfText, ReportsFaultOfGrammar};
 
-use il_code::{Code, code};
+use il_code::code;
 use il_declare::declare;
 use il_fault_laws::one_fault_of_grammar;
 use il_machine::{Tables, Verified, tables_of};
@@ -26,7 +26,7 @@ use il_parse::{Written, parse};
 use il_spec::fault::Refusal;
 use il_spec::pair::both;
 use il_text::tokens;
-use il_typed::{Typed, typed};
+use il_typed::typed;
 use il_verify::{Budget, Checked, Path, budget, verify};
 use std::alloc::Global;
 
@@ -86,7 +86,19 @@ fn parsed(alloc: Global, text: &[u8]) -> Result<Written, Refusal>
     Ok(config)
 }
 
-// A configuration that a text spells, verified, or its first fault.
+// A configuration that breaks no rule of declarations, types and order, or the first that it breaks.
+fn in_order(alloc: Global, config: Written) -> Result<Ordered, Refusal>
+    ensures same { IfOk result (λ o. o ≡ config) }
+    ensures unbroken { IfOk result (λ _. IsUnbroken config) }
+    ensures refused { IfErr result (IsRefusedFor config) }
+    ensures broken { IsFault result → IsUnbroken config → ⊥ }
+{
+    let declared = declare(alloc, config)?;
+    let typed = typed(alloc, declared)?;
+    ordered(alloc, typed)
+}
+
+// A configuration that a text spells, verified, or its first fault: its order is checked, its code is made, ranges are found, and budgets.
 fn verified(alloc: Global, config: Written) -> Result<Verified, Refusal>
     ensures same { IfOk result (λ v. v.config ≡ config) }
     ensures unbroken { IfOk result (λ _. IsUnbroken config) }
@@ -95,7 +107,9 @@ fn verified(alloc: Global, config: Written) -> Result<Verified, Refusal>
     ensures costs { IfOk result (λ v. v.costs ≡ map (cost_of v.config) v.config.units) }
     ensures refused { IfErr result (IsRefusedFor config) }
 {
-    let checked = checked(alloc, config)?;
+    let ordered = in_order(alloc, config)?;
+    let code = code(alloc, ordered)?;
+    let checked = verify(alloc, code)?;
     affordable(alloc, checked)
 }
 
@@ -124,48 +138,4 @@ fn parts(alloc: Global, checked: &Checked) -> Result<(Budget, Path, Tables), Ref
     let found = budget(alloc, checked)?;
     let tables = tables_of(alloc, checked)?;
     Ok((found.0, found.1, tables))
-}
-
-// The code of a configuration each of whose instructions has ranges, or the first fault before.
-fn checked(alloc: Global, config: Written) -> Result<Checked, Refusal>
-    ensures same { IfOk result (λ k. k ≡ config) }
-    ensures unbroken { IfOk result (λ _. IsUnbroken config) }
-    ensures annotated { IfOk result (λ _. Annotated config) }
-    ensures refused { IfErr result (IsRefusedFor config) }
-{
-    let code = coded(alloc, config)?;
-    verify(alloc, code)
-}
-
-// The code of a configuration that breaks no rule of declarations, types and order, or the first that it breaks.
-fn coded(alloc: Global, config: Written) -> Result<Code, Refusal>
-    ensures same { IfOk result (λ k. k ≡ config) }
-    ensures unbroken { IfOk result (λ _. IsUnbroken config) }
-    ensures refused { IfErr result (IsRefusedFor config) }
-{
-    let ordered = in_order(alloc, config)?;
-    code(alloc, ordered)
-}
-
-// A configuration that breaks no rule of declarations, types and order, or the first that it breaks.
-fn in_order(alloc: Global, config: Written) -> Result<Ordered, Refusal>
-    ensures same { IfOk result (λ o. o ≡ config) }
-    ensures unbroken { IfOk result (λ _. IsUnbroken config) }
-    ensures refused { IfErr result (IsRefusedFor config) }
-    ensures broken { IsFault result → IsUnbroken config → ⊥ }
-{
-    let typed = well_typed(alloc, config)?;
-    ordered(alloc, typed)
-}
-
-// A configuration that breaks no rule of declarations and types, or the first that it breaks.
-fn well_typed(alloc: Global, config: Written) -> Result<Typed, Refusal>
-    ensures same { IfOk result (λ t. t ≡ config) }
-    ensures declared { IfOk result (λ _. HasNoFault (BreaksDeclarations config)) }
-    ensures typed { IfOk result (λ _. HasNoFault (Broken Typing config)) }
-    ensures refused { IfErr result (IsRefusedFor config) }
-    ensures broken { IsFault result → IsUnbroken config → ⊥ }
-{
-    let declared = declare(alloc, config)?;
-    typed(alloc, declared)
 }
