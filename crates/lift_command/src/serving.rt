@@ -1,7 +1,8 @@
 // `serve`: a configuration behind lines.
 
 ghost use Rattle.std.specs.Prelude.{◌≡◌, ◌++◌, Some, None, true, IfOk, OnOk, OnErr};
-ghost use Rattle.lift_host.specs.Messages.{message_of, status_of};
+ghost use Rattle.lift_host.specs.Messages.{message_of, status_of, line_fault_number};
+ghost use Rattle.lift_host.specs.declared.status.Fault.TheVariants.{Refused as RefusedLine};
 ghost use Rattle.lift_shell.specs.Runs.{IsExplained};
 ghost use Rattle.lift_host.specs.Writes.{Writes};
 ghost use Rattle.lift_host.specs.declared.serving.Tracing.{Tracing as TracingOf};
@@ -13,7 +14,7 @@ use il_reasons::reason;
 use lift_host::files::{Cause, ReadFault, TextFiles};
 use lift_host::serving::{Serving, Tracing};
 use lift_host::sink::{Sink, SinkFault};
-use lift_host::status::{Fault, Status};
+use lift_host::status::{Fault, LineFault, Status};
 use lift_messages::place::text_below;
 use lift_messages::show::tell;
 use lift_serve::group::{Halt, serve_group};
@@ -228,13 +229,24 @@ fn shown_line(line: u64) -> u32
     }
 }
 
+// A line of the input that is refused.
+fn refused(why: LineFault, line: u32) -> Fault
+    ensures { result ≡ RefusedLine (line_fault_number why) line }
+{
+    Fault::Refused {
+        number: why.number(),
+        line,
+    }
+}
+
+// The fault of a stop.
 fn fault_of_stop(stop: Stop, line: u32) -> Fault
     ensures { result ≡ fault_of_stop stop line }
 {
     match stop {
         Stop::Line(fault) => fault_of_line(fault, line),
         Stop::Input(came) => fault_of_input(came, line),
-        Stop::Lines => Fault::Refused { number: 70, line },
+        Stop::Lines => refused(LineFault::Full, line),
     }
 }
 
@@ -247,7 +259,7 @@ fn fault_of_line(fault: ServeFault, line: u32) -> Fault
         ServeFault::Trace => Fault::CannotWrite,
         ServeFault::Output => Fault::CannotWrite,
         ServeFault::Memory => Fault::NoMemory,
-        ServeFault::Full => Fault::Refused { number: 70, line },
+        ServeFault::Full => refused(LineFault::Full, line),
     }
 }
 
@@ -256,8 +268,8 @@ fn fault_of_wrong(why: WrongLine, line: u32) -> Fault
     ensures { result ≡ fault_of_wrong why line }
 {
     match why {
-        WrongLine::NoLine => Fault::Refused { number: 80, line },
-        WrongLine::OutOfRange => Fault::Refused { number: 60, line },
+        WrongLine::NoLine => refused(LineFault::BadLine, line),
+        WrongLine::OutOfRange => refused(LineFault::OutOfRange, line),
     }
 }
 
@@ -266,9 +278,9 @@ fn fault_of_input(came: Came, line: u32) -> Fault
     ensures { result ≡ fault_of_input came line }
 {
     match came {
-        Came::Whole => Fault::Refused { number: 81, line },
-        Came::Ended => Fault::Refused { number: 81, line },
-        Came::TooLong => Fault::Refused { number: 80, line },
+        Came::Whole => refused(LineFault::Truncated, line),
+        Came::Ended => refused(LineFault::Truncated, line),
+        Came::TooLong => refused(LineFault::BadLine, line),
         Came::Failed => Fault::CannotRead(Cause::Other),
     }
 }

@@ -16,6 +16,8 @@ use Rattle.lift_host.specs.declared.status.Status.{Status}
 use Rattle.lift_host.specs.declared.status.Status.TheVariants as status
 use Rattle.lift_host.specs.declared.status.ScanFault.{ScanFault}
 use Rattle.lift_host.specs.declared.status.ScanFault.TheVariants.{Task, Round, Line, Uncommitted, UncommittedInRound}
+use Rattle.lift_host.specs.declared.status.LineFault.{LineFault}
+use Rattle.lift_host.specs.declared.status.LineFault.TheVariants.{OutOfRange, Full, BadLine, Truncated, BadCall, TooManyCalls}
 use Rattle.lift_host.specs.declared.status.Fault.{Fault}
 use Rattle.lift_host.specs.declared.status.Fault.TheVariants.{Misuse, RefusedText, Refused, BadPress, TooManyPresses, BadFire, BadSpan, BadScan, BadName, CannotRead, CannotWrite, NoMemory}
 
@@ -26,6 +28,15 @@ code_of status.Refused = 2
 code_of status.CannotRead = 3
 code_of status.CannotWrite = 3
 code_of status.NoMemory = 4
+
+-- the number of a line's fault
+abbrev pub line_fault_number : LineFault → ℕ
+line_fault_number OutOfRange = 60
+line_fault_number Full = 70
+line_fault_number BadLine = 80
+line_fault_number Truncated = 81
+line_fault_number BadCall = 83
+line_fault_number TooManyCalls = 84
 
 -- the status of a fault
 abbrev pub status_of : Fault → Status

@@ -3,7 +3,7 @@
 ghost use Rattle.std.specs.Prelude.{◌≡◌, ◌++◌, true, OnOk, OnErr, decimal};
 ghost use Rattle.std.specs.Io.KnownBytes.{Appends};
 ghost use Rattle.lift_host.specs.Writes.{AppendsFront};
-ghost use Rattle.lift_host.specs.Messages.{message_of, scan_sentence, status_of, code_of};
+ghost use Rattle.lift_host.specs.Messages.{message_of, scan_sentence, line_fault_number, status_of, code_of};
 
 use crate::files::{Cause, ReadFault};
 use crate::press::PressFault;
@@ -12,6 +12,7 @@ use il_spec::fault::Refusal;
 use il_spec::tree::Place;
 use itoa::Buffer;
 use std::alloc::AllocError;
+use thiserror::Error;
 
 /// How a program ends.
 #[derive(Clone, Copy)]
@@ -54,6 +55,39 @@ impl ScanFault {
             ScanFault::Line => "no line: a number from 1 to 65535",
             ScanFault::Uncommitted => "the trace commits no scan of this task",
             ScanFault::UncommittedInRound => "the trace commits no scan of the task in this round",
+        }
+    }
+}
+
+/// Why a line of `serve`'s input, of a trace or of a file of calls is refused (own rules). What an event breaks has numbers of its own.
+#[derive(Clone, Copy, Debug, Error)]
+pub enum LineFault {
+    #[error("a field is out of its range")]
+    OutOfRange,
+    #[error("no more lines or events can be counted")]
+    Full,
+    #[error("this is no line of a trace, or of `serve`'s input")]
+    BadLine,
+    #[error("the lines end too early")]
+    Truncated,
+    #[error("this is no line of a file of calls")]
+    BadCall,
+    #[error("a file of calls has too many lines or bytes")]
+    TooManyCalls,
+}
+
+impl LineFault {
+    /// The number that is printed.
+    pub fn number(self) -> u16
+        ensures { result ≡ line_fault_number self }
+    {
+        match self {
+            LineFault::OutOfRange => 60,
+            LineFault::Full => 70,
+            LineFault::BadLine => 80,
+            LineFault::Truncated => 81,
+            LineFault::BadCall => 83,
+            LineFault::TooManyCalls => 84,
         }
     }
 }

@@ -10,6 +10,8 @@ ghost use Rattle.lift_output.specs.Parts.{fault_of_trace, fault_of_calls, IsTrac
 ghost use Rattle.lift_runs.specs.Driven.{ArePressed, AreSettings, switches_in};
 ghost use Rattle.lift_host.specs.CallsFile.{AreCallsOf};
 ghost use Rattle.lift_host.specs.Requests.{command_of, words_of};
+ghost use Rattle.lift_host.specs.Messages.{line_fault_number};
+ghost use Rattle.lift_host.specs.declared.status.Fault.TheVariants.{Refused as RefusedLine};
 ghost use Rattle.lift_watch.specs.Names.{upper_case};
 ghost use Rattle.lift_spec.specs.EventFaults.{event_fault_number};
 ghost use Rattle.lift_workers.specs.Panels.{IsPressAt};
@@ -33,7 +35,7 @@ use lift_host::press::{Press, Set, Setting, fire_round, presses};
 use lift_host::request::{
     Checked, Following, Name, Named, Request, Rounds, Showing, Simulating, Traced, Words,
 };
-use lift_host::status::Fault;
+use lift_host::status::{Fault, LineFault};
 use lift_journeys::lines::lines_text;
 use lift_journeys::log::Log;
 use lift_journeys::summary::summary_text;
@@ -211,13 +213,23 @@ fn fire_of(alloc: Global, word: Option<&str>, rounds: u16) -> Result<Option<u16>
     }
 }
 
+// A line of a file that is refused.
+fn refused(why: LineFault, line: u32) -> Fault
+    ensures { result ≡ RefusedLine (line_fault_number why) line }
+{
+    Fault::Refused {
+        number: why.number(),
+        line,
+    }
+}
+
 // What is wrong with a file of presses and settings.
 fn fault_of_calls(fault: CallsFault) -> Fault
     ensures { result ≡ fault_of_calls fault }
 {
     match fault {
-        CallsFault::BadLine { line } => Fault::Refused { number: 83, line },
-        CallsFault::TooMany { line } => Fault::Refused { number: 84, line },
+        CallsFault::BadLine { line } => refused(LineFault::BadCall, line),
+        CallsFault::TooMany { line } => refused(LineFault::TooManyCalls, line),
         CallsFault::Memory => Fault::NoMemory,
     }
 }
@@ -535,8 +547,8 @@ fn fault_of(fault: TraceFault) -> Fault
     ensures { result ≡ fault_of_trace fault }
 {
     match fault {
-        TraceFault::BadLine { line } => Fault::Refused { number: 80, line },
-        TraceFault::Truncated { line } => Fault::Refused { number: 81, line },
+        TraceFault::BadLine { line } => refused(LineFault::BadLine, line),
+        TraceFault::Truncated { line } => refused(LineFault::Truncated, line),
         TraceFault::Write => unreachable!(),
         TraceFault::Memory => Fault::NoMemory,
     }
