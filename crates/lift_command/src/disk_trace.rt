@@ -71,10 +71,10 @@ impl<R: Files> TraceSink for DiskTrace<'_, R> {
     }
 }
 
-// A new file. With `sync` its entry in its folder is on the disk.
+// A new file, at whose end all is written, whoever cuts it meanwhile. With `sync` its entry in its folder is on the disk.
 fn created<R: Files>(rt: &R, name: &str, sync: bool) -> io::Result<R::File> {
     let mut how = OpenOptions::new();
-    how.write(true);
+    how.append(true);
     how.create_new(true);
     let file = how.open(rt, name)?;
     if sync {

@@ -21,6 +21,7 @@ use lift_messages::show::tell;
 use lift_shell::entry::{keep_freed_memory, words};
 use lift_shell::run::{is_wanted, run, run_alone};
 use std::alloc::Global;
+use std::fs::File;
 use std::io::{BufReader, IsTerminal, Read};
 use std::process::ExitCode;
 use std::sync::Wait;
@@ -141,6 +142,11 @@ fn ends_with<E: Sink>(fault: &Fault, err: &mut E) -> Status
 /// wait for them. Faults are explained where the standard error is a terminal.
 pub fn main<R: Threads + Wait + Sync>(rt: &HostRuntime, threads: &R) -> ExitCode {
     keep_freed_memory(rt);
+    // A standard stream that is closed becomes the root folder, which can be neither read nor written. So no file that is opened later, as
+    // TRACE, takes its place, and what is written to the stream fails.
+    let _first = File::open(rt, "/");
+    let _second = File::open(rt, "/");
+    let _third = File::open(rt, "/");
     let mut out = Stream::new(rt.stdout());
     let mut err = Stream::new(rt.stderr());
     let status = match process_words(rt, threads, &mut out, &mut err) {

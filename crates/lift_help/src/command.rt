@@ -167,14 +167,35 @@ fn explained(words: &[String]) -> Option<&'static str>
     }
 }
 
-// What the parser says of words.
+// What the parser says of words, in which it finds no control character to hand on.
 fn parser_answer(alloc: Global, words: &[String]) -> Answer
     ensures { IsAskedFor (map string_bytes words.now) result }
 {
-    match error_in(alloc, words) {
+    match printed_error(alloc, words) {
         Ok(error) => answer_to(alloc, words, error),
         Err(_) => Answer::NoMemory,
     }
+}
+
+fn printed_error(alloc: Global, words: &[String]) -> Result<clap::Error, AllocError> {
+    let mut printed = Vec::new(alloc);
+    'words: for word in words {
+        printed.push(printed_word(alloc, word)?)?;
+    }
+    error_in(alloc, &printed)
+}
+
+// A word with `?` for each control character.
+fn printed_word(alloc: Global, word: &str) -> Result<String, AllocError> {
+    let mut printed = String::new(alloc);
+    'characters: for character in word.chars() {
+        printed.push(if character.is_control() {
+            '?'
+        } else {
+            character
+        })?;
+    }
+    Ok(printed)
 }
 
 /// What the program prints of words that ask for no file.

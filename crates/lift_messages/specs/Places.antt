@@ -1,5 +1,5 @@
 -- What is shown below a refusal (own rules).
-use Rattle.std.specs.Prelude.{◌≡◌, ◌⊎◌, Contains, ℕ, zero, suc, ◌+◌, ◌-◌, min, max, ◌&&◌, ◌||◌, ◌==◌, Bool, List, [], ◌∷◌, ◌++◌, length, map, take, drop, replicate, nat_le, if◌then◌else◌, codes, decimal}
+use Rattle.std.specs.Prelude.{◌≡◌, ◌⊎◌, Contains, ℕ, zero, suc, ◌+◌, ◌-◌, min, max, ◌&&◌, ◌||◌, ◌==◌, Bool, List, [], ◌∷◌, ◌++◌, length, map, take, drop, replicate, nat_le, nat_lt, if◌then◌else◌, codes, decimal}
 use Rattle.std.specs.List.{prefix_len}
 use Rattle.il_spec.specs.declared.tree.Place.{Place}
 use Rattle.il_spec.specs.Text.{is_literal_byte}
@@ -37,6 +37,19 @@ is_blank byte = byte == 9 || byte == 13
 abbrev pub shown : ℕ → ℕ
 shown byte = if nat_le 32 byte && nat_le byte 126 then byte else if is_blank byte then 32 else 63
 
+-- a byte of a name as it is shown, by the one before it: `?` for a control character, of those from U+0080 to U+009F for its second byte
+abbrev pub name_byte : ℕ → ℕ → ℕ
+name_byte before byte = if nat_lt byte 32 || byte == 127 || (before == 194 && nat_lt byte 160) then 63 else byte
+
+-- the bytes of a name as they are shown, after another byte
+abbrev pub name_behind : ℕ → List ℕ → List ℕ
+name_behind before [] = []
+name_behind before (byte ∷ bytes) = name_byte before byte ∷ name_behind byte bytes
+
+-- a name as it is shown, whole and in one line
+abbrev pub shown_name : List ℕ → List ℕ
+shown_name name = name_behind 0 name
+
 -- the first 200 bytes of a line
 abbrev pub quoted : List ℕ → List ℕ
 quoted line = map shown (take 200 line)
@@ -61,11 +74,11 @@ mark front back = replicate (length front - left_out (length front)) 32 ++ repli
 
 -- `NAME:LINE: `
 abbrev pub place_text : List ℕ → ℕ → List ℕ
-place_text name line = name ++ (codes ":" ++ (decimal line ++ codes ": "))
+place_text name line = shown_name name ++ (codes ":" ++ (decimal line ++ codes ": "))
 
 -- `NAME:LINE:COLUMN: `
 abbrev pub column_text : List ℕ → ℕ → ℕ → List ℕ
-column_text name line column = name ++ (codes ":" ++ (decimal line ++ (codes ":" ++ (decimal column ++ codes ": "))))
+column_text name line column = shown_name name ++ (codes ":" ++ (decimal line ++ (codes ":" ++ (decimal column ++ codes ": "))))
 
 -- a title; nothing, of a number that has no meaning
 abbrev pub IsTitle : ℕ → List ℕ → Type 0

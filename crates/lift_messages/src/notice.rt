@@ -3,7 +3,7 @@
 ghost use Rattle.std.specs.Prelude.{◌≡◌, IfOk};
 ghost use Rattle.lift_messages.specs.Notices.{word_notice, file_notice, plain_notice};
 
-use crate::place::put_quoted;
+use crate::place::{put_name, put_quoted};
 use std::alloc::{AllocError, Global};
 
 /// What is wrong with a word of the command line.
@@ -23,7 +23,7 @@ pub fn file_notice(alloc: Global, name: &str, sentence: &str) -> Result<Vec<u8>,
     ensures { IfOk result (λ text. text.items ≡ file_notice name.now sentence.now) }
 {
     let mut text = Vec::new(alloc);
-    text.extend_from_slice(name.as_bytes())?;
+    put_name(&mut text, name)?;
     text.extend_from_slice(b": ")?;
     text.extend_from_slice(sentence.as_bytes())?;
     text.extend_from_slice(b"\n")?;

@@ -1,7 +1,7 @@
 // The place of a fault, as it is shown below a refusal.
 
 ghost use Rattle.std.specs.Prelude.{◌≡◌, ◌++◌, ℕ, List, map, codes, IfOk, OnOk};
-ghost use Rattle.lift_messages.specs.Places.{IsTitle, IsMore, IsShownBelow, IsTextShownBelow, more_text, place_text, column_text, shown, quoted};
+ghost use Rattle.lift_messages.specs.Places.{IsTitle, IsMore, IsShownBelow, IsTextShownBelow, more_text, place_text, column_text, shown, shown_name, name_behind, name_byte, quoted};
 
 use crate::lines::{line_around, line_at};
 use crate::mark::{put_line, put_mark};
@@ -62,7 +62,7 @@ fn put_place(to: &mut Vec<u8>, name: &str, line: u32) -> Result<(), AllocError>
     ensures { OnOk result (to.new.items ≡ to.old.items ++ place_text name.now line) }
 {
     let mut digits = Buffer::new();
-    to.extend_from_slice(name.as_bytes())?;
+    put_name(to, name)?;
     to.extend_from_slice(b":")?;
     to.extend_from_slice(digits.format(line).as_bytes())?;
     to.extend_from_slice(b": ")
@@ -74,12 +74,42 @@ fn put_column(to: &mut Vec<u8>, name: &str, line: u32, column: usize) -> Result<
 {
     let mut lines = Buffer::new();
     let mut columns = Buffer::new();
-    to.extend_from_slice(name.as_bytes())?;
+    put_name(to, name)?;
     to.extend_from_slice(b":")?;
     to.extend_from_slice(lines.format(line).as_bytes())?;
     to.extend_from_slice(b":")?;
     to.extend_from_slice(columns.format(column).as_bytes())?;
     to.extend_from_slice(b": ")
+}
+
+/// The name of a file, whole and in one line: with `?` for each control character.
+pub(crate) fn put_name(to: &mut Vec<u8>, name: &str) -> Result<(), AllocError>
+    ensures { OnOk result (to.new.items ≡ to.old.items ++ shown_name name.now) }
+{
+    put_name_bytes(to, name.as_bytes())
+}
+
+// The bytes of a name.
+fn put_name_bytes(to: &mut Vec<u8>, bytes: &[u8]) -> Result<(), AllocError>
+    ensures { OnOk result (to.new.items ≡ to.old.items ++ name_behind 0 bytes.now) }
+{
+    let mut before = 0;
+    'bytes: for byte in bytes {
+        to.push(name_byte(before, *byte))?;
+        before = *byte;
+    }
+    Ok(())
+}
+
+// A byte of a name, by the one before it.
+fn name_byte(before: u8, byte: u8) -> u8
+    ensures { result ≡ name_byte before byte }
+{
+    if byte < 32 || byte == 127 || (before == 194 && byte < 160) {
+        b'?'
+    } else {
+        byte
+    }
 }
 
 // What the number means.

@@ -80,14 +80,34 @@ argument_text values path instance enters (Input word operand) = named_text valu
 argument_text values path instance true (Output word target) = []
 argument_text values path instance false (Output word target) = output_text values path instance word.name target.name
 
+-- so many of what a call hands over are shown
+abbrev pub most_shown : ℕ
+most_shown = 32
+
+-- a mark where more are left out
+abbrev pub rest_text : ℕ → List ℕ
+rest_text count = if nat_lt most_shown count then codes " .." else []
+
+-- what goes into a call by its arguments, and out of it where no body is entered
+abbrev pub arguments_text : Values → Text → Text → Bool → List Argument → List ℕ
+arguments_text values path instance enters arguments = flat_map (argument_text values path instance enters) (take most_shown arguments) ++ rest_text (length arguments)
+
+-- what goes out of a call by its arguments
+abbrev pub outs_text : Values → Text → Text → List Argument → List ℕ
+outs_text values path instance arguments = flat_map (out_text values path instance) (take most_shown arguments) ++ rest_text (length arguments)
+
+-- what the operands of a function name
+abbrev pub operands_text : Values → Text → List Operand → List ℕ
+operands_text values path operands = flat_map (λ (o : Operand). reference_text values path o.reference) (take most_shown operands) ++ rest_text (length operands)
+
 -- what is named by an instruction of a body at a path
 abbrev pub instruction_text : Values → Text → Bool → Instruction → List ℕ
 instruction_text values path enters (Load negated operand) = reference_text values path operand.reference
 instruction_text values path enters (Store store target) = reference_text values path target.reference
 instruction_text values path enters (Operate operator operand) = reference_text values path operand.reference
 instruction_text values path enters (Defer operator (Some first)) = reference_text values path first.reference
-instruction_text values path enters (Call condition instance arguments) = flat_map (argument_text values path instance.name enters) arguments
-instruction_text values path enters (Invoke function operands) = flat_map (λ (o : Operand). reference_text values path o.reference) operands
+instruction_text values path enters (Call condition instance arguments) = arguments_text values path instance.name enters arguments
+instruction_text values path enters (Invoke function operands) = operands_text values path operands
 instruction_text values path enters _ = []
 
 abbrev pub step_text : Values → Text → Bool → Option Step → List ℕ
@@ -96,7 +116,7 @@ step_text values path enters (Some s) = instruction_text values path enters s.in
 
 -- what goes out of the body that a step leaves, by the instruction that called it
 abbrev pub call_text : Values → Text → Instruction → List ℕ
-call_text values path (Call condition instance arguments) = flat_map (out_text values path instance.name) arguments
+call_text values path (Call condition instance arguments) = outs_text values path instance.name arguments
 call_text values path _ = []
 
 abbrev pub left_by : Values → Text → Option Step → List ℕ

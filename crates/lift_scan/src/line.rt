@@ -1,11 +1,11 @@
 // The line of a step.
 
-ghost use Rattle.std.specs.Prelude.{◌≡◌, ◌≤◌, flat_map, length, map, option_copied, option_map, replicate, OnOk};
+ghost use Rattle.std.specs.Prelude.{◌≡◌, ◌≤◌, flat_map, length, map, option_copied, option_map, replicate, take, OnOk};
 ghost use Rattle.std.specs.List.{prefix_len};
 ghost use Rattle.base_texts.specs.Puts.{Puts};
 ghost use Rattle.lift_messages.specs.Places.{shown};
 ghost use Rattle.lift_scan.specs.Stands.{of_stand, reference_text};
-ghost use Rattle.lift_scan.specs.Lines.{is_within_line, shown_front, source_text, front_text, results_text, of_before, out_text, output_text, argument_text, instruction_text, step_text, call_text, left_by, left_text, names_text, line_text};
+ghost use Rattle.lift_scan.specs.Lines.{is_within_line, shown_front, source_text, front_text, results_text, of_before, most_shown, rest_text, out_text, outs_text, output_text, argument_text, arguments_text, operands_text, instruction_text, step_text, call_text, left_by, left_text, names_text, line_text};
 
 use crate::before::Before;
 use crate::values::{put_member, put_reference, put_result, put_variable};
@@ -16,6 +16,9 @@ use std::alloc::{AllocError, Global};
 
 // The most bytes of a line that are shown.
 const MOST_BYTES: usize = 60;
+
+// The most of what a call hands over that are shown.
+const MOST_SHOWN: usize = 32;
 
 /// The line of a step: where it stands, the current result before and behind it, and what it names, as it stands behind it.
 pub fn put_line(
@@ -168,7 +171,7 @@ fn put_call(
     else {
         return Ok(());
     };
-    put_outs(
+    put_first_outs(
         alloc,
         text,
         view,
@@ -178,7 +181,41 @@ fn put_call(
     )
 }
 
-// What goes out of a call by its arguments.
+// The first of what a call hands over, as many as are shown.
+fn first_shown<T>(items: &[T]) -> &[T]
+    ensures { result.now ≡ take most_shown items.now }
+{
+    let (first, _) = items.split_at(items.len().min(MOST_SHOWN));
+    first
+}
+
+// The mark where more of so many are left out.
+fn put_rest(text: &mut String, count: usize) -> Result<(), AllocError>
+    ensures { OnOk result (Puts text.old text.new (rest_text count)) }
+{
+    if count > MOST_SHOWN {
+        text.push_str(" ..")?;
+    }
+    Ok(())
+}
+
+// What goes out of a call by its arguments, as far as it is shown.
+fn put_first_outs(
+    alloc: Global,
+    text: &mut String,
+    view: &View<'_>,
+    path: &str,
+    instance: &str,
+    arguments: &[Argument],
+) -> Result<(), AllocError>
+    ensures { OnOk result (Puts text.old text.new
+        (outs_text view.now.state.values path.now instance.now arguments.now)) }
+{
+    put_outs(alloc, text, view, path, instance, first_shown(arguments))?;
+    put_rest(text, arguments.len())
+}
+
+// What goes out of a call by arguments.
 fn put_outs(
     alloc: Global,
     text: &mut String,
@@ -287,7 +324,7 @@ fn put_instruction(
             instance,
             arguments,
             ..
-        } => put_arguments(
+        } => put_first_arguments(
             alloc,
             text,
             view,
@@ -297,13 +334,31 @@ fn put_instruction(
             arguments.as_slice(),
         ),
         Instruction::Invoke { operands, .. } => {
-            put_operands(alloc, text, view, path, operands.as_slice())
+            put_first_operands(alloc, text, view, path, operands.as_slice())
         }
         _ => Ok(()),
     }
 }
 
-// What goes into a call, and out of it where no body is entered.
+// What goes into a call, and out of it where no body is entered, as far as it is shown.
+fn put_first_arguments(
+    alloc: Global,
+    text: &mut String,
+    view: &View<'_>,
+    path: &str,
+    instance: &str,
+    enters: bool,
+    arguments: &[Argument],
+) -> Result<(), AllocError>
+    ensures { OnOk result (Puts text.old text.new
+        (arguments_text view.now.state.values path.now instance.now enters arguments.now)) }
+{
+    let first = first_shown(arguments);
+    put_arguments(alloc, text, view, path, instance, enters, first)?;
+    put_rest(text, arguments.len())
+}
+
+// What goes into a call by arguments, and out of it where no body is entered.
 fn put_arguments(
     alloc: Global,
     text: &mut String,
@@ -323,7 +378,22 @@ fn put_arguments(
     Ok(())
 }
 
-// What the operands of a function name.
+// What the operands of a function name, as far as it is shown.
+fn put_first_operands(
+    alloc: Global,
+    text: &mut String,
+    view: &View<'_>,
+    path: &str,
+    operands: &[Operand],
+) -> Result<(), AllocError>
+    ensures { OnOk result (Puts text.old text.new
+        (operands_text view.now.state.values path.now operands.now)) }
+{
+    put_operands(alloc, text, view, path, first_shown(operands))?;
+    put_rest(text, operands.len())
+}
+
+// What operands name.
 fn put_operands(
     alloc: Global,
     text: &mut String,
