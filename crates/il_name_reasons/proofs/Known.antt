@@ -14,6 +14,7 @@ use Rattle.il_scope.specs.declared.entry.ImageName.{ImageName as ImageEntry}
 use Rattle.il_scope.specs.declared.image.ImageRow.{ImageRow}
 use Rattle.il_scope.specs.Images.{named, image_entries}
 use Rattle.il_scope.specs.Views.{image_entry}
+use Rattle.il_name_reasons.specs.declared.names_known.Word.{Word}
 use Rattle.il_name_reasons.specs.NamesNear.{predeclared_name}
 use Rattle.il_name_reasons.specs.NamesKnown.{seen_image, images_near}
 
@@ -32,3 +33,7 @@ functions_of_rows rows is = sym (map-map (λ (f : Spelling × StandardFunction).
 -- the standard blocks of the table
 pub blocks_of_rows : (rows : List NamedBlock) → map named_block rows ≡ standard_blocks → map (λ (b : NamedBlock). predeclared_name b.name.now) rows ≡ map (λ b. predeclared_name b.0) standard_blocks
 blocks_of_rows rows is = sym (map-map (λ (b : Spelling × StandardBlock). predeclared_name b.0) named_block rows) ∙ ap (map (λ (b : Spelling × StandardBlock). predeclared_name b.0)) is
+
+-- the words of a table
+pub words_of_rows : (rows : List Word) (words : List Spelling) → map (λ (w : Word). w.text.now) rows ≡ words → map (λ (w : Word). predeclared_name w.text.now) rows ≡ map predeclared_name words
+words_of_rows rows words is = sym (map-map predeclared_name (λ (w : Word). w.text.now) rows) ∙ ap (map predeclared_name) is

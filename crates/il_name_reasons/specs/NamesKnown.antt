@@ -1,5 +1,5 @@
 -- The names that could have been meant (own rules).
-use Rattle.std.specs.Prelude.{if◌then◌else◌, List, [], ◌∷◌, ◌++◌, map, flat_map, is_some}
+use Rattle.std.specs.Prelude.{if◌then◌else◌, List, [], ◌∷◌, ◌++◌, map, flat_map, is_some, codes}
 use Rattle.il_spec.specs.declared.tree.Config.{Config}
 use Rattle.il_spec.specs.declared.tree.Unit.{Unit as ProgramUnit}
 use Rattle.il_rules.specs.Names.{Spelling, ImageName, image_of, variable_named, is_function, is_function_block, standard_functions, standard_blocks}
@@ -34,10 +34,24 @@ variables_near config unit =
     ++ (map declared_name (unit_names unit)
     ++ (globals_near config ++ images_near config unit))
 
--- the functions, own ones first
-abbrev pub functions_near : Config → List Known
-functions_near config = flat_map own_function config.units ++ map (λ f. predeclared_name f.0) standard_functions
+-- the words of the elementary types (2.3.1)
+unfoldable pub type_words : List Spelling
+type_words =
+    codes "BOOL" ∷ codes "SINT" ∷ codes "INT" ∷ codes "DINT" ∷ codes "USINT" ∷ codes "UINT" ∷ codes "UDINT" ∷ codes "TIME" ∷ []
 
--- the function blocks, own ones first
-abbrev pub blocks_near : Config → List Known
-blocks_near config = flat_map own_block config.units ++ map (λ b. predeclared_name b.0) standard_blocks
+-- the operators (3.2.2)
+unfoldable pub operator_words : List Spelling
+operator_words =
+    codes "LD" ∷ codes "LDN" ∷ codes "ST" ∷ codes "STN" ∷ codes "S" ∷ codes "R" ∷ codes "AND" ∷ codes "ANDN"
+    ∷ codes "OR" ∷ codes "ORN" ∷ codes "XOR" ∷ codes "XORN" ∷ codes "NOT" ∷ codes "ADD" ∷ codes "SUB" ∷ codes "MUL"
+    ∷ codes "DIV" ∷ codes "MOD" ∷ codes "GT" ∷ codes "GE" ∷ codes "EQ" ∷ codes "NE" ∷ codes "LE" ∷ codes "LT"
+    ∷ codes "JMP" ∷ codes "JMPC" ∷ codes "JMPCN" ∷ codes "CAL" ∷ codes "CALC" ∷ codes "CALCN" ∷ codes "RET" ∷ codes "RETC"
+    ∷ codes "RETCN" ∷ []
+
+-- the functions, own ones first, and the operators
+abbrev pub functions_near : Config → List Known
+functions_near config = flat_map own_function config.units ++ (map (λ f. predeclared_name f.0) standard_functions ++ map predeclared_name operator_words)
+
+-- the types of variables: function blocks, own ones first, and elementary types
+abbrev pub types_near : Config → List Known
+types_near config = flat_map own_block config.units ++ (map (λ b. predeclared_name b.0) standard_blocks ++ map predeclared_name type_words)

@@ -87,10 +87,15 @@ abbrev pub declared_words : ℕ → List ℕ
 declared_words zero = codes " is declared in line "
 declared_words (suc edits) = codes " is near, declared in line "
 
+-- what is missing for a declared name that no edit leads to: only a global is unknown under its own name
+abbrev pub external_words : ℕ → List ℕ
+external_words zero = codes ", and this unit has no VAR_EXTERNAL of it"
+external_words (suc edits) = []
+
 -- where a name is that so many edits lead to
 abbrev pub nearness : ℕ → Option ℕ → List ℕ
 nearness edits None = codes " is near"
-nearness edits (Some line) = declared_words edits ++ decimal line
+nearness edits (Some line) = declared_words edits ++ (decimal line ++ external_words edits)
 
 -- `; NEAR is near`, `; NEAR is near, declared in line N`, or `; NAME is declared in line N`
 unfoldable pub hint_of : Nearest → List ℕ

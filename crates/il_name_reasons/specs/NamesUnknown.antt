@@ -30,7 +30,7 @@ use Rattle.il_name_reasons.specs.declared.names_meant.Access.{Access}
 use Rattle.il_name_reasons.specs.declared.names_meant.Access.TheVariants.{Reads, Stores}
 use Rattle.il_name_reasons.specs.NameSpots.{is_at}
 use Rattle.il_name_reasons.specs.NamesNear.{Known, Nearest, nearest, ending}
-use Rattle.il_name_reasons.specs.NamesKnown.{variables_near, globals_near, functions_near, blocks_near}
+use Rattle.il_name_reasons.specs.NamesKnown.{variables_near, globals_near, functions_near, types_near}
 
 -- WHAT A NAME MEANS
 
@@ -205,7 +205,7 @@ instruction_text config unit (Invoke function operands) = function_text config f
 
 -- a name that no block has (2.5.2.1)
 abbrev pub block_text : Config → Spelling → List ℕ
-block_text config name = if is_some (block_variables config name) then [] else unknown_text name (blocks_near config)
+block_text config name = if is_some (block_variables config name) then [] else unknown_text name (types_near config)
 
 -- a type's name that is no block's (2.5.2.1)
 abbrev pub form_text : Config → Form → List ℕ

@@ -4,7 +4,7 @@ ghost use Rattle.std.specs.Prelude.{◌≡◌, ◌++◌, ◌∷◌, [], IfOk, On
 ghost use Rattle.il_rules.specs.Declarations.{unit_names};
 ghost use Rattle.il_rules.specs.Names.{standard_functions, standard_blocks};
 ghost use Rattle.il_name_reasons.specs.NamesNear.{candidate_shown, known_name, declared_name, predeclared_name};
-ghost use Rattle.il_name_reasons.specs.NamesKnown.{own_function, own_block, seen_image, images_near, globals_near, variables_near, functions_near, blocks_near};
+ghost use Rattle.il_name_reasons.specs.NamesKnown.{own_function, own_block, seen_image, images_near, globals_near, variables_near, type_words, operator_words, functions_near, types_near};
 
 use crate::names_near::{Candidate, push_spots};
 use crate::names_spots::{declared_spots, unit_spots};
@@ -12,6 +12,61 @@ use il_rules::standard::{NamedBlock, NamedFunction, standard_blocks, standard_fu
 use il_scope::{ImageRow, UnitScope, image_rows};
 use il_spec::tree::{Config, Unit, UnitKind};
 use std::alloc::{AllocError, Global};
+
+// A word of the language.
+#[derive(Clone, Copy)]
+struct Word {
+    text: &'static str,
+}
+
+// The words of the elementary types (IEC 61131-3:2003, 2.3.1).
+static TYPES: [Word; 8] = [
+    Word { text: "BOOL" },
+    Word { text: "SINT" },
+    Word { text: "INT" },
+    Word { text: "DINT" },
+    Word { text: "USINT" },
+    Word { text: "UINT" },
+    Word { text: "UDINT" },
+    Word { text: "TIME" },
+];
+
+// The operators (IEC 61131-3:2003, 3.2.2).
+static OPERATORS: [Word; 33] = [
+    Word { text: "LD" },
+    Word { text: "LDN" },
+    Word { text: "ST" },
+    Word { text: "STN" },
+    Word { text: "S" },
+    Word { text: "R" },
+    Word { text: "AND" },
+    Word { text: "ANDN" },
+    Word { text: "OR" },
+    Word { text: "ORN" },
+    Word { text: "XOR" },
+    Word { text: "XORN" },
+    Word { text: "NOT" },
+    Word { text: "ADD" },
+    Word { text: "SUB" },
+    Word { text: "MUL" },
+    Word { text: "DIV" },
+    Word { text: "MOD" },
+    Word { text: "GT" },
+    Word { text: "GE" },
+    Word { text: "EQ" },
+    Word { text: "NE" },
+    Word { text: "LE" },
+    Word { text: "LT" },
+    Word { text: "JMP" },
+    Word { text: "JMPC" },
+    Word { text: "JMPCN" },
+    Word { text: "CAL" },
+    Word { text: "CALC" },
+    Word { text: "CALCN" },
+    Word { text: "RET" },
+    Word { text: "RETC" },
+    Word { text: "RETCN" },
+];
 
 /// The variables of a unit: a function's result, those that it declares, the globals, then the image names that it sees.
 pub fn variables_near<'c>(
@@ -38,7 +93,7 @@ pub fn globals_near<'c>(alloc: Global, config: &'c Config) -> Result<Vec<Candida
     Ok(candidates)
 }
 
-/// The functions, own ones first.
+/// The functions, own ones first, and the operators.
 pub fn functions_near<'c>(
     alloc: Global,
     config: &'c Config,
@@ -48,16 +103,18 @@ pub fn functions_near<'c>(
     let mut candidates = Vec::new(alloc);
     push_functions(&mut candidates, config.units.as_slice())?;
     push_standard_functions(&mut candidates)?;
+    push_operators(&mut candidates)?;
     Ok(candidates)
 }
 
-/// The function blocks, own ones first.
-pub fn blocks_near<'c>(alloc: Global, config: &'c Config) -> Result<Vec<Candidate<'c>>, AllocError>
-    ensures { IfOk result (λ k. map candidate_shown k.items ≡ blocks_near config.now) }
+/// The types of variables: function blocks, own ones first, and elementary types.
+pub fn types_near<'c>(alloc: Global, config: &'c Config) -> Result<Vec<Candidate<'c>>, AllocError>
+    ensures { IfOk result (λ k. map candidate_shown k.items ≡ types_near config.now) }
 {
     let mut candidates = Vec::new(alloc);
     push_blocks(&mut candidates, config.units.as_slice())?;
     push_standard_blocks(&mut candidates)?;
+    push_types(&mut candidates)?;
     Ok(candidates)
 }
 
@@ -242,6 +299,51 @@ fn push_block_rows(
 {
     'rows: for row in rows {
         push_known(candidates, row.name, None)?;
+    }
+    Ok(())
+}
+
+// The words of the elementary types.
+#[tactic(auto, unfolding(crate::specs::NamesKnown::type_words))]
+fn types() -> &'static [Word]
+    ensures { map (λ w. w.text.now) result.now ≡ type_words }
+{
+    &TYPES
+}
+
+// The operators.
+#[tactic(auto, unfolding(crate::specs::NamesKnown::operator_words))]
+fn operators() -> &'static [Word]
+    ensures { map (λ w. w.text.now) result.now ≡ operator_words }
+{
+    &OPERATORS
+}
+
+// Adds the words of the elementary types.
+#[tactic(auto, using(crate::proofs::Known::words_of_rows))]
+fn push_types(candidates: &mut Vec<Candidate<'_>>) -> Result<(), AllocError>
+    ensures { OnOk result (map candidate_shown candidates.new.items
+        ≡ map candidate_shown candidates.old.items ++ map predeclared_name type_words) }
+{
+    push_words(candidates, types())
+}
+
+// Adds the operators.
+#[tactic(auto, using(crate::proofs::Known::words_of_rows))]
+fn push_operators(candidates: &mut Vec<Candidate<'_>>) -> Result<(), AllocError>
+    ensures { OnOk result (map candidate_shown candidates.new.items
+        ≡ map candidate_shown candidates.old.items ++ map predeclared_name operator_words) }
+{
+    push_words(candidates, operators())
+}
+
+fn push_words(candidates: &mut Vec<Candidate<'_>>, rows: &'static [Word]) -> Result<(), AllocError>
+    ensures { OnOk result (map candidate_shown candidates.new.items
+        ≡ map candidate_shown candidates.old.items
+        ++ map (λ w. predeclared_name w.text.now) rows.now) }
+{
+    'rows: for row in rows {
+        push_known(candidates, row.text, None)?;
     }
     Ok(())
 }

@@ -3,7 +3,7 @@
 ghost use Rattle.std.specs.Prelude.{◌≡◌, ◌++◌, IfOk, IfSome, OnOk, map, option_map};
 ghost use Rattle.base_texts.specs.Puts.{Puts};
 ghost use Rattle.il_name_reasons.specs.NameSpots.{shown};
-ghost use Rattle.il_name_reasons.specs.NamesNear.{declared_name, candidate_shown, near_shown, distance, is_short, are_few, are_fewer, after_edits, nearer, nearest, IsNearest, declared_words, nearness, hint_of, hint, ending};
+ghost use Rattle.il_name_reasons.specs.NamesNear.{declared_name, candidate_shown, near_shown, distance, is_short, are_few, are_fewer, after_edits, nearer, nearest, IsNearest, declared_words, external_words, nearness, hint_of, hint, ending};
 
 use crate::names_spots::Spot;
 use crate::writing::{put_numbered, put_two};
@@ -178,7 +178,10 @@ fn put_nearness(text: &mut String, edits: usize, line: Option<u32>) -> Result<()
     ensures { OnOk result (Puts text.old text.new (nearness edits line)) }
 {
     match line {
-        Some(line) => put_numbered(text, declared_words(edits), line),
+        Some(line) => {
+            put_numbered(text, declared_words(edits), line)?;
+            text.push_str(external_words(edits))
+        }
         None => text.push_str(" is near"),
     }
 }
@@ -190,5 +193,15 @@ fn declared_words(edits: usize) -> &'static str
     match edits {
         0 => " is declared in line ",
         _ => " is near, declared in line ",
+    }
+}
+
+// What is missing for a declared name that no edit leads to.
+fn external_words(edits: usize) -> &'static str
+    ensures { result.now ≡ external_words edits }
+{
+    match edits {
+        0 => ", and this unit has no VAR_EXTERNAL of it",
+        _ => "",
     }
 }

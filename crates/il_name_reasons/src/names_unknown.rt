@@ -7,7 +7,7 @@ ghost use Rattle.il_name_reasons.specs.NamesNear.{near_shown, candidate_shown, n
 ghost use Rattle.il_name_reasons.specs.NamesKnown.{functions_near};
 ghost use Rattle.il_name_reasons.specs.NamesUnknown.{unknown_line, unseen_line, no_function_line, instance_line, unit_line, standard_line, no_instance_line, no_word, unknown_text, unknown_variable, scalar_text, meaning_text, index_text, word_text, member_text, reference_text, read_text, argument_text, function_text, instruction_text, block_text, type_text, global_text, external_text, externals_text, types_text, unit_text, unknown_lines};
 
-use crate::names_known::{blocks_near, functions_near, globals_near, variables_near};
+use crate::names_known::{functions_near, globals_near, types_near, variables_near};
 use crate::names_meant::{Access, Meant, is_visible, meaning_of};
 use crate::names_near::{Candidate, Near, nearest, put_ended};
 use crate::names_spots::is_at;
@@ -109,7 +109,7 @@ fn put_block(alloc: Global, text: &mut String, names: &Scoped, name: &str) -> Re
     if is_block(names, name) {
         return Ok(());
     }
-    let known = blocks_near(alloc, names.config())?;
+    let known = types_near(alloc, names.config())?;
     put_unknown(alloc, text, name, known.as_slice())
 }
 

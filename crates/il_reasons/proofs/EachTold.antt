@@ -37,7 +37,7 @@ use Rattle.il_name_reasons.specs.declared.names_meant.Access.{Access}
 use Rattle.il_name_reasons.specs.declared.names_meant.Access.TheVariants.{Reads, Stores}
 use Rattle.il_name_reasons.specs.NamesNear.{Nearest, hint, ending, nearest}
 use Rattle.il_name_reasons.specs.NameSpots.{is_at}
-use Rattle.il_name_reasons.specs.NamesKnown.{variables_near, functions_near, blocks_near, globals_near}
+use Rattle.il_name_reasons.specs.NamesKnown.{variables_near, functions_near, types_near, globals_near}
 use Rattle.il_name_reasons.specs.NamesLabels.{missing_line, missing_text, labels_near, jump_text}
 use Rattle.il_name_reasons.specs.NamesUnknown.{unknown_variable, meant_by, meant_by_form, unknown_line, unseen_line, no_function_line, instance_line, unit_line, standard_line, no_instance_line, no_word, no_word_line, unknown_text, scalar_by, meaning_by, member_by, rule_access, reference_text, read_text, index_text, argument_text, short_form_text, function_text, instruction_text, form_text, type_text, global_text, external_text, externals_text, types_text, unit_text, unknown_lines}
 use Rattle.il_reasons.specs.NamesTold.{HasLine}
@@ -260,7 +260,7 @@ subrange_told {X = X} e (Some s) h = by_whole (is_whole e) (has_value e s.lower 
     by_whole false b g = other g
 
 -- a type's name
-block_told : (config : Config) (admitted : Admitted) (name : Spelling) (o : Option BlockVariables) → Contains (instance_numbers admitted o) 21 → HasLine (if is_some o then [] else unknown_text name (blocks_near config))
+block_told : (config : Config) (admitted : Admitted) (name : Spelling) (o : Option BlockVariables) → Contains (instance_numbers admitted o) 21 → HasLine (if is_some o then [] else unknown_text name (types_near config))
 block_told config admitted name None h = unknown_is name _
 block_told config admitted name (Some b) h = not_this (admits_instances admitted) 25 not_25 h
 
