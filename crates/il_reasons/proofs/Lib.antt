@@ -3,3 +3,4 @@ pub mod EachTold
 pub mod NothingSpelled
 pub mod PathRuns
 pub mod Standing
+pub mod CarWords

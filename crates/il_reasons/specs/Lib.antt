@@ -5,3 +5,4 @@ pub mod NamesTold
 pub mod Reasons
 pub mod TokenReasons
 pub mod TreeReasons
+pub mod TaskReasons

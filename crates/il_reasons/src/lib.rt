@@ -13,6 +13,7 @@ mod chains;
 mod costs;
 mod expected;
 mod expected_search;
+mod tasks;
 mod tree;
 mod unexpected;
 

@@ -8,9 +8,11 @@ ghost use Rattle.il_type_reasons.specs.InitialReasons.{initials_lines};
 ghost use Rattle.il_reasons.specs.NamesTold.{HasLine};
 ghost use Rattle.il_type_reasons.specs.ResultReasons.{IsResultToldIf};
 ghost use Rattle.il_type_reasons.specs.TypeReasons.{is_type_number};
+ghost use Rattle.il_reasons.specs.TaskReasons.{backward_line};
 ghost use Rattle.il_reasons.specs.TreeReasons.{named_lines, instruction_lines, step_lines, unit_lines, place_lines, AreToldOfTree};
 ghost use Rattle.il_type_reasons.specs.WrittenReasons.{misplaced_lines};
 
+use crate::tasks::{put_bad_task, put_sizes};
 use il_name_reasons::names_again::put_again_at;
 use il_name_reasons::names_labels::put_jump;
 use il_name_reasons::names_targets::put_targets;
@@ -28,7 +30,8 @@ use std::alloc::{AllocError, Global};
 /// What is told of a fault that the tree shows: lines, each with its line feed, or none (own rule). Of 30, 31 and 32 the type that the
 /// current result has and the one that it must have, and the operands with their types, of 37 the arguments and what is taken, of 25
 /// in an instruction the names of another kind, and at an initial value or a type the declared names with their types, of 33 and 38 the
-/// targets. Of an unknown name (21) and of a label that does not stand in its unit (34) there is a line.
+/// targets, of 23 the limits of a size, of 24 what is wrong with the tasks, and of 35 that there are no loops. Of an unknown name (21)
+/// and of a label that does not stand in its unit (34) there is a line.
 pub(crate) fn told(
     alloc: Global,
     names: &Scoped,
@@ -68,6 +71,8 @@ fn put_declared(
     match number {
         20 => put_again_at(alloc, text, names, place),
         21 => put_unknown_at(alloc, text, names, place),
+        23 => put_sizes(text, names.config(), place.offset),
+        24 => put_bad_task(text, names, place.offset),
         25 => put_of_other_type(text, names.config(), place.offset),
         _ => Ok(()),
     }
@@ -215,7 +220,16 @@ fn put_named(
         21 => put_names(alloc, text, scope, instruction),
         33 => put_targets(alloc, text, scope, number, instruction),
         34 => put_jump(alloc, text, scope, instruction),
+        35 => put_backward(text),
         38 => put_targets(alloc, text, scope, number, instruction),
         _ => Ok(()),
     }
+}
+
+// Of a jump back.
+#[tactic(auto, unfolding(crate::specs::TaskReasons::backward_line))]
+fn put_backward(text: &mut String) -> Result<(), AllocError>
+    ensures { OnOk result (Puts text.old text.new backward_line) }
+{
+    text.push_str("a label stands after each jump to it: there are no loops\n")
 }
