@@ -13,7 +13,7 @@ use Rattle.il_type_reasons.specs.TypeWords.{type_word}
 
 -- `the current result is INT`, or that no one type comes to the place on all paths: because none does, or different ones (3.2.2)
 abbrev pub result_line : Option Elementary → List ℕ
-result_line None = codes "there is no current result of one type on all paths\n"
+result_line None = codes "there is no current result of one type on all paths: none is there at the start, after a CAL, and where a JMP without condition comes from\n"
 result_line (Some found) = codes "the current result is " ++ (type_word found ++ codes "\n")
 
 -- the same of the result that was set aside at `OP(`

@@ -60,7 +60,9 @@ fn put_result(text: &mut String, found: Option<Elementary>) -> Result<(), AllocE
 {
     match found {
         Some(found) => put_three(text, "the current result is ", type_word(found), "\n"),
-        None => text.push_str("there is no current result of one type on all paths\n"),
+        None => text.push_str(
+            "there is no current result of one type on all paths: none is there at the start, after a CAL, and where a JMP without condition comes from\n",
+        ),
     }
 }
 
