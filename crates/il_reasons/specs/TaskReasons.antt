@@ -8,7 +8,8 @@ use Rattle.il_spec.specs.declared.tree.Task.{Task}
 use Rattle.il_spec.specs.declared.tree.Unit.{Unit as ProgramUnit}
 use Rattle.il_rules.specs.declared.names.Role.{Role}
 use Rattle.il_rules.specs.declared.names.Role.TheVariants.{Car, Group}
-use Rattle.il_rules.specs.Names.{Spelling, is_one_of, is_program, program_named, program_role, task_role}
+use Rattle.il_rules.specs.Names.{Spelling, is_one_of, is_program, program_role, task_role}
+use Rattle.il_scope.specs.Views.{program_number}
 use Rattle.il_rules.specs.Declarations.{names_of_tasks}
 
 -- LINES
@@ -47,8 +48,12 @@ unused_line name = name ++ codes " is a program that no PROGRAM line names\n"
 -- 24: TASKS
 
 -- a TASK line: its task is none of the group's
+abbrev pub foreign_by : Spelling → Option Role → List ℕ
+foreign_by name None = foreign_line name
+foreign_by name (Some role) = []
+
 abbrev pub foreign_lines : Config → ℕ → Task → List ℕ
-foreign_lines c offset t = if t.place.offset == offset then (if is_some (task_role c.cars.value t.name.name) then [] else foreign_line t.name.name) else []
+foreign_lines c offset t = if t.place.offset == offset then foreign_by t.name.name (task_role c.cars.value t.name.name) else []
 
 -- at END_RESOURCE a task without a PROGRAM line
 abbrev pub idle_lines : Config → ℕ → Task → List ℕ
@@ -75,8 +80,12 @@ abbrev pub second_lines : Config → ProgramLine → List ℕ
 second_lines c l = second_by l.task.name l.place.offset (first_place c.programs l.task.name)
 
 -- its program is none
+abbrev pub no_such_by : Spelling → Option ℕ → List ℕ
+no_such_by name None = no_such_line name
+no_such_by name (Some number) = []
+
 abbrev pub no_such_lines : Config → ProgramLine → List ℕ
-no_such_lines c l = if is_some (program_named c l.program.name) then [] else no_such_line l.program.name
+no_such_lines c l = no_such_by l.program.name (program_number c l.program.name)
 
 -- its task and its program are of different roles
 abbrev pub role_by : Spelling → Option Role → Option Role → List ℕ

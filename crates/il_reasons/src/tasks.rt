@@ -4,7 +4,7 @@ ghost use Rattle.std.specs.Prelude.{◌≡◌, ◌++◌, List, ℕ, OnOk, flat_m
 ghost use Rattle.base_texts.specs.Puts.{Puts};
 ghost use Rattle.il_rules.specs.Declarations.{names_of_tasks};
 ghost use Rattle.il_rules.specs.Names.{is_one_of};
-ghost use Rattle.il_reasons.specs.TaskReasons.{foreign_line, no_task_line, no_program_line, second_line, no_such_line, group_line, car_line, unused_line, foreign_lines, idle_lines, task_lines, unknown_task_lines, first_place, second_by, second_lines, no_such_lines, role_by, role_lines, wrong_lines, program_lines, car_words, missing_car, missing_lines, unused_lines, bad_task_lines, size_lines, sizes_lines};
+ghost use Rattle.il_reasons.specs.TaskReasons.{foreign_line, no_task_line, no_program_line, second_line, no_such_line, group_line, car_line, unused_line, foreign_by, foreign_lines, idle_lines, task_lines, unknown_task_lines, first_place, second_by, second_lines, no_such_by, no_such_lines, role_by, role_lines, wrong_lines, program_lines, car_words, missing_car, missing_lines, unused_lines, bad_task_lines, size_lines, sizes_lines};
 
 use il_name_reasons::writing::{put_in_line, put_two};
 use il_rules::names::Role;
@@ -65,7 +65,6 @@ fn put_task(text: &mut String, names: &Scoped, task: &Task, offset: u32) -> Resu
 }
 
 // A task that is none of the group's.
-#[tactic(auto, unfolding(crate::specs::TaskReasons::foreign_line))]
 fn put_foreign(
     text: &mut String,
     names: &Scoped,
@@ -76,14 +75,24 @@ fn put_foreign(
 {
     let name = task.name.name.as_str();
     let cars = names.config().cars.value;
-    if task.place.offset == offset && task_role(cars, name).is_none() {
-        put_two(
+    if task.place.offset == offset {
+        put_foreign_by(text, name, task_role(cars, name))
+    } else {
+        Ok(())
+    }
+}
+
+#[tactic(auto, unfolding(crate::specs::TaskReasons::foreign_line))]
+fn put_foreign_by(text: &mut String, name: &str, role: Option<Role>) -> Result<(), AllocError>
+    ensures { OnOk result (Puts text.old text.new (foreign_by name.now role)) }
+{
+    match role {
+        Some(_) => Ok(()),
+        None => put_two(
             text,
             name,
             " is no task of this group: its tasks are CAR1 up to CARS, and perhaps GROUP\n",
-        )
-    } else {
-        Ok(())
+        ),
     }
 }
 
@@ -243,15 +252,20 @@ fn first_place(lines: &[ProgramLine], task: &str) -> Option<Place>
 }
 
 // Its program is none.
-#[tactic(auto, unfolding(crate::specs::TaskReasons::no_such_line))]
 fn put_no_such(text: &mut String, names: &Scoped, line: &ProgramLine) -> Result<(), AllocError>
     ensures { OnOk result (Puts text.old text.new (no_such_lines names.now line.now)) }
 {
     let name = line.program.name.as_str();
-    if names.program(name).is_some() {
-        Ok(())
-    } else {
-        put_two(text, name, " is no program\n")
+    put_no_such_by(text, name, names.program(name))
+}
+
+#[tactic(auto, unfolding(crate::specs::TaskReasons::no_such_line))]
+fn put_no_such_by(text: &mut String, name: &str, number: Option<usize>) -> Result<(), AllocError>
+    ensures { OnOk result (Puts text.old text.new (no_such_by name.now number)) }
+{
+    match number {
+        Some(_) => Ok(()),
+        None => put_two(text, name, " is no program\n"),
     }
 }
 
@@ -303,7 +317,6 @@ fn put_missing(text: &mut String, names: &Scoped, offset: u32) -> Result<(), All
     }
 }
 
-#[tactic(auto, using(crate::proofs::CarWords::cars_of_rows))]
 fn put_missing_cars(text: &mut String, names: &Scoped) -> Result<(), AllocError>
     ensures { OnOk result (Puts text.old text.new
         (flat_map (missing_car names.now) car_words)) }
