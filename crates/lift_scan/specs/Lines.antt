@@ -84,21 +84,24 @@ argument_text values path instance false (Output word target) = output_text valu
 abbrev pub most_shown : ℕ
 most_shown = 32
 
+abbrev pub first_shown : {A : Type 0} → List A → List A
+first_shown items = take (min most_shown (length items)) items
+
 -- a mark where more are left out
 abbrev pub rest_text : ℕ → List ℕ
 rest_text count = if nat_lt most_shown count then codes " .." else []
 
 -- what goes into a call by its arguments, and out of it where no body is entered
 abbrev pub arguments_text : Values → Text → Text → Bool → List Argument → List ℕ
-arguments_text values path instance enters arguments = flat_map (argument_text values path instance enters) (take most_shown arguments) ++ rest_text (length arguments)
+arguments_text values path instance enters arguments = flat_map (argument_text values path instance enters) (first_shown arguments) ++ rest_text (length arguments)
 
 -- what goes out of a call by its arguments
 abbrev pub outs_text : Values → Text → Text → List Argument → List ℕ
-outs_text values path instance arguments = flat_map (out_text values path instance) (take most_shown arguments) ++ rest_text (length arguments)
+outs_text values path instance arguments = flat_map (out_text values path instance) (first_shown arguments) ++ rest_text (length arguments)
 
 -- what the operands of a function name
 abbrev pub operands_text : Values → Text → List Operand → List ℕ
-operands_text values path operands = flat_map (λ (o : Operand). reference_text values path o.reference) (take most_shown operands) ++ rest_text (length operands)
+operands_text values path operands = flat_map (λ (o : Operand). reference_text values path o.reference) (first_shown operands) ++ rest_text (length operands)
 
 -- what is named by an instruction of a body at a path
 abbrev pub instruction_text : Values → Text → Bool → Instruction → List ℕ

@@ -1,11 +1,11 @@
 // The line of a step.
 
-ghost use Rattle.std.specs.Prelude.{◌≡◌, ◌≤◌, flat_map, length, map, option_copied, option_map, replicate, take, OnOk};
+ghost use Rattle.std.specs.Prelude.{◌≡◌, ◌≤◌, flat_map, length, map, option_copied, option_map, replicate, OnOk};
 ghost use Rattle.std.specs.List.{prefix_len};
 ghost use Rattle.base_texts.specs.Puts.{Puts};
 ghost use Rattle.lift_messages.specs.Places.{shown};
 ghost use Rattle.lift_scan.specs.Stands.{of_stand, reference_text};
-ghost use Rattle.lift_scan.specs.Lines.{is_within_line, shown_front, source_text, front_text, results_text, of_before, most_shown, rest_text, out_text, outs_text, output_text, argument_text, arguments_text, operands_text, instruction_text, step_text, call_text, left_by, left_text, names_text, line_text};
+ghost use Rattle.lift_scan.specs.Lines.{is_within_line, shown_front, source_text, front_text, results_text, of_before, first_shown, rest_text, out_text, outs_text, output_text, argument_text, arguments_text, operands_text, instruction_text, step_text, call_text, left_by, left_text, names_text, line_text};
 
 use crate::before::Before;
 use crate::values::{put_member, put_reference, put_result, put_variable};
@@ -183,7 +183,7 @@ fn put_call(
 
 // The first of what a call hands over, as many as are shown.
 fn first_shown<T>(items: &[T]) -> &[T]
-    ensures { result.now ≡ take most_shown items.now }
+    ensures { result.now ≡ first_shown items.now }
 {
     let (first, _) = items.split_at(items.len().min(MOST_SHOWN));
     first
