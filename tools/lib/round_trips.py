@@ -1,14 +1,16 @@
 """Round trips of cars from the main floor in a pure up-peak, and what the field's formula says of them.
 
-The formula is the usual one, as CIBSE Guide D gives it. With N floors above the main floor, all with the same population, and P persons in a car:
+The formula is the usual one, as CIBSE Guide D gives it. With N floors above the main floor, all with the same
+population, and P persons in a car:
 
     S = N (1 - (1 - 1/N)^P)           stops above the main floor
     H = N - sum of (i/N)^P, i < N     the highest of them, in floors above the main floor
     RTT = 2 H tv + (S + 1) ts + 2 P tp
 
-tv is the time for a floor at rated speed, ts that of a stop (a flight of one floor and both ways of the door, less tv), and tp the transfer time of a person.
-A door that stays open after the last passenger is not in it. Here it does, for the dwell time from the moment when it is wholly open: each stop at which k
-persons get out lasts longer by what the dwell exceeds k tp.
+tv is the time for a floor at rated speed, ts that of a stop (a flight of one floor and both ways of the door, less tv),
+and tp the transfer time of a person. A door that stays open after the last passenger is not in it. Here it does, for
+the dwell time from the moment when it is wholly open: each stop at which k persons get out lasts longer by what the
+dwell exceeds k tp.
 """
 from dataclasses import dataclass
 from math import comb
@@ -60,13 +62,21 @@ def trips_of(starts: list[tuple[int, int, int]]) -> list[Trip]:
     for begin, end in zip(departures, departures[1:]):
         floors = [floor for _, floor, _ in starts[begin + 1 : end] if floor > 1]
         if floors:
-            made.append(Trip(starts[begin][2], len(floors), max(floors) - 1, (starts[end][0] - starts[begin][0]) * ROUND))
+            made.append(
+                Trip(starts[begin][2], len(floors), max(floors) - 1, (starts[end][0] - starts[begin][0]) * ROUND)
+            )
     return made
 
 
 def measured(trips: list[Trip]) -> Means:
     duration = mean(it.duration for it in trips)
-    return Means(mean(it.load for it in trips), mean(it.stops for it in trips), mean(it.highest for it in trips), duration, duration)
+    return Means(
+        mean(it.load for it in trips),
+        mean(it.stops for it in trips),
+        mean(it.highest for it in trips),
+        duration,
+        duration,
+    )
 
 
 def stops_of(floors: int, load: int) -> float:
@@ -89,7 +99,9 @@ def calculated(plant: Plant, trips: list[Trip], dwell: float) -> Means:
     transfer, per_floor = plant.transfer * ROUND, height / plant.drive.speed
     stop = flight(plant.drive, height).duration + (plant.opening + plant.closing) * ROUND - per_floor
     loads = [it.load for it in trips]
-    plain = [2 * highest_of(floors, it) * per_floor + (stops_of(floors, it) + 1) * stop + 2 * it * transfer for it in loads]
+    plain = [
+        2 * highest_of(floors, it) * per_floor + (stops_of(floors, it) + 1) * stop + 2 * it * transfer for it in loads
+    ]
     longer = [dwell_of(floors, it, lambda k: max(0.0, dwell - k * transfer)) for it in loads]
     stops, highest = mean(stops_of(floors, it) for it in loads), mean(highest_of(floors, it) for it in loads)
     return Means(mean(loads), stops, highest, mean(plain), mean(plain) + mean(longer))

@@ -1,7 +1,8 @@
-"""A run of a building as a picture: where each car was, who waited at each landing, and how long each passenger waited. For `tools/building --plot`.
+"""A run of a building as a picture, for `tools/building --plot`: where each car was, who waited where, and how long.
 
-The picture is SVG: time to the right, floors upwards. A car's line is straight from its departure to its arrival, and thick where its door isn't shut. The grey
-steps on a floor's line are the passengers who wait there. Below, a dot is a passenger: the time of the arrival, and the waiting until the boarding.
+The picture is SVG: time to the right, floors upwards. A car's line is straight from its departure to its arrival, and
+thick where its door isn't shut. The grey steps on a floor's line are the passengers who wait there. Below, a dot is a
+passenger: the time of the arrival, and the waiting until the boarding.
 """
 from html import escape
 from typing import Iterator
@@ -24,7 +25,9 @@ class Recorded(Building):
 
     def __init__(self, *words):
         super().__init__(*words)
-        self.ways: list[list[tuple[int, int]]] = [[(0, car.shown)] for car in self.cars]  # rounds and floors; between them straight lines
+        self.ways: list[list[tuple[int, int]]] = [
+            [(0, car.shown)] for car in self.cars
+        ]  # rounds and floors; between them straight lines
         self.doors: list[list[tuple[int, int, int]]] = [[] for _ in self.cars]  # rounds and the floor
         self.ran = [False for _ in self.cars]
         self.opened = [0 for _ in self.cars]
@@ -58,7 +61,10 @@ def waited(passenger: Passenger, end: float) -> float:
 
 
 def queues(building: Building, floor: int, end: float) -> list[tuple[float, int]]:
-    """When the number of those who wait at a landing changes, and what it is then. Who was let out on the way isn't counted there."""
+    """When the number of those who wait at a landing changes, and what it is then.
+
+    Who was let out on the way isn't counted there.
+    """
     changes = []
     for it in building.people[: building.arrived]:
         if it.start == floor:
@@ -103,7 +109,8 @@ class Picture:
             yield f'<text x="{x:.1f}" y="{self.low + 18}" text-anchor="middle">{minute}</text>'
             yield f'<text x="{x:.1f}" y="{self.base + 18}" text-anchor="middle">{minute}</text>'
         for name, middle in (("Floor", (TOP + self.low) / 2), ("Waiting (s)", self.base - WAITS / 2)):
-            yield f'<text x="18" y="{middle:.0f}" text-anchor="middle" transform="rotate(-90 18 {middle:.0f})">{name}</text>'
+            turned = f'text-anchor="middle" transform="rotate(-90 18 {middle:.0f})"'
+            yield f'<text x="18" y="{middle:.0f}" {turned}>{name}</text>'
         yield f'<text x="{LEFT + self.width / 2:.0f}" y="{self.base + 38}" text-anchor="middle">Time (min)</text>'
 
     def landings(self) -> Iterator[str]:
@@ -111,9 +118,14 @@ class Picture:
         longest = max((count for it in of.values() for _, count in it), default=0)
         for floor, changes in of.items():
             if changes:
-                steps = "".join(f"H{self.x(time):.1f}V{self.y(floor) - QUEUE * FLOOR * count / longest:.1f}" for time, count in changes)
-                yield f'<path class="queue" d="M{LEFT} {self.y(floor):.1f}{steps}V{self.y(floor):.1f}z" fill="{GREY}" fill-opacity="0.5"/>'
-        yield f'<text x="{LEFT}" y="60" fill="{TEXT}">The longest queue, {longest} passengers, is drawn {QUEUE:g} of a floor high.</text>'
+                steps = "".join(
+                    f"H{self.x(time):.1f}V{self.y(floor) - QUEUE * FLOOR * count / longest:.1f}"
+                    for time, count in changes
+                )
+                outline = f"M{LEFT} {self.y(floor):.1f}{steps}V{self.y(floor):.1f}z"
+                yield f'<path class="queue" d="{outline}" fill="{GREY}" fill-opacity="0.5"/>'
+        said = f"The longest queue, {longest} passengers, is drawn {QUEUE:g} of a floor high."
+        yield f'<text x="{LEFT}" y="60" fill="{TEXT}">{said}</text>'
 
     def cars(self) -> Iterator[str]:
         for number, (way, doors) in enumerate(zip(self.building.ways, self.building.doors), 1):
@@ -121,17 +133,22 @@ class Picture:
             shift = 2 * (number - (len(self.building.ways) + 1) / 2)  # px, so that cars at one floor can be told apart
             points = " ".join(f"{self.x(now * ROUND):.1f},{self.y(floor) + shift:.1f}" for now, floor in way)
             yield f'<polyline class="car" points="{points}" fill="none" stroke="{colour}" stroke-width="1.2"/>'
-            opened = "".join(f"M{self.x(first * ROUND):.1f} {self.y(floor) + shift:.1f}H{self.x(last * ROUND):.1f}" for first, last, floor in doors)
+            opened = "".join(
+                f"M{self.x(first * ROUND):.1f} {self.y(floor) + shift:.1f}H{self.x(last * ROUND):.1f}"
+                for first, last, floor in doors
+            )
             yield f'<path d="{opened or "M0 0"}" stroke="{colour}" stroke-width="4"/>'
             yield f'<text x="{LEFT + 130 + 70 * number}" y="42" fill="{colour}">car {number}</text>'
 
     def dots(self) -> Iterator[str]:
         for it in self.people:
             fill = "#333333" if it.boarded >= 0 else "#d55e00"
-            yield f'<circle cx="{self.x(it.arrived):.1f}" cy="{self.wait_y(waited(it, self.end)):.1f}" r="2" fill="{fill}"/>'
+            x, y = self.x(it.arrived), self.wait_y(waited(it, self.end))
+            yield f'<circle cx="{x:.1f}" cy="{y:.1f}" r="2" fill="{fill}"/>'
         means = list(self.means())
         yield f'<polyline class="mean" points="{" ".join(means)}" fill="none" stroke="#0072b2" stroke-width="2"/>'
-        yield f'<text x="{LEFT}" y="{self.low + BETWEEN - 10}" fill="{TEXT}">A dot for each passenger; the line is the mean of five minutes</text>'
+        said = "A dot for each passenger; the line is the mean of five minutes"
+        yield f'<text x="{LEFT}" y="{self.low + BETWEEN - 10}" fill="{TEXT}">{said}</text>'
 
     def means(self) -> Iterator[str]:
         """Of those who arrived in the five minutes around each half minute."""

@@ -5,10 +5,26 @@ from typing import NamedTuple
 
 TABLE, DEMAND = "table", "demand"  # the two kinds of runs
 CARRIED = 0.95  # of what is offered: a group that carries less can't carry the demand
-GROWS = 1.5, 10.0  # by this factor and by so many seconds the last third of the passengers waits longer than the first: waiting grows
+GROWS = (
+    1.5,
+    10.0,
+)  # by this factor and by so many seconds the last third of the passengers waits longer than the first: waiting grows
 UNFINISHED = " *"
 # Student's t for a two-sided interval of 95 %, by the number of pairs.
-STUDENT = {2: 12.706, 3: 4.303, 4: 3.182, 5: 2.776, 6: 2.571, 7: 2.447, 8: 2.365, 9: 2.306, 10: 2.262, 15: 2.145, 20: 2.093, 30: 2.045}
+STUDENT = {
+    2: 12.706,
+    3: 4.303,
+    4: 3.182,
+    5: 2.776,
+    6: 2.571,
+    7: 2.447,
+    8: 2.365,
+    9: 2.306,
+    10: 2.262,
+    15: 2.145,
+    20: 2.093,
+    30: 2.045,
+}
 
 
 class Row(NamedTuple):
@@ -66,7 +82,9 @@ def is_carried(rows: list[Row]) -> bool:
     """Whether the group carried what was offered to it, in all these runs together."""
     factor, seconds = GROWS
     first, last = mean_of(rows, "waiting_first"), mean_of(rows, "waiting_last")
-    return mean_of(rows, "handled") >= CARRIED * mean_of(rows, "offered") and not (last > first * factor and last > first + seconds)
+    return mean_of(rows, "handled") >= CARRIED * mean_of(rows, "offered") and not (
+        last > first * factor and last > first + seconds
+    )
 
 
 def cell(rows: list[Row], what: str) -> str:
@@ -102,15 +120,23 @@ def paired(rows: list[Row], one: str, other: str, what: str) -> str:
 
 def differences(rows: list[Row], best: str, shown: Shown, what: str) -> str:
     """Of one building: the best dispatcher less each other one."""
-    lines = [f"| {best} less | {' | '.join(f'{name}, {demand:g} %' for name, demand in shown.named.items())} |", "|---" * (1 + len(shown.named)) + "|"]
+    lines = [
+        f"| {best} less | {' | '.join(f'{name}, {demand:g} %' for name, demand in shown.named.items())} |",
+        "|---" * (1 + len(shown.named)) + "|",
+    ]
     for who in dict.fromkeys(it.dispatcher for it in rows if it.dispatcher != best):
-        cells = [paired(of_run(rows, traffic=name, demand=demand), best, who, what) for name, demand in shown.named.items()]
+        cells = [
+            paired(of_run(rows, traffic=name, demand=demand), best, who, what) for name, demand in shown.named.items()
+        ]
         lines.append(f"| {who} | {' | '.join(cells)} |")
     return "\n".join(lines) + "\n"
 
 
 def capacity(rows: list[Row]) -> tuple[float, bool]:
-    """The greatest demand, in per cent, that is carried to 95 %, between two demands of the study; and whether it isn't more than the greatest of them."""
+    """The greatest demand, in per cent, that is carried to 95 %, between two demands of the study.
+
+    And whether all of them are carried, so that it may be more.
+    """
     below = (0.0, 1.0)
     for demand in sorted({it.demand for it in rows}):
         own = of_run(rows, demand=demand)
@@ -140,7 +166,9 @@ def tables(rows: list[Row], best: str, shown: Shown) -> str:
                 parts.append(f"{traffic}, {demand:g} % (s):\n\n{table(there)}")
         if any(it.dispatcher == best for it in own):
             parts.append(f"Difference of the mean waiting (s):\n\n{differences(own, best, shown, 'waiting')}")
-            parts.append(f"Difference of the mean time to destination (s):\n\n{differences(own, best, shown, 'journey')}")
+            parts.append(
+                f"Difference of the mean time to destination (s):\n\n{differences(own, best, shown, 'journey')}"
+            )
     if charted := of_run(rows, run=DEMAND):
         parts.append(f"### Handling capacity: {shown.charted}\n\n{capacities(charted, shown)}")
     return "\n".join(parts)
