@@ -115,7 +115,10 @@ def paired(rows: list[Row], one: str, other: str, what: str) -> str:
     """By how much the first has more than the second, seed by seed."""
     of = [{it.seed: getattr(it, what) for it in of_run(rows, dispatcher=who)} for who in (one, other)]
     seeds = of[0].keys() & of[1].keys()
-    return interval([of[0][seed] - of[1][seed] for seed in sorted(seeds)]) if seeds else ""
+    if not seeds:
+        return ""
+    are_carried = all(is_carried(of_run(rows, dispatcher=who)) for who in (one, other))
+    return interval([of[0][seed] - of[1][seed] for seed in sorted(seeds)]) if are_carried else UNFINISHED.strip()
 
 
 def differences(rows: list[Row], best: str, shown: Shown, what: str) -> str:
