@@ -219,6 +219,7 @@ VAR
   HERE : BOOL;  (* a passenger wants to get in or out at this floor *)
   CAME_FROM : INT (0..8);  (* the landing that the car has left; 0 for none *)
   OVER : BOOL;  (* the door has been open long enough *)
+  OPENS : BOOL;  (* the door is to be open, also while LEVEL is lost at an open door *)
   RECALLED : BOOL;  (* there was a fire recall in the scan before *)
   DWELL : TON;  (* how long nobody has passed the open door *)
   PASSAGE : TON;  (* how long the door has been open *)
@@ -239,7 +240,7 @@ END_VAR
 (* Fire: each car goes down to floor 1. Interlock rule 6 lets no car run up. The calls stay as
    they are, and the car goes on with them after the recall. *)
 LD FIRE
-JMPCN ELSE_179
+JMPCN ELSE_180
 LD TRUE
 ST RECALLED
 CAL DWELL(IN := FALSE)
@@ -254,21 +255,24 @@ ST CAME_FROM
 LD POS
 EQ 1
 AND LEVEL
-JMPCN ELSE_189
+JMPCN ELSE_190
 (* At floor 1 it stands with its door open, as long as FIRE holds. *)
 LD 0
 ST MOTOR
 LD TRUE
-ST OPEN
-RET
-ELSE_189:
+ST OPENS
+JMP END_IF_190
+ELSE_190:
 LD FALSE
-ST OPEN
+ST OPENS
 LD LOCKED
 SEL 0, -1
 ST MOTOR
+END_IF_190:
+LD OPENS
+ST OPEN
 RET
-ELSE_179:
+ELSE_180:
 
 (* Where is work? The block looks at all call slots. A passenger gets in or out where the car
    stands level with a floor, its door wholly open; not yet in the first scan after a recall,
@@ -384,7 +388,7 @@ ANDN LOCKED
 STN IDLE.IN
 CAL IDLE(PT := T#15s)
 LD IDLE.Q
-JMPCN ELSE_246
+JMPCN ELSE_248
 LD CARNO
 SUB 1
 MUL 8
@@ -397,31 +401,31 @@ ST ABOVE
 LD POS
 GT HOME
 ST BELOW
-ELSE_246:
+ELSE_248:
 
 (* A car that is out and has no call goes to another landing: once it has moved, it is back. *)
 LD OUT[CARNO]
 ANDN ABOVE
 ANDN BELOW
 ANDN CALLS.OUT_HERE
-JMPCN ELSE_253
+JMPCN ELSE_255
 LD POS
 LT 8
 ST ABOVE
 LDN ABOVE
 ST BELOW
-ELSE_253:
+ELSE_255:
 
 LD REST.Q
 ANDN LEVEL
-JMPCN ELSE_258
+JMPCN ELSE_260
 LD 0
 ST MOTOR
 RET
-ELSE_258:
+ELSE_260:
 LD MOTOR
 NE 0
-JMPCN ELSE_260
+JMPCN ELSE_262
 (* It runs. Between two landings it runs on, and at the landing from which it comes. *)
 LD MOTOR
 ST DIRECTION
@@ -448,40 +452,43 @@ RETCN
 LD 0
 ST MOTOR
 LD HERE
+ST OPENS
 ST OPEN
 RET
-ELSE_260:
+ELSE_262:
 LD LEVEL
-JMPCN ELSE_275
+JMPCN ELSE_278
 (* It stands. At a landing it keeps its direction as long as there is work that way. *)
 LD DIRECTION
 EQ -1
 ORN ABOVE
 AND BELOW
-JMPCN ELSE_277
+JMPCN ELSE_280
 LD -1
 ST DIRECTION
-JMP END_IF_277
-ELSE_277:
+JMP END_IF_280
+ELSE_280:
 LD ABOVE
 SEL 0, 1
 ST DIRECTION
-END_IF_277:
+END_IF_280:
 
-(* The door opens for those who get in or out, and stays open until its time is over. *)
+(* The door opens for those who get in or out, and stays open until its time is over. While LEVEL
+   is lost the interlock takes the open command away: OPENS keeps the wish. *)
 LD DIRECTION
 EQ 1
 SEL CALLS.DOWN_HERE, CALLS.UP_HERE
 OR CALLS.OUT_HERE
 ORN LET_OUT
 ST HERE
-LD OPEN
+LD OPENS
 ANDN OVER
 OR HERE
+ST OPENS
 ST OPEN
 
 (* Then the door shuts. Once it is locked the car runs, if it has work. *)
-LDN OPEN
+LDN OPENS
 AND LOCKED
 RETCN
 LD POS
@@ -489,13 +496,15 @@ ST CAME_FROM
 LD DIRECTION
 ST MOTOR
 RET
-ELSE_275:
+ELSE_278:
 LD LOCKED
 RETCN
 (* It stands between two landings, after a start, a fire recall or a limit of running cars. It runs
    on as it has run, after a start or a recall down; from beyond an end of the shaft it runs back. *)
 LD 0
 ST CAME_FROM
+LD FALSE
+ST OPENS
 LD DIRECTION
 EQ 0
 SEL DIRECTION, -1
@@ -574,7 +583,7 @@ ST WORKS[2]
 LD RUNLIMIT
 GT 0
 ANDN FIRE
-JMPCN ELSE_356
+JMPCN ELSE_362
 LD CALLCAR[1]
 ST HELD1
 LD TRUE
@@ -639,7 +648,7 @@ LD CALLCAR[16]
 ST HELD1
 LD TRUE
 ST WORKS[HELD1]
-ELSE_356:
+ELSE_362:
 CAL WATCH1(FLOOR := CPOS[1], RUNS := CMOTOR[1], WORKS := WORKS[1])
 LD WATCH1.IS_OUT
 ST OUT[1]
@@ -703,12 +712,12 @@ ST WAITING
    slots until the recall is over. *)
 LD WAITING
 EQ 0
-JMPC PAST_372
+JMPC PAST_378
 LD FIRE
-JMPCN ELSE_372
-PAST_372:
+JMPCN ELSE_378
+PAST_378:
 RET
-ELSE_372:
+ELSE_378:
 
 (* Which car is nearest to the landing? At a tie it is the one with the lowest number. *)
 LD CALLFROM[WAITING]
@@ -723,24 +732,24 @@ ABS
 ST DISTANCE
 LT LEAST
 ANDN OUT[1]
-JMPCN ELSE_382
+JMPCN ELSE_388
 LD 1
 ST CHOSEN
 LD DISTANCE
 ST LEAST
-ELSE_382:
+ELSE_388:
 LD CPOS[2]
 SUB LANDING
 ABS
 ST DISTANCE
 LT LEAST
 ANDN OUT[2]
-JMPCN ELSE_382_2
+JMPCN ELSE_388_2
 LD 2
 ST CHOSEN
 LD DISTANCE
 ST LEAST
-ELSE_382_2:
+ELSE_388_2:
 
 (* It gets the call. If all cars are out, none does, and the call waits. *)
 LD CHOSEN

@@ -219,6 +219,7 @@ VAR
   HERE : BOOL;  (* a passenger wants to get in or out at this floor *)
   CAME_FROM : INT (0..16);  (* the landing that the car has left; 0 for none *)
   OVER : BOOL;  (* the door has been open long enough *)
+  OPENS : BOOL;  (* the door is to be open, also while LEVEL is lost at an open door *)
   RECALLED : BOOL;  (* there was a fire recall in the scan before *)
   DWELL : TON;  (* how long nobody has passed the open door *)
   PASSAGE : TON;  (* how long the door has been open *)
@@ -240,7 +241,7 @@ END_VAR
 (* Fire: each car goes down to floor 1. Interlock rule 6 lets no car run up. The calls stay as
    they are, and the car goes on with them after the recall. *)
 LD FIRE
-JMPCN ELSE_180
+JMPCN ELSE_181
 LD TRUE
 ST RECALLED
 CAL DWELL(IN := FALSE)
@@ -255,21 +256,24 @@ ST CAME_FROM
 LD POS
 EQ 1
 AND LEVEL
-JMPCN ELSE_190
+JMPCN ELSE_191
 (* At floor 1 it stands with its door open, as long as FIRE holds. *)
 LD 0
 ST MOTOR
 LD TRUE
-ST OPEN
-RET
-ELSE_190:
+ST OPENS
+JMP END_IF_191
+ELSE_191:
 LD FALSE
-ST OPEN
+ST OPENS
 LD LOCKED
 SEL 0, -1
 ST MOTOR
+END_IF_191:
+LD OPENS
+ST OPEN
 RET
-ELSE_180:
+ELSE_181:
 
 (* Where is work? The block looks at all call slots. A passenger gets in or out where the car
    stands level with a floor, its door wholly open; not yet in the first scan after a recall,
@@ -404,7 +408,7 @@ ANDN LOCKED
 STN IDLE.IN
 CAL IDLE
 LD IDLE.Q
-JMPCN ELSE_248
+JMPCN ELSE_250
 LD CARNO
 SUB 1
 MUL 16
@@ -421,31 +425,31 @@ ST ABOVE
 LD POS
 GT HOME
 ST BELOW
-ELSE_248:
+ELSE_250:
 
 (* A car that is out and has no call goes to another landing: once it has moved, it is back. *)
 LD OUT[CARNO]
 ANDN ABOVE
 ANDN BELOW
 ANDN CALLS.OUT_HERE
-JMPCN ELSE_257
+JMPCN ELSE_259
 LD POS
 LT 16
 ST ABOVE
 LDN ABOVE
 ST BELOW
-ELSE_257:
+ELSE_259:
 
 LD REST.Q
 ANDN LEVEL
-JMPCN ELSE_262
+JMPCN ELSE_264
 LD 0
 ST MOTOR
 RET
-ELSE_262:
+ELSE_264:
 LD MOTOR
 NE 0
-JMPCN ELSE_264
+JMPCN ELSE_266
 (* It runs. Between two landings it runs on, and at the landing from which it comes. *)
 LD MOTOR
 ST DIRECTION
@@ -472,40 +476,43 @@ RETCN
 LD 0
 ST MOTOR
 LD HERE
+ST OPENS
 ST OPEN
 RET
-ELSE_264:
+ELSE_266:
 LD LEVEL
-JMPCN ELSE_279
+JMPCN ELSE_282
 (* It stands. At a landing it keeps its direction as long as there is work that way. *)
 LD DIRECTION
 EQ -1
 ORN ABOVE
 AND BELOW
-JMPCN ELSE_281
+JMPCN ELSE_284
 LD -1
 ST DIRECTION
-JMP END_IF_281
-ELSE_281:
+JMP END_IF_284
+ELSE_284:
 LD ABOVE
 SEL 0, 1
 ST DIRECTION
-END_IF_281:
+END_IF_284:
 
-(* The door opens for those who get in or out, and stays open until its time is over. *)
+(* The door opens for those who get in or out, and stays open until its time is over. While LEVEL
+   is lost the interlock takes the open command away: OPENS keeps the wish. *)
 LD DIRECTION
 EQ 1
 SEL CALLS.DOWN_HERE, CALLS.UP_HERE
 OR CALLS.OUT_HERE
 ORN LET_OUT
 ST HERE
-LD OPEN
+LD OPENS
 ANDN OVER
 OR HERE
+ST OPENS
 ST OPEN
 
 (* Then the door shuts. Once it is locked the car runs, if it has work. *)
-LDN OPEN
+LDN OPENS
 AND LOCKED
 RETCN
 LD POS
@@ -513,13 +520,15 @@ ST CAME_FROM
 LD DIRECTION
 ST MOTOR
 RET
-ELSE_279:
+ELSE_282:
 LD LOCKED
 RETCN
 (* It stands between two landings, after a start, a fire recall or a limit of running cars. It runs
    on as it has run, after a start or a recall down; from beyond an end of the shaft it runs back. *)
 LD 0
 ST CAME_FROM
+LD FALSE
+ST OPENS
 LD DIRECTION
 EQ 0
 SEL DIRECTION, -1
@@ -543,12 +552,12 @@ VAR_INPUT
 END_VAR
 
 LD IS_UP
-JMPCN ELSE_322
+JMPCN ELSE_328
 LD FLOOR
 MAX 1
 ST PLACE_OF
 RET
-ELSE_322:
+ELSE_328:
 LD 33
 SUB FLOOR
 MIN 32
@@ -581,7 +590,7 @@ END_VAR
 
 (* A new call: nothing is counted yet. *)
 LD ANEW
-JMPCN ELSE_355
+JMPCN ELSE_361
 LD 0
 ST BEFORE
 ST BETWEEN
@@ -623,7 +632,7 @@ ST STOP[30]
 ST STOP[31]
 ST STOP[32]
 RET
-ELSE_355:
+ELSE_361:
 
 (* Is this passenger delayed where the car stops for the new one? *)
 LD AHEAD
@@ -735,7 +744,7 @@ END_VAR
 (* Slot 1 begins anew. *)
 LD SLOT
 EQ 1
-JMPCN ELSE_504
+JMPCN ELSE_510
 (* How long does the car take for a floor, and for a stop? It is measured, so that nothing has to
    be known of its drive and door. Halved now and then, the sums forget. *)
 LD RUNS
@@ -753,14 +762,14 @@ LD FLOOR
 ST WAS_AT
 LD RUN_TIME
 GE 10000
-JMPCN ELSE_456
+JMPCN ELSE_462
 LD RUN_TIME
 DIV 2
 ST RUN_TIME
 LD RUN_FLOORS
 DIV 2
 ST RUN_FLOORS
-ELSE_456:
+ELSE_462:
 LD RUN_FLOORS
 MAX 1
 ST RUN_FLOORS
@@ -777,22 +786,22 @@ EQ 0
 AND( CALLS
 NE 0
 )
-JMPCN ELSE_465
+JMPCN ELSE_471
 LD STOOD
 MIN 600
 ADD 1
 ST STOOD
-JMP END_IF_465
-ELSE_465:
+JMP END_IF_471
+ELSE_471:
 LD STOOD
 GE 10
-JMPCN ELSE_471
+JMPCN ELSE_477
 LD STOOD
 LE 600
-JMPCN ELSE_471
+JMPCN ELSE_477
 LD RUNS
 NE 0
-JMPCN ELSE_471
+JMPCN ELSE_477
 LD STOOD_TIME
 ADD STOOD
 MIN 20000
@@ -803,17 +812,17 @@ ADD 1
 ST STOPS_MADE
 LD STOOD_TIME
 GE 10000
-JMPCN ELSE_471
+JMPCN ELSE_477
 LD STOOD_TIME
 DIV 2
 ST STOOD_TIME
 LD STOPS_MADE
 DIV 2
 ST STOPS_MADE
-ELSE_471:
+ELSE_477:
 LD 0
 ST STOOD
-END_IF_465:
+END_IF_471:
 LD STOPS_MADE
 MAX 1
 ST STOPS_MADE
@@ -827,24 +836,24 @@ ST STOP_TIME
    there. ABOVE and BELOW are those of the scan before. *)
 LD RUNS
 NE 0
-JMPCN ELSE_483
+JMPCN ELSE_489
 LD RUNS
 ST DIRECTION
-JMP END_IF_483
-ELSE_483:
+JMP END_IF_489
+ELSE_489:
 LD DIRECTION
 EQ -1
 ORN ABOVE
 AND BELOW
-JMPCN ELSE_485
+JMPCN ELSE_491
 LD -1
 ST DIRECTION
-JMP END_IF_483
-ELSE_485:
+JMP END_IF_489
+ELSE_491:
 LD ABOVE
 SEL 0, 1
 ST DIRECTION
-END_IF_483:
+END_IF_489:
 LD DIRECTION
 NE -1
 ST HELD1
@@ -869,7 +878,7 @@ ST LOWEST
 (* Where in the circle are the floors of the new call, and how far ahead of the car? A car that
    runs is too late for the floor at which it is: DISTANCE is 1 then. *)
 LD ASKED
-JMPCN ELSE_504
+JMPCN ELSE_510
 LD NEW_TO
 GT NEW_FROM
 ST HELD1
@@ -900,16 +909,16 @@ MIN 48
 ST OUT_AHEAD
 CAL STOPS(ANEW := TRUE, IN_PLACE := IN_PLACE, IN_AHEAD := IN_AHEAD, OUT_PLACE := OUT_PLACE,
   OUT_AHEAD := OUT_AHEAD)
-ELSE_504:
+ELSE_510:
 
 (* Is the call of this slot assigned to this car? *)
 LD ASSIGNED
 NE CAR
-JMPCN ELSE_515
+JMPCN ELSE_521
 LD FALSE
 ST ABOARD[SLOT]
-JMP ELSE_550
-ELSE_515:
+JMP ELSE_556
+ELSE_521:
 LD CALLS
 MIN 31
 ADD 1
@@ -923,25 +932,25 @@ ANDN ABOARD[SLOT]
 AND( RUNS
 EQ 0
 )
-JMPCN ELSE_522
+JMPCN ELSE_528
 LD FILLED
 LT 8
-JMPCN ELSE_522
+JMPCN ELSE_528
 LD GETS_OFF
 GT GETS_ON
 SEL 1, -1
 NE DIRECTION
-JMPCN ELSE_522
+JMPCN ELSE_528
 LD TRUE
 ST ABOARD[SLOT]
 LD FILLED
 MIN 31
 ADD 1
 ST FILLED
-ELSE_522:
+ELSE_528:
 
 LD ABOARD[SLOT]
-JMPCN ELSE_528
+JMPCN ELSE_534
 (* They are in the car: it has work at their destination, and stops there. *)
 LD LOAD
 MIN 31
@@ -960,7 +969,7 @@ LD GETS_OFF
 MIN LOWEST
 ST LOWEST
 LD ASKED
-JMPCN ELSE_550
+JMPCN ELSE_556
 LD GETS_OFF
 GT FLOOR
 ST HELD1
@@ -981,8 +990,8 @@ ADD BESIDE
 MIN 32
 ST BESIDE
 CAL STOPS(ANEW := FALSE, PLACE := THERE, AHEAD := SECOND_AHEAD)
-JMP ELSE_550
-ELSE_528:
+JMP ELSE_556
+ELSE_534:
 (* They wait: the car has work at their landing. *)
 LD GETS_ON
 GT FLOOR
@@ -1013,7 +1022,7 @@ MIN GETS_OFF
 MIN LOWEST
 ST LOWEST
 LD ASKED
-JMPCN ELSE_550
+JMPCN ELSE_556
 (* It stops there for them, *)
 LD GETS_OFF
 GT GETS_ON
@@ -1052,7 +1061,7 @@ SEL 0, 1
 ADD BESIDE
 MIN 32
 ST BESIDE
-ELSE_550:
+ELSE_556:
 
 (* After the last slot all stops are known. *)
 LD SLOT
@@ -1087,17 +1096,17 @@ LD IN_AHEAD
 ST DISTANCE
 LD PLACE
 LE 16
-JMPCN PAST_581_2
+JMPCN PAST_587_2
 LD PLACE
 ADD IN_AHEAD
 GT 16
-JMPC PAST_581
-PAST_581_2:
+JMPC PAST_587
+PAST_587_2:
 LD PLACE
 ADD IN_AHEAD
 GT 48
-JMPCN ELSE_581
-PAST_581:
+JMPCN ELSE_587
+PAST_587:
 LD HIGHEST
 SUB 16
 MUL 2
@@ -1105,11 +1114,11 @@ SUB 1
 ADD DISTANCE
 MAX 0
 ST DISTANCE
-ELSE_581:
+ELSE_587:
 LD PLACE
 ADD IN_AHEAD
 GT 32
-JMPCN ELSE_584
+JMPCN ELSE_590
 LD LOWEST
 MUL -2
 ADD 1
@@ -1117,17 +1126,17 @@ ADD DISTANCE
 MAX 0
 MIN 48
 ST DISTANCE
-ELSE_584:
+ELSE_590:
 
 (* A car without calls runs straight there. *)
 LD CALLS
 EQ 0
-JMPCN ELSE_589
+JMPCN ELSE_595
 LD FLOOR
 SUB NEW_FROM
 ABS
 ST DISTANCE
-ELSE_589:
+ELSE_595:
 
 (* How long do they wait? For the run, the stops before, and the rest of the present stop. *)
 LD DISTANCE
@@ -1145,19 +1154,19 @@ NE 0
 AND( IN_AHEAD
 NE 0
 )
-JMPCN ELSE_595
+JMPCN ELSE_601
 LD STOP_TIME
 SUB STOOD
 MAX 0
 ADD WAITING
 MIN 8000
 ST WAITING
-ELSE_595:
+ELSE_601:
 
 (* If the car is full then, they wait for its next round trip as well. *)
 LD BESIDE
 GE 8
-JMPCN ELSE_600
+JMPCN ELSE_606
 LD FLOOR_TIME
 MUL 32
 ADD( STOP_TIME
@@ -1166,7 +1175,7 @@ MUL 4
 ADD WAITING
 MIN 8000
 ST WAITING
-ELSE_600:
+ELSE_606:
 
 (* How long are they in the car? *)
 LD NEW_TO
@@ -1305,7 +1314,7 @@ ST WORKS[4]
 LD RUNLIMIT
 GT 0
 ANDN FIRE
-JMPCN ELSE_678
+JMPCN ELSE_684
 LD CALLCAR[1]
 ST HELD1
 LD TRUE
@@ -1434,7 +1443,7 @@ LD CALLCAR[32]
 ST HELD1
 LD TRUE
 ST WORKS[HELD1]
-ELSE_678:
+ELSE_684:
 CAL WATCH1(FLOOR := CPOS[1], RUNS := CMOTOR[1], WORKS := WORKS[1])
 LD WATCH1.IS_OUT
 ST OUT[1]
@@ -1738,39 +1747,39 @@ ST CHOSEN
 LD ROUTE1.COST
 LT LEAST
 ANDN OUT[1]
-JMPCN ELSE_745
+JMPCN ELSE_751
 LD 1
 ST CHOSEN
 LD ROUTE1.COST
 ST LEAST
-ELSE_745:
+ELSE_751:
 LD ROUTE2.COST
 LT LEAST
 ANDN OUT[2]
-JMPCN ELSE_749
+JMPCN ELSE_755
 LD 2
 ST CHOSEN
 LD ROUTE2.COST
 ST LEAST
-ELSE_749:
+ELSE_755:
 LD ROUTE3.COST
 LT LEAST
 ANDN OUT[3]
-JMPCN ELSE_753
+JMPCN ELSE_759
 LD 3
 ST CHOSEN
 LD ROUTE3.COST
 ST LEAST
-ELSE_753:
+ELSE_759:
 LD ROUTE4.COST
 LT LEAST
 ANDN OUT[4]
-JMPCN ELSE_757
+JMPCN ELSE_763
 LD 4
 ST CHOSEN
 LD ROUTE4.COST
 ST LEAST
-ELSE_757:
+ELSE_763:
 
 (* It gets the call. If all cars are out, none does, and the call waits. *)
 LD CHOSEN

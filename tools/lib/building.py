@@ -451,11 +451,18 @@ class Building:
 
 
 def simulated(
-    scene: Scene, cars: int, demand: float, seed: int, start: Callable[[], Controller], pace: float | None = None, failing: list[Failure] | None = None
+    scene: Scene,
+    cars: int,
+    demand: float,
+    seed: int,
+    start: Callable[[], Controller],
+    pace: float | None = None,
+    failing: list[Failure] | None = None,
+    kind: type[Building] = Building,
 ) -> Building:
-    """A building behind its whole run, with what fails in it. `start` starts the child, once all else is right."""
+    """A building after its whole run, with what fails in it. `start` starts the child, once all else is right."""
     times, people = Timetable(scene.plant), arrivals(scene.mix, scene.population, demand, scene.length.arrivals * MINUTE, seed)
-    building = Building(scene.plant, times, cars, people, start())
+    building = kind(scene.plant, times, cars, people, start())
     if failing is not None:
         building.failures, building.restart = list(failing), start
     building.play(scene.length, pace)

@@ -38,6 +38,10 @@ class Figures:
     journey: Spread  # arrival to leaving, or to the end of the run
     waiting_to_door: Spread  # arrival until the door begins to open, of those who boarded
     journey_to_door: Spread  # the same of those who left
+    transit: Spread  # of those who left, from the time when the door begins to open for their boarding until it does for their leaving
+    waiting_first: float  # s, mean waiting of who arrived in the first third of the time that counts
+    waiting_last: float  # s, the same of the last third
+    offered: float  # persons who arrived in five minutes
     handled: float  # persons carried in five minutes
     mean_load: float  # persons, of the starts with somebody aboard
     greatest_load: int
@@ -52,6 +56,8 @@ def figures(building: Building, length: Length) -> Figures:
     people = [it for it in building.people[: building.arrived] if it.arrived > begin]
     boarded, left = [it for it in people if it.boarded >= 0], [it for it in people if it.left >= 0]
     carried = sum(begin < it.left <= end for it in building.people)
+    third = (end - begin) / 3
+    waited = [(it.arrived, (it.boarded if it.boarded >= 0 else stop) - it.arrived) for it in people]
     starts = sum(car.left_loaded for car in building.cars)
     return Figures(
         len(people),
@@ -60,6 +66,10 @@ def figures(building: Building, length: Length) -> Figures:
         spread([(it.left if it.left >= 0 else stop) - it.arrived for it in people]),
         spread([max(0.0, it.door_boarding - it.arrived) for it in boarded]),
         spread([max(0.0, it.door_leaving - it.arrived) for it in left]),
+        spread([it.door_leaving - it.door_boarding for it in left]),
+        spread([time for arrived, time in waited if arrived <= begin + third]).mean,
+        spread([time for arrived, time in waited if arrived > end - third]).mean,
+        len(people) * FIVE_MINUTES / (end - begin) if end > begin else 0.0,
         carried * FIVE_MINUTES / (end - begin) if end > begin else 0.0,
         sum(car.loads for car in building.cars) / starts if starts else 0.0,
         max(car.greatest for car in building.cars),
@@ -88,6 +98,7 @@ def report(building: Building, of: Figures, population: int) -> str:
         f"time to destination, arrival to leaving (s): {shown_spread(of.journey)}",
         f"waiting, until the door begins to open (s): {shown_spread(of.waiting_to_door)}",
         f"time to destination, until the door begins to open (s): {shown_spread(of.journey_to_door)}",
+        f"transit, from that door to that door (s): {shown_spread(of.transit)}",
         f"carried in five minutes: {of.handled:.1f} persons, {100 * of.handled / population:.1f} % of the population",
         f"load on leaving a landing (persons): mean {of.mean_load:.1f}, greatest {of.greatest_load}, capacity {building.plant.capacity}",
         f"passengers who pressed again: {of.pressed_again}; who found a car full: {of.found_full}; times let out on the way: {building.let_out}",

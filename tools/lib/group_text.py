@@ -16,9 +16,12 @@ from dataclasses import asdict, dataclass
 from typing import Iterator
 
 TEMPLATES = os.path.join(os.path.dirname(os.path.abspath(__file__)), "group")
-DISPATCHERS = {"nearest": "NEAREST_CAR", "turn": "IN_TURN", "same": "SAME_DESTINATION", "estimated": "ESTIMATED"}  # with the names of their programs
+DISPATCHERS = {"nearest": "NEAREST_CAR", "turn": "IN_TURN", "same": "SAME_DESTINATION", "estimated": "ESTIMATED", "etd": "TIME_TO_DESTINATION"}  # with the names of their programs
+MEASURING = "estimated", "etd"  # those that measure the times of the cars
 SECOND = 1000  # ms
 SCAN = 100  # ms, in which times are measured
+LEAST_HOLD, MOST_HOLD = 20 * SECOND, 600 * SECOND
+STOPPING = 4 * SECOND  # from the begin of the braking to a door that lets somebody through
 MOST_PASSING = 60 * SECOND  # car.st cuts the time of those who pass the door to a minute
 PARK_AT_ONCE = SECOND  # in an up-peak
 STOP_MORE_THAN_DWELL = 30  # scans that a stop is taken to last before it is measured
@@ -31,25 +34,40 @@ class Group:
     cars: int
     floors: int
     slots: int
-    dispatch: str = "estimated"
+    dispatch: str = "etd"
     capacity: int = 8
     dwell: int = 3 * SECOND
     transfer: int = SECOND
-    hold: int = 20 * SECOND
+    hold: int | None = None  # None: by the capacity
     park: int = 15 * SECOND
     out: int = 30 * SECOND
+    dwell_out: int | None = None  # None: the dwell
 
     def parts(self) -> set[str]:
         """Those that not every group has. In an up-peak GROUP calls idle cars back to floor 1."""
-        parks, estimates = self.park > 0, self.dispatch == "estimated"
-        return {name for name, is_there in {"parking": parks, "estimated": estimates, "up_peak": parks and estimates}.items() if is_there}
+        parks, measures = self.park > 0, self.dispatch in MEASURING
+        there = {
+            "parking": parks, self.dispatch: True, "measured": measures, "up_peak": parks and measures,
+            "main_floor": (parks and measures) or self.dispatch == "etd", "dwell_out": self.dwell_out_time() != self.dwell,
+        }  # fmt: skip
+        return {name for name, is_there in there.items() if is_there}
+
+    def hold_time(self) -> int:
+        """If none is given: a stop in which a full car is emptied and filled, and 4 s for the door."""
+        usual = min(MOST_HOLD, max(LEAST_HOLD, 2 * self.capacity * self.transfer + STOPPING))
+        return usual if self.hold is None else self.hold
+
+    def dwell_out_time(self) -> int:
+        return self.dwell if self.dwell_out is None else self.dwell_out
 
     def longest_stop(self) -> int:
         """Of a car that has work elsewhere, but for its door's ways."""
-        return max(self.hold + self.dwell, min(MOST_PASSING + self.transfer, 2 * self.capacity * self.transfer))
+        return max(self.hold_time() + max(self.dwell, self.dwell_out_time()), min(MOST_PASSING + self.transfer, 2 * self.capacity * self.transfer))
 
     def values(self) -> dict[str, str]:
-        times = {name: getattr(self, name) for name in ("dwell", "transfer", "hold", "park", "out")} | {
+        times = {name: getattr(self, name) for name in ("dwell", "transfer", "park", "out")} | {
+            "hold": self.hold_time(),
+            "dwell_out": self.dwell_out_time(),
             "park_in_up_peak": min(PARK_AT_ONCE, self.park),
             "stand": self.longest_stop() + self.out,
             "rest": self.longest_stop() + 2 * self.out,
