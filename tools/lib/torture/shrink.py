@@ -1,0 +1,99 @@
+"""Makes a scenario that fails smaller: fewer events, earlier, shorter, with smaller numbers, on the simpler plant.
+
+Each step is tried, and kept where the property still fails. It ends where no step is left, or after so many tries, so it depends on the scenario alone.
+"""
+from __future__ import annotations
+
+from dataclasses import replace
+from typing import Callable, Iterator
+
+from lib.torture.scenario import Fault, Press, Scenario
+
+Event = Press | Fault
+TRIES = 400
+
+
+class Shrinker:
+    def __init__(self, scenario: Scenario, fails: Callable[[Scenario], bool], tries: int = TRIES):
+        self.best, self.fails, self.left, self.tried = scenario, fails, tries, {scenario}
+
+    def shrunk(self) -> Scenario:
+        before = None
+        while before != self.best and self.left > 0:
+            before = self.best
+            self.remove()
+            self.take(replace(self.best, plant="sim"))
+            self.walk(earlier)
+            self.walk(simpler)
+        return self.best
+
+    def take(self, scenario: Scenario) -> bool:
+        """Whether it fails too, and is the best one from now on."""
+        if scenario in self.tried or self.left <= 0:
+            return False
+        self.tried.add(scenario)
+        self.left -= 1
+        if not self.fails(scenario):
+            return False
+        self.best = scenario
+        return True
+
+    def remove(self):
+        """Fewer events: first halves, then quarters, and at last each by itself."""
+        size = (len(self.best.events()) + 1) // 2
+        while size:
+            at = 0
+            while at < len(self.best.events()) > 1:
+                events = self.best.events()
+                if not self.take(self.best.with_events(events[:at] + events[at + size :])):
+                    at += size
+            size //= 2
+
+    def walk(self, changed: Callable[[list[Event], int], Iterator[list[Event]]]):
+        """Each event in turn; where a change is kept, the same one again."""
+        at = 0
+        while at < len(self.best.events()) and self.left > 0:
+            events = in_order(self.best)
+            if not any(self.take(self.best.with_events(it)) for it in changed(events, at)):
+                at += 1
+
+
+def in_order(scenario: Scenario) -> list[Event]:
+    """Its events by round; of one round first the presses."""
+    return sorted(scenario.events(), key=lambda it: it.at)
+
+
+def earlier(events: list[Event], at: int) -> Iterator[list[Event]]:
+    """This event and all later ones, by the gap before it, half of it, and a round; then this one alone."""
+    first = events[at - 1].at if at else 1
+    gap = events[at].at - first
+    for by in dict.fromkeys((gap, gap // 2, gap // 8, 1)):
+        if 0 < by <= gap:
+            yield events[:at] + [replace(it, at=it.at - by) for it in events[at:]]
+            yield [*events[:at], replace(events[at], at=events[at].at - by), *events[at + 1 :]]
+
+
+def simpler(events: list[Event], at: int) -> Iterator[list[Event]]:
+    """This event with smaller numbers."""
+    event = events[at]
+    for it in simpler_press(event) if isinstance(event, Press) else simpler_fault(event):
+        yield [*events[:at], it, *events[at + 1 :]]
+
+
+def simpler_press(press: Press) -> Iterator[Press]:
+    for start in (1, press.start - 1):
+        if 0 < start < press.start and start != press.goal:
+            yield replace(press, start=start)
+    for goal in (1, 2, press.goal - 1):
+        if 0 < goal < press.goal and goal != press.start:
+            yield replace(press, goal=goal)
+
+
+def simpler_fault(fault: Fault) -> Iterator[Fault]:
+    for rounds in (10, fault.rounds // 2, fault.rounds // 10 * 10, fault.rounds - fault.rounds // 8):
+        if 0 < rounds < fault.rounds:
+            yield replace(fault, rounds=rounds)
+    if fault.car > 1:
+        yield replace(fault, car=1)
+    if fault.kind == "NOW" and fault.value:
+        yield replace(fault, value=0)
