@@ -1,9 +1,12 @@
 """Makes a scenario that fails smaller: fewer events, earlier, shorter, with smaller numbers, on the simpler plant.
 
 Each step is tried, and kept where the property still fails. It ends where no step is left, or after so many tries, so it depends on the scenario alone.
+What fails often hangs on the round in which a fault meets a car. Then no event can go without the others being moved; so small scenarios of the same kinds of
+events at random rounds are tried too.
 """
 from __future__ import annotations
 
+import random
 from dataclasses import replace
 from typing import Callable, Iterator
 
@@ -11,6 +14,7 @@ from lib.torture.scenario import Fault, Press, Scenario
 
 Event = Press | Fault
 TRIES = 400
+SMALL_TRIES, SMALL, EARLY = 120, 4, 150  # small scenarios that are tried, events of such a one, and rounds in which they begin
 
 
 class Shrinker:
@@ -18,14 +22,20 @@ class Shrinker:
         self.best, self.fails, self.left, self.tried = scenario, fails, tries, {scenario}
 
     def shrunk(self) -> Scenario:
+        self.remove()
+        self.take(replace(self.best, plant="sim"))
+        self.small()
+        self.until_same(lambda: self.walk(earlier))
+        self.until_same(lambda: [self.walk(simpler), self.walk(earlier)])
+        return self.best
+
+    def until_same(self, step: Callable[[], object]):
+        """These steps and fewer events, until nothing changes."""
         before = None
         while before != self.best and self.left > 0:
             before = self.best
+            step()
             self.remove()
-            self.take(replace(self.best, plant="sim"))
-            self.walk(earlier)
-            self.walk(simpler)
-        return self.best
 
     def take(self, scenario: Scenario) -> bool:
         """Whether it fails too, and is the best one from now on."""
@@ -48,6 +58,20 @@ class Shrinker:
                 if not self.take(self.best.with_events(events[:at] + events[at + size :])):
                     at += size
             size //= 2
+
+    def small(self):
+        """Random scenarios of few events that are like those of the best one."""
+        chance = random.Random(repr(self.best))
+        for _ in range(SMALL_TRIES):
+            many = len(self.best.events()) - 1
+            if many < SMALL:
+                return
+            faults = chance.sample(self.best.faults, min(len(self.best.faults), chance.randint(1, 2)))
+            presses = chance.sample(self.best.presses, min(len(self.best.presses), chance.randint(1, SMALL - 1)))
+            moved = [replace(it, at=chance.randint(1, EARLY)) for it in presses]
+            longer = [replace(it, at=chance.randint(1, 2 * EARLY), rounds=it.rounds * chance.choice((1, 2, 8))) for it in faults]
+            if len(moved + longer) <= many:
+                self.take(self.best.with_events(moved + longer))
 
     def walk(self, changed: Callable[[list[Event], int], Iterator[list[Event]]]):
         """Each event in turn; where a change is kept, the same one again."""
