@@ -23,6 +23,8 @@ MOST_NOW = 2_147_483_647
 EACH = 10  # rounds from one look of the judge to the next
 QUIET_AFTER = 300  # rounds that a run goes on when all is done
 FEWEST = 20  # passengers of whom a 95th of 100 is taken
+SPARE = 4  # passengers
+RECOVERY = 1200  # rounds in which a group gets over what failed
 OTHERS_RUN = 5  # the rule that a program can't see coming
 
 PROPERTIES = {
@@ -38,10 +40,12 @@ PROPERTIES = {
 }
 
 
-def default_times(plant: str, sizes: Sizes) -> dict[str, int]:
-    """T of each property in rounds, and K of `fair`. `served` is the time in which one car could take all passengers one by one, and four more."""
-    served = ride(plant, sizes.floors) * (crowd(sizes) + 4)
-    usual = {"moves": 1200, "shuts": 600, "quiet": 600, "fair": 5, "dead": served + 2400}
+def default_times(scenario: Scenario, sizes: Sizes) -> dict[str, int]:
+    """T of each property in rounds, and K of `fair`. That of `served` is the time in which one car could take all passengers one by one, and SPARE more; where
+    something fails, RECOVERY more."""
+    many = min(len(scenario.presses), crowd(sizes))
+    served = ride(scenario.plant, sizes.floors) * (many + SPARE) + (RECOVERY if scenario.faults else 0)
+    usual = {"moves": RECOVERY, "shuts": 600, "quiet": 600, "fair": 5, "dead": served + RECOVERY}
     return {name: usual.get(name, served) for name in PROPERTIES}
 
 
@@ -60,8 +64,8 @@ class Rules:
     capacity: int = 8
     stops_at: str = ""  # the run ends where this one fails
 
-    def times_on(self, plant: str) -> dict[str, int]:
-        return {**default_times(plant, self.sizes), **self.times}
+    def times_of(self, scenario: Scenario) -> dict[str, int]:
+        return {**default_times(scenario, self.sizes), **self.times}
 
 
 @dataclass(frozen=True)
@@ -99,7 +103,7 @@ class Run:
     """Of one scenario. `failures` is the first one of each property, `presses` what was pressed, `seen` the refreshes."""
 
     def __init__(self, scenario: Scenario, rules: Rules, machine: Machine, keeps: bool = False):
-        self.scenario, self.rules, self.machine, self.times = scenario, rules, machine, rules.times_on(scenario.plant)
+        self.scenario, self.rules, self.machine, self.times = scenario, rules, machine, rules.times_of(scenario)
         cars, floors, _ = rules.sizes
         self.cars = made_cars(scenario.plant, cars, floors)
         self.outputs = [(0, 0)] * cars
@@ -146,7 +150,7 @@ class Run:
 
     def step(self):
         self.now = now = self.now + 1
-        self.clock = min(self.clock + MS_A_ROUND, MOST_NOW)
+        self.clock = (self.clock + MS_A_ROUND) % (MOST_NOW + 1)
         if now == self.changes[self.next_change]:
             self.change()
         for at, car in enumerate(self.cars):

@@ -193,7 +193,7 @@ def random_presses(chance: random.Random, size: float, sizes: Sizes, crowd: int)
 
 
 def random_faults(chance: random.Random, size: float, sizes: Sizes, kinds: tuple[str, ...], span: int) -> list[Fault]:
-    if "DEAD" in kinds and sizes.cars > 1 and chance.random() < 0.25:
+    if "DEAD" in kinds and sizes.cars > 1 and chance.random() < 0.35:
         return [Fault(chance.randint(1, span), "DEAD", chance.randint(1, sizes.cars), 0, FOR_GOOD)]
     return [random_fault(chance, sizes, kinds, span) for _ in range(1 + int(4 * size * chance.random()))]
 
@@ -201,7 +201,7 @@ def random_faults(chance: random.Random, size: float, sizes: Sizes, kinds: tuple
 def random_fault(chance: random.Random, sizes: Sizes, kinds: tuple[str, ...], span: int) -> Fault:
     kind, at, rounds = chance.choice(kinds), chance.randint(1, span), chance.randint(10, LONGEST_FAULT)
     if kind == "NOW":
-        return Fault(at, kind, 0, chance.choice((0, chance.randrange(100 * at))), 0)
+        return Fault(at, kind, 0, chance.choice((0, chance.randrange(MOST_NOW), MOST_NOW - chance.randrange(100 * span))), 0)
     if kind == "FIRE":
         return Fault(at, kind, 0, 1, rounds)
     if kind == "LIMIT":

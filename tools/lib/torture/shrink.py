@@ -13,8 +13,8 @@ from typing import Callable, Iterator
 from lib.torture.scenario import Fault, Press, Scenario
 
 Event = Press | Fault
-TRIES = 400
-SMALL_TRIES, SMALL, EARLY = 120, 4, 150  # small scenarios that are tried, events of such a one, and rounds in which they begin
+TRIES = 200
+SMALL_TRIES, SMALL, EARLY = 80, 4, 150  # small scenarios that are tried, events of such a one, and rounds in which they begin
 
 
 class Shrinker:
@@ -119,5 +119,7 @@ def simpler_fault(fault: Fault) -> Iterator[Fault]:
             yield replace(fault, rounds=rounds)
     if fault.car > 1:
         yield replace(fault, car=1)
-    if fault.kind == "NOW" and fault.value:
-        yield replace(fault, value=0)
+    if fault.kind == "NOW":
+        for value in (0, 10 ** (len(str(fault.value)) - 1), fault.value // 10):
+            if value < fault.value:
+                yield replace(fault, value=value)

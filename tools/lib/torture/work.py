@@ -61,9 +61,15 @@ class Worker:
     def fails(self, scenario: Scenario, name: str) -> bool:
         return name in self.ran(scenario, self.alone(name)).failures
 
-    def shrunk(self, scenario: Scenario, name: str) -> Scenario:
-        """A smaller scenario in which this property fails too; the same one where it doesn't fail without what was turned away."""
-        return Shrinker(scenario, lambda it: self.fails(it, name)).shrunk() if self.fails(scenario, name) else scenario
+    def shrunk(self, scenario: Scenario, name: str, known: list[Scenario]) -> Scenario:
+        """A smaller scenario in which this property fails too, perhaps one of those that are known; the same one where it doesn't fail without what was turned
+        away."""
+        for other in known:
+            if len(other.events()) < len(scenario.events()) and self.fails(other, name):
+                scenario = other
+        if not self.fails(scenario, name):
+            return scenario
+        return scenario if scenario in known else Shrinker(scenario, lambda it: self.fails(it, name)).shrunk()
 
 
 WORKER: list[Worker] = []  # of this process
@@ -75,10 +81,6 @@ def begin(task: Task):
 
 def result(number: int) -> Result:
     return WORKER[0].result(number)
-
-
-def shrunk(scenario: Scenario, name: str) -> Scenario:
-    return WORKER[0].shrunk(scenario, name)
 
 
 def size(result: Result, name: str) -> tuple[int, int, int]:
