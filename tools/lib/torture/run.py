@@ -129,7 +129,8 @@ class Run:
         self.last: Answer | None = None
         self.keeps, self.heard = keeps, []  # what was pressed, reported and answered in each round
         self.presses: list[Press] = []
-        self.ends_at = scenario.last() + max(self.times[name] for name in self.times if name != "fair") + 2 * EACH
+        longest = max(self.times[name] for name in (rules.wanted - {"fair"} or {"served"}))
+        self.ends_at = scenario.last() + longest + 2 * EACH
 
     def play(self) -> Run:
         while not self.is_over():
