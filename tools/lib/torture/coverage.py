@@ -1,7 +1,7 @@
 """Which instructions of a text the scenarios ran: those that `scan` shows in scans that differ from each other.
 
 To look at every scan would take hours. So a scan is looked at where something of it is new: what the car reports, what it asked for and asks for, what is said
-of its calls. The looking ends after MOST scans, or after IN_VAIN of them in a row that ran nothing new. So what is said never to run may have run elsewhere.
+of its calls; and where that ends. The looking ends after MOST scans, or after IN_VAIN of them in a row that ran nothing new. So what is said never to run may have run elsewhere.
 """
 from __future__ import annotations
 
@@ -90,23 +90,33 @@ class Coverage:
             self.ran |= lines
 
     def chosen(self, heard: Heard) -> Iterator[tuple[int, int]]:
-        """The scans that differ from those that were looked at, with their rounds."""
-        entered, before = -SOON, None
+        """The scans that differ from those that were looked at, with their rounds; and of what stays for some rounds the last one."""
+        entered, before, were = -SOON, (None, None), {}
         for at, (_, fields, answer) in enumerate(heard, 1):
             kinds = defaultdict(set)
             for notice in answer.notices:
                 kinds[notice[0]].add(notice[1] if notice[0] == "denied" else notice[2])
             entered = at if kinds["entered"] else entered
             for task in self.tasks:
-                now = (at - entered if at - entered <= SOON else None, len(kinds["told"])) if task == GROUP else self.of_car(task, fields, answer, kinds, before)
-                if (task, fields.fire, now) not in self.known:
-                    self.known.add((task, fields.fire, now))
-                    yield task, at
-            before = answer
+                of = (at - entered if at - entered <= SOON else None, len(kinds["told"])) if task == GROUP else self.of_car(task, fields, answer, kinds, before)
+                now, was = (task, fields.fire, of), were.get(task)
+                if was is not None and was != now:
+                    yield from self.new(task, at - 1, ("last", *was))
+                yield from self.new(task, at, now)
+                were[task] = now
+            before = fields, answer
 
-    def of_car(self, car: int, fields: Fields, answer: Answer, kinds: dict, before: Answer | None) -> tuple:
+    def new(self, task: int, at: int, what: tuple) -> Iterator[tuple[int, int]]:
+        if what not in self.known:
+            self.known.add(what)
+            yield task, at
+
+    def of_car(self, car: int, fields: Fields, answer: Answer, kinds: dict, before: tuple[Fields | None, Answer | None]) -> tuple:
         said_of = tuple(kind for kind in ("denied", "told", "served") if car in kinds[kind])
-        return fields.cars[car - 1][1:], answer.outputs[car - 1], before and before.outputs[car - 1], said_of
+        pos, *flags = fields.cars[car - 1]
+        if before[0] is None:
+            return *flags, answer.outputs[car - 1], said_of
+        return *flags, pos != before[0].cars[car - 1][0], answer.outputs[car - 1], before[1].outputs[car - 1], said_of
 
     def missed(self) -> dict[str, list[int]]:
         """By unit, the lines that weren't seen to run."""

@@ -129,6 +129,7 @@ class Run:
         self.last: Answer | None = None
         self.keeps, self.heard = keeps, []  # what was pressed, reported and answered in each round
         self.presses: list[Press] = []
+        self.tried = set(PROPERTIES) - {"dead", "fair"}  # those that could fail in it
         longest = max(self.times[name] for name in (rules.wanted - {"fair"} or {"served"}))
         self.ends_at = scenario.last() + longest + 2 * EACH
 
@@ -283,6 +284,7 @@ class Run:
         was_bad, was_disturbed = self.bad, self.disturbed
         passing = [it for it in held if not it.is_for_good()]
         self.gone = {it.car - 1 for it in held if it.is_for_good()}
+        self.tried |= {"dead"} if self.gone else set()
         of_all = any(not it.car for it in passing)
         self.bad = set(range(len(self.cars))) if of_all else {it.car - 1 for it in passing}
         self.disturbed = bool(passing)
@@ -365,6 +367,7 @@ class Run:
         waits = sorted(self.waits + [self.now - it.pressed for it in still])
         if len(waits) < FEWEST:
             return
+        self.tried.add("fair")
         usual = waits[ceil(0.95 * len(waits)) - 1]
         if waits[-1] > max(self.times["fair"] * usual, 60 * ROUNDS_A_SECOND):
             self.fault("fair", f"a passenger waits {shown(waits[-1])}, and 95 of 100 at most {shown(usual)}")
@@ -375,7 +378,7 @@ def shown(rounds: int) -> str:
 
 
 def counted(many: int, what: str) -> str:
-    return f"{many} {what}{'' if many == 1 else 's'}"
+    return f"{many} {what}{'' if many == 1 else 'es' if what.endswith('s') else 's'}"
 
 
 def stands(car) -> str:

@@ -32,6 +32,7 @@ class Result:
     presses: int
     scenario: Scenario
     failures: dict[str, Failure]
+    tried: frozenset[str]  # the properties that could fail
 
 
 class Worker:
@@ -52,7 +53,7 @@ class Worker:
     def result(self, number: int) -> Result:
         run = self.ran(self.scenario(number))
         kept = replace(run.scenario, presses=tuple(it for it in run.scenario.presses if it not in set(run.turned_away)))
-        return Result(number, run.now, len(run.presses), kept, run.failures)
+        return Result(number, run.now, len(run.presses), kept, run.failures, frozenset(run.tried))
 
     def alone(self, name: str) -> Rules:
         """The rules for this property."""
