@@ -60,6 +60,30 @@ def trace(heard: Heard, floors: int, of: list[int]) -> str:
     return "\n".join(["LIFTTRACE 2", *lines, f"E {len(lines)}", ""])
 
 
+class Calls:
+    """Those that hold a slot, by what was said; and of the last round the cars of which something was said, by kind."""
+
+    def __init__(self):
+        self.floors: dict[int, tuple[int, int]] = {}  # by ticket
+        self.cars: dict[int, int] = {}
+        self.kinds: dict[str, set[int]] = defaultdict(set)
+
+    def hear(self, answer: Answer):
+        self.kinds = defaultdict(set)
+        for kind, *numbers in answer.notices:
+            self.kinds[kind].add(numbers[0] if kind == "denied" else numbers[1])
+            if kind == "entered":
+                self.floors[numbers[0]] = numbers[2], numbers[3]
+            elif kind == "told":
+                self.cars[numbers[0]] = numbers[1]
+            elif kind == "served":
+                del self.floors[numbers[0]], self.cars[numbers[0]]
+
+    def way(self, car: int, pos: int) -> tuple[int, ...]:
+        """Where the floors of the car's calls are: below, here, above."""
+        return tuple(sorted({(floor > pos) - (floor < pos) for ticket, at in self.cars.items() if at == car for floor in self.floors[ticket]}))
+
+
 class Coverage:
     """`ran` has the lines that were seen to run."""
 
@@ -91,14 +115,15 @@ class Coverage:
 
     def chosen(self, heard: Heard) -> Iterator[tuple[int, int]]:
         """The scans that differ from those that were looked at, with their rounds; and of what stays for some rounds the last one."""
-        entered, before, were = -SOON, (None, None), {}
+        calls, entered, before, were = Calls(), -SOON, (None, None), {}
         for at, (_, fields, answer) in enumerate(heard, 1):
-            kinds = defaultdict(set)
-            for notice in answer.notices:
-                kinds[notice[0]].add(notice[1] if notice[0] == "denied" else notice[2])
-            entered = at if kinds["entered"] else entered
+            calls.hear(answer)
+            entered = at if calls.kinds["entered"] else entered
             for task in self.tasks:
-                of = (at - entered if at - entered <= SOON else None, len(kinds["told"])) if task == GROUP else self.of_car(task, fields, answer, kinds, before)
+                if task == GROUP:
+                    of = at - entered if at - entered <= SOON else None, len(calls.kinds["told"])
+                else:
+                    of = self.of_car(task, fields, answer, calls, before)
                 now, was = (task, fields.fire, of), were.get(task)
                 if was is not None and was != now:
                     yield from self.new(task, at - 1, ("last", *was))
@@ -111,9 +136,9 @@ class Coverage:
             self.known.add(what)
             yield task, at
 
-    def of_car(self, car: int, fields: Fields, answer: Answer, kinds: dict, before: tuple[Fields | None, Answer | None]) -> tuple:
-        said_of = tuple(kind for kind in ("denied", "told", "served") if car in kinds[kind])
+    def of_car(self, car: int, fields: Fields, answer: Answer, calls: Calls, before: tuple[Fields | None, Answer | None]) -> tuple:
         pos, *flags = fields.cars[car - 1]
+        said_of = *(kind for kind in ("denied", "told", "served") if car in calls.kinds[kind]), calls.way(car, pos)
         if before[0] is None:
             return *flags, answer.outputs[car - 1], said_of
         return *flags, pos != before[0].cars[car - 1][0], answer.outputs[car - 1], before[1].outputs[car - 1], said_of
