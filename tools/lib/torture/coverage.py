@@ -13,7 +13,7 @@ from lib.building import Trouble
 from lib.torture.machine import Answer, Fields
 from lib.torture.scenario import MOST_ROUND
 
-MOST, IN_VAIN = 400, 120
+MOST, IN_VAIN = 600, 240
 GROUP = 0  # the task
 SOON = 3  # rounds after a call entered in which GROUP's scans are looked at
 Heard = list[tuple[list[tuple[int, int]], Fields, Answer]]
