@@ -131,7 +131,8 @@ class Run:
         self.presses: list[Press] = []
         self.tried = set(PROPERTIES) - {"dead", "fair"}  # those that could fail in it
         longest = max(self.times[name] for name in (rules.wanted - {"fair"} or {"served"}))
-        self.ends_at = scenario.last() + longest + 2 * EACH
+        late = self.times["served"] if "opens" in rules.wanted else 2 * RECOVERY  # who gets in late may stay in for T
+        self.ends_at = scenario.last() + late + longest + 2 * EACH
 
     def play(self) -> Run:
         while not self.is_over():
