@@ -1,7 +1,8 @@
 """Which instructions of a text the scenarios ran: those that `scan` shows in scans that differ from each other.
 
-To look at every scan would take hours. So a scan is looked at where something of it is new: what the car reports, what it asked for and asks for, what is said
-of its calls; and where that ends. The looking ends after MOST scans, or after IN_VAIN of them in a row that ran nothing new. So what is said never to run may have run elsewhere.
+To look at every scan would take hours. So a scan is looked at where something of it is new: what the car reports, what
+it asked for and asks for, what is said of its calls; and where that ends. The looking ends after MOST scans, or after
+IN_VAIN of them in a row that ran nothing new. So what is said never to run may have run elsewhere.
 """
 from __future__ import annotations
 
@@ -81,7 +82,16 @@ class Calls:
 
     def way(self, car: int, pos: int) -> tuple[int, ...]:
         """Where the floors of the car's calls are: below, here, above."""
-        return tuple(sorted({(floor > pos) - (floor < pos) for ticket, at in self.cars.items() if at == car for floor in self.floors[ticket]}))
+        return tuple(
+            sorted(
+                {
+                    (floor > pos) - (floor < pos)
+                    for ticket, at in self.cars.items()
+                    if at == car
+                    for floor in self.floors[ticket]
+                }
+            )
+        )
 
 
 class Coverage:
@@ -107,14 +117,18 @@ class Coverage:
         for task, at in chosen:
             if self.is_done():
                 return
-            shown = said([self.binary, "scan", self.file, f"{room}/trace", f"CAR{task}" if task else "GROUP", "--round", str(at)])
+            shown = said(
+                [self.binary, "scan", self.file, f"{room}/trace", f"CAR{task}" if task else "GROUP", "--round", str(at)]
+            )
             lines = set(map(int, re.findall(r"^ *line (\d+):", shown, re.MULTILINE)))
             self.looked_at += 1
             self.in_vain = 0 if lines - self.ran else self.in_vain + 1
             self.ran |= lines
 
     def chosen(self, heard: Heard) -> Iterator[tuple[int, int]]:
-        """The scans that differ from those that were looked at, with their rounds; and of what stays for some rounds the last one."""
+        """The scans that differ from those that were looked at, with their rounds; and of what stays for some rounds
+        the last one.
+        """
         calls, entered, before, were = Calls(), -SOON, (None, None), {}
         for at, (_, fields, answer) in enumerate(heard, 1):
             calls.hear(answer)
@@ -136,7 +150,9 @@ class Coverage:
             self.known.add(what)
             yield task, at
 
-    def of_car(self, car: int, fields: Fields, answer: Answer, calls: Calls, before: tuple[Fields | None, Answer | None]) -> tuple:
+    def of_car(
+        self, car: int, fields: Fields, answer: Answer, calls: Calls, before: tuple[Fields | None, Answer | None]
+    ) -> tuple:
         pos, *flags = fields.cars[car - 1]
         said_of = *(kind for kind in ("denied", "told", "served") if car in calls.kinds[kind]), calls.way(car, pos)
         if before[0] is None:

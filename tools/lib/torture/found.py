@@ -1,4 +1,5 @@
-"""What tools/torture writes of a scenario that fails: the scenario, the lines of `serve`, a file for `sim --calls`, a trace, a picture, and commands to look at it."""
+"""What tools/torture writes of a scenario that fails: the scenario, the lines of `serve`, a file for `sim --calls`, a
+trace, a picture, and commands to look at it."""
 from __future__ import annotations
 
 import os, shlex, subprocess
@@ -28,7 +29,9 @@ class Found:
 
 
 def written(worker: Worker, scenario: Scenario, name: str, folder: str, program: str) -> Found:
-    """Runs it once more, and writes the files. Names of files and of the program stand in the commands as they are given."""
+    """Runs it once more, and writes the files. Names of files and of the program stand in the commands as they are
+    given.
+    """
     task = worker.task
     run = worker.ran(scenario, worker.alone(name), keeps=True)
     if name not in run.failures:
@@ -36,8 +39,13 @@ def written(worker: Worker, scenario: Scenario, name: str, folder: str, program:
     os.makedirs(folder, exist_ok=True)
     files = {kind: f"{folder}/{name}.{kind}" for kind in ("scenario", "serve", "trace", "svg")}
     text = lines(scenario, task.rules.sizes.cars)
-    put(files["scenario"], f"# {name} of {os.path.basename(task.file)}: {run.failures[name].what}\n" + "\n".join(text) + "\n")
-    put(files["serve"], "".join(round_text(presses, fields).decode("ascii") for presses, fields, _ in run.heard) + "E\n")
+    put(
+        files["scenario"],
+        f"# {name} of {os.path.basename(task.file)}: {run.failures[name].what}\n" + "\n".join(text) + "\n",
+    )
+    put(
+        files["serve"], "".join(round_text(presses, fields).decode("ascii") for presses, fields, _ in run.heard) + "E\n"
+    )
     serve(worker, run, files)
     until = min(run.now, last_change(run) + MARGIN)
     words = ["draw", task.file, files["trace"], "--rounds", f"1:{until}"]
@@ -46,7 +54,9 @@ def written(worker: Worker, scenario: Scenario, name: str, folder: str, program:
             raise Trouble(status, "")
     commands = {
         "picture": shlex.join([program, *words]) + f" >{shlex.quote(files['svg'])}",
-        "values": shlex.join([program, "watch", task.file, files["trace"], *names(run.failures[name], scenario, task.rules.sizes.slots)]),
+        "values": shlex.join(
+            [program, "watch", task.file, files["trace"], *names(run.failures[name], scenario, task.rules.sizes.slots)]
+        ),
         "lines": shlex.join([program, "serve", task.file]) + f" <{shlex.quote(files['serve'])}",
     }
     if scenario.is_for_sim() and run.now <= 50_000:
@@ -77,7 +87,10 @@ def serve(worker: Worker, run: Run, files: dict[str, str]):
     for (_, _, answer), end in zip(run.heard, ends):
         heard = answer_of(b"\n".join(all_lines[begin : end + 1]))
         if (heard.notices, heard.outputs) != (answer.notices, answer.outputs):
-            raise Trouble(1, f"serve and the library differ at the answer in line {end + 1} of {files['serve']}: one of them isn't of these sources")
+            raise Trouble(
+                1,
+                f"serve and the library differ in the answer to line {begin + 1} and on: one isn't of these sources",
+            )
         begin = end + 1
 
 
@@ -97,4 +110,3 @@ def names(failure: Failure, scenario: Scenario, slots: int) -> list[str]:
     of_cars = [f"CAR{car}.{name}" for car in cars for name in OF_CAR]
     of_slots = [f"{name}[{slot}]" for slot in (failure.slots or (1,)) for name in OF_SLOT if slot <= slots]
     return (of_cars + of_slots)[:MOST_NAMES]
-

@@ -1,7 +1,8 @@
 """The group as tools/torture sees it: presses and fields in, notices and outputs out.
 
-Two machines have the same interface: `serve` as a child, and the C library in this process, where build/libliftplc.a is there. Both are started anew for each
-scenario, and both give the same answers, since the library's round is that of `serve`.
+Two machines have the same interface: `serve` as a child, and the C library in this process, where build/libliftplc.a
+is there. Both are started anew for each scenario, and both give the same answers, since the library's round is that of
+`serve`.
 """
 from __future__ import annotations
 
@@ -32,7 +33,9 @@ class Answer(NamedTuple):
     """Of a round. An answer that is the same as that of the round before is the same object."""
 
     is_new: tuple[bool, ...]  # of each press, whether it wasn't on the desk already
-    notices: tuple[tuple, ...]  # ("entered", ticket, slot, from, to), ("denied", car, rule), ("told", ticket, car), ("served", ticket, car)
+    notices: tuple[
+        tuple, ...
+    ]  # ("entered", ticket, slot, from, to), ("denied", car, rule), ("told", ticket, car), ("served", ticket, car)
     outputs: tuple[tuple[int, int], ...]  # motor and open command of each car
 
 
@@ -71,7 +74,9 @@ def answer_of(text: bytes) -> Answer:
 
 
 class ServeMachine:
-    """`serve` as a child. The R line has the texts of cars that were made before, and an answer is parsed where it is a new one."""
+    """`serve` as a child. The R line has the texts of cars that were made before, and an answer is parsed where it is
+    a new one.
+    """
 
     def __init__(self, binary: str, file: str, trace: str | None = None):
         self.serve = Controller([binary, "serve", file, *(["--trace", trace] if trace else [])])
@@ -102,11 +107,15 @@ def shared_object(archive: str, folder: str) -> str:
     made = f"{folder}/libliftplc.so"
     words = ["cc", "-shared", "-Wl,--whole-archive", archive, "-Wl,--no-whole-archive", "-o", made]
     try:
-        done = subprocess.run(words, stdin=subprocess.DEVNULL, stdout=subprocess.PIPE, stderr=subprocess.STDOUT, text=True)
+        done = subprocess.run(
+            words, stdin=subprocess.DEVNULL, stdout=subprocess.PIPE, stderr=subprocess.STDOUT, text=True
+        )
     except OSError as why:
         raise Trouble(3, f"cannot start cc: {why.strerror}") from why
     if done.returncode:
-        raise Trouble(3, f"cc makes no shared object of {archive}: {(done.stdout.splitlines() or ['it says nothing'])[-1]}")
+        raise Trouble(
+            3, f"cc makes no shared object of {archive}: {(done.stdout.splitlines() or ['it says nothing'])[-1]}"
+        )
     return made
 
 
@@ -146,7 +155,9 @@ class LibraryMachine:
     def round(self, presses: Sequence[Call], fields: Fields) -> Answer:
         is_new = tuple([self.press(*press) for press in presses])
         cars = [number for car in fields.cars for number in car]
-        struct.pack_into(f"<IBBB{len(cars)}B", self.fields, 0, fields.now, fields.limit, fields.fire, len(fields.cars), *cars)
+        struct.pack_into(
+            f"<IBBB{len(cars)}B", self.fields, 0, fields.now, fields.limit, fields.fire, len(fields.cars), *cars
+        )
         if status := self.calls.liftplc_round(self.handle, self.read, self.written):
             raise Trouble(5, f"the library refuses a round: status {status}")
         count = self.outputs[2]
@@ -169,7 +180,12 @@ class LibraryMachine:
         made = []
         for at in range(count):
             ticket, kind, car, rule, slot, start, goal = NOTICE.unpack_from(self.outputs, NOTICES_AT + NOTICE.size * at)
-            notice = (("entered", ticket, slot, start, goal), ("denied", car, rule), ("told", ticket, car), ("served", ticket, car))[kind - 1]
+            notice = (
+                ("entered", ticket, slot, start, goal),
+                ("denied", car, rule),
+                ("told", ticket, car),
+                ("served", ticket, car),
+            )[kind - 1]
             made.append(notice)
         return tuple(made)
 
@@ -178,7 +194,9 @@ class LibraryMachine:
 
 
 class Maker:
-    """Opens the machines of one FILE. `library` is the archive or shared object of the C library, or empty for `serve`."""
+    """Opens the machines of one FILE. `library` is the archive or shared object of the C library, or empty for
+    `serve`.
+    """
 
     def __init__(self, binary: str, file: str, library: str = ""):
         self.binary, self.file, self.library, self.loaded = binary, file, library, None
@@ -192,5 +210,7 @@ class Maker:
         if self.loaded is None:
             with tempfile.TemporaryDirectory(prefix="torture-") as folder:
                 is_archive = self.library.endswith(".a")
-                self.loaded = Library(shared_object(self.library, folder) if is_archive else os.path.realpath(self.library))
+                self.loaded = Library(
+                    shared_object(self.library, folder) if is_archive else os.path.realpath(self.library)
+                )
         return LibraryMachine(self.loaded, self.text)

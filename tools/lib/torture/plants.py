@@ -1,8 +1,9 @@
 """The cars of tools/torture: that of the plant of `sim`, and that of tools/building, each with what fails in it.
 
-A car goes one round with `step`. What fails is set from outside; then `show` makes its fields anew. Without faults the first goes as docs/TRACE.md says, and the
-second as docs/BUILDING.md says. With wrong sensors a car is asked for what the interlock would deny; then its drive acts as a safe one: it doesn't move with a
-door that isn't shut, it doesn't leave its shaft, and a door opens at a landing alone.
+A car goes one round with `step`. What fails is set from outside; then `show` makes its fields anew. Without faults the
+first goes as docs/TRACE.md says, and the second as docs/BUILDING.md says. With wrong sensors a car is asked for what
+the interlock would deny; then its drive acts as a safe one: it doesn't move with a door that isn't shut, it doesn't
+leave its shaft, and a door opens at a landing alone.
 """
 from __future__ import annotations
 

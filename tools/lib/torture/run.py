@@ -1,9 +1,10 @@
 """A scenario on a group: the plant, the passengers, and what is wrong by what they see.
 
-A passenger presses, waits for the car to which the call is assigned, gets in where that car stands at their floor with its door wholly open and has room, and
-gets out where a door is wholly open at their destination. Whose call is served while they wait presses again. Whose call is served while they are in a car gets
-out at the next open door, and presses again there unless it is their destination. To step through a door takes no time: all who want get out, and then all get
-in who have room, in the order in which their calls were assigned.
+A passenger presses, waits for the car to which the call is assigned, gets in where that car stands at their floor with
+its door wholly open and has room, and gets out where a door is wholly open at their destination. Whose call is served
+while they wait presses again. Whose call is served while they are in a car gets out at the next open door, and presses
+again there unless it is their destination. To step through a door takes no time: all who want get out, and then all
+get in who have room, in the order in which their calls were assigned.
 
 PROPERTIES has what is judged; docs/TORTURE.md has each one's exact meaning.
 """
@@ -41,8 +42,9 @@ PROPERTIES = {
 
 
 def default_times(scenario: Scenario, sizes: Sizes) -> dict[str, int]:
-    """T of each property in rounds, and K of `fair`. That of `served` is the time in which one car could take all passengers one by one, and SPARE more; where
-    something fails, RECOVERY more."""
+    """T of each property in rounds, and K of `fair`. That of `served` is the time in which one car could take all
+    passengers one by one, and SPARE more; where something fails, RECOVERY more.
+    """
     many = min(len(scenario.presses), crowd(sizes))
     served = ride(scenario.plant, sizes.floors) * (many + SPARE) + (RECOVERY if scenario.faults else 0)
     usual = {"moves": RECOVERY, "shuts": 600, "quiet": 600, "fair": 5, "dead": served + RECOVERY}
@@ -100,7 +102,7 @@ class Call:
 
 
 class Run:
-    """Of one scenario. `failures` is the first one of each property, `presses` what was pressed, `seen` the refreshes."""
+    """Of one scenario. `failures` is the first one of each property, `presses` what was pressed, `heard` all rounds."""
 
     def __init__(self, scenario: Scenario, rules: Rules, machine: Machine, keeps: bool = False):
         self.scenario, self.rules, self.machine, self.times = scenario, rules, machine, rules.times_of(scenario)
@@ -111,18 +113,26 @@ class Run:
         self.crowd = crowd(rules.sizes)
         self.due: deque[Press] = deque(scenario.presses)
         self.again: list[Passenger] = []  # who press in the next round
-        self.desk: dict[tuple[int, int], deque[tuple[int, list[Passenger]]]] = defaultdict(deque)  # by call: when it was pressed, and by whom
+        self.desk: dict[tuple[int, int], deque[tuple[int, list[Passenger]]]] = defaultdict(
+            deque
+        )  # by call: when it was pressed, and by whom
         self.calls: dict[int, Call] = {}  # by ticket, those that hold a slot
         self.under_way: list[Passenger] = []
         self.aboard: list[list[Passenger]] = [[] for _ in range(cars)]
-        self.waiting: list[dict[int, list[Passenger]]] = [defaultdict(list) for _ in range(cars)]  # by floor, who waits for the car
+        self.waiting: list[dict[int, list[Passenger]]] = [
+            defaultdict(list) for _ in range(cars)
+        ]  # by floor, who waits for the car
         self.work = [0] * cars  # calls that are assigned to the car
         self.since = [[0, 0, 0] for _ in range(cars)]  # the last rounds: without work; of use of the door; of a fault
         self.calm_since = self.last_entry = self.last_done = 0
-        self.changes = sorted({it.at for it in scenario.faults} | {it.last() + 1 for it in scenario.faults if not it.is_for_good()}) + [0]
+        self.changes = sorted(
+            {it.at for it in scenario.faults} | {it.last() + 1 for it in scenario.faults if not it.is_for_good()}
+        ) + [0]
         self.next_change, self.disturbed, self.bad = 0, False, set()
         self.gone: set[int] = set()  # cars that are dead for good, from 0
-        self.denials: dict[tuple[int, int], int] = {}  # by car and rule, the first round of those that came in each round since
+        self.denials: dict[
+            tuple[int, int], int
+        ] = {}  # by car and rule, the first round of those that came in each round since
         self.waits: list[int] = []
         self.failures: dict[str, Failure] = {}
         self.turned_away: list[Press] = []
@@ -146,7 +156,10 @@ class Run:
             return False
         if self.rules.stops_at in self.failures or self.now >= self.ends_at:
             return True
-        is_done = not (self.due or self.again or self.under_way or self.calls or self.denials) and self.now > self.scenario.last()
+        is_done = (
+            not (self.due or self.again or self.under_way or self.calls or self.denials)
+            and self.now > self.scenario.last()
+        )
         if not is_done or any(car.door for at, car in enumerate(self.cars) if at not in self.gone):
             return False
         return self.now > max(self.scenario.last(), self.last_done) + QUIET_AFTER
@@ -322,39 +335,66 @@ class Run:
             used = self.since[at][1] = self.now
         if at in self.gone or at in self.bad:
             return
-        if self.work[at] and self.now - max(work, car.moved_at, good) > self.times["moves"]:
-            self.fault("moves", f"car {at + 1} has {counted(self.work[at], 'call')}, and {stands(car)} for {shown(self.times['moves'])}", (at + 1,), self.slots_of(at + 1))
-        if car.door and self.now - max(car.opened_at, used, good) > self.times["shuts"]:
-            self.fault("shuts", f"the door of car {at + 1} at floor {car.fields[0]} is open for {shown(self.times['shuts'])}, and nobody uses it", (at + 1,))
+        times = self.times
+        if self.work[at] and self.now - max(work, car.moved_at, good) > times["moves"]:
+            has = f"car {at + 1} has {counted(self.work[at], 'call')}"
+            self.fault(
+                "moves", f"{has}, and stands at floor {car.fields[0]} for {shown(times['moves'])}", (at + 1,), slots
+            )
+        if car.door and self.now - max(car.opened_at, used, good) > times["shuts"]:
+            door = f"the door of car {at + 1} at floor {car.fields[0]}"
+            self.fault("shuts", f"{door} is open for {shown(times['shuts'])}, and nobody uses it", (at + 1,))
         for passenger in aboard:
-            if self.now - max(passenger.boarded, good) > self.times["opens"]:
-                what = f"{who(passenger)} is in car {at + 1} for {shown(self.times['opens'])}"
+            if self.now - max(passenger.boarded, good) > times["opens"]:
+                what = f"{who(passenger)} is in car {at + 1} for {shown(times['opens'])}"
                 self.fault("opens", what, (at + 1,), self.slots_of(at + 1))
 
     def judge_denials(self):
         for (car, rule), first in self.denials.items():
             if rule != OTHERS_RUN and self.now - first > self.times["quiet"]:
-                self.fault("quiet", f"car {car} is denied by rule {rule} in each round for {shown(self.times['quiet'])}", (car,))
+                self.fault(
+                    "quiet",
+                    f"car {car} is denied by rule {rule} in each round for {shown(self.times['quiet'])}",
+                    (car,),
+                )
 
     def judge_passengers(self):
-        now, calm, name = self.now, self.calm_since, "dead" if self.gone else "served"
+        name = "dead" if self.gone else "served"
         for passenger in self.under_way:
-            if passenger.entered and now - max(passenger.entered, calm) > self.times[name] and not self.is_shut_in(passenger):
-                what = f"{who(passenger)} is {where(passenger)} {shown(self.times[name])} after {self.begin(passenger.entered)}"
+            waits = passenger.entered and self.now - max(passenger.entered, self.calm_since) > self.times[name]
+            if waits and not self.is_shut_in(passenger):
+                time = f"{shown(self.times[name])} after {self.begin(passenger.entered)}"
                 slot = (self.calls[passenger.ticket].slot,) if passenger.ticket in self.calls else ()
-                self.fault(name, what, (passenger.car,) if passenger.car else (), slot)
-        if self.gone:
-            return
+                cars = (passenger.car,) if passenger.car else ()
+                self.fault(name, f"{who(passenger)} is {where(passenger)} {time}", cars, slot)
+        if not self.gone:
+            self.judge_entries()
+            self.judge_slots()
+
+    def judge_entries(self):
         for (start, goal), queue in self.desk.items():
-            if queue and now - max(queue[0][0], calm, self.last_entry) > self.times["entered"]:
-                self.fault("entered", f"the press from {start} to {goal} of round {queue[0][0]} waits for a call slot, and none enters for {shown(self.times['entered'])}")
-        if self.calls and not (self.under_way or self.due) and now - max(self.last_done, calm) > self.times["slots"]:
+            if queue and self.now - max(queue[0][0], self.calm_since, self.last_entry) > self.times["entered"]:
+                press = f"the press from {start} to {goal} of round {queue[0][0]}"
+                self.fault(
+                    "entered", f"{press} waits for a call slot, and none enters for {shown(self.times['entered'])}"
+                )
+
+    def judge_slots(self):
+        is_over = self.calls and not (self.under_way or self.due)
+        if is_over and self.now - max(self.last_done, self.calm_since) > self.times["slots"]:
             taken = tuple(sorted(call.slot for call in self.calls.values()))
-            what = f"{counted(len(taken), 'call slot')} not free {shown(self.times['slots'])} after the last passenger"
-            self.fault("slots", what, tuple(sorted({call.car for call in self.calls.values() if call.car})), taken)
+            cars = tuple(sorted({call.car for call in self.calls.values() if call.car}))
+            time = f"{shown(self.times['slots'])} after the last passenger"
+            self.fault("slots", f"{counted(len(taken), 'call slot')} not free {time}", cars, taken)
 
     def begin(self, entered: int) -> str:
-        return "the call entered" if entered >= self.calm_since else "all faults ended" if not self.gone else "the last event of the field"
+        return (
+            "the call entered"
+            if entered >= self.calm_since
+            else "all faults ended"
+            if not self.gone
+            else "the last event of the field"
+        )
 
     def is_shut_in(self, passenger: Passenger) -> bool:
         return bool(passenger.boarded) and passenger.car - 1 in self.gone
@@ -380,10 +420,6 @@ def shown(rounds: int) -> str:
 
 def counted(many: int, what: str) -> str:
     return f"{many} {what}{'' if many == 1 else 'es' if what.endswith('s') else 's'}"
-
-
-def stands(car) -> str:
-    return f"stands at floor {car.fields[0]}"
 
 
 def who(passenger: Passenger) -> str:

@@ -1,7 +1,7 @@
 """What happens to a group: presses, and what fails in the field and when. Its text, and random ones.
 
-A scenario's text has a line for each event, by rounds. Where it has presses, FIRE and LIMIT alone, on the plant of `sim`, it is a file for `sim --calls`
-(docs/COMMANDS.md). docs/TORTURE.md has all lines.
+A scenario's text has a line for each event, by rounds. Where it has presses, FIRE and LIMIT alone, on the plant of
+`sim`, it is a file for `sim --calls` (docs/COMMANDS.md). docs/TORTURE.md has all lines.
 """
 from __future__ import annotations
 
@@ -60,7 +60,11 @@ class Scenario:
         return max([0, *(it.at for it in self.presses), *(it.last() for it in self.faults)])
 
     def is_for_sim(self) -> bool:
-        return self.plant == "sim" and all(it.kind in ("FIRE", "LIMIT") for it in self.faults) and self.last() <= MOST_ROUND
+        return (
+            self.plant == "sim"
+            and all(it.kind in ("FIRE", "LIMIT") for it in self.faults)
+            and self.last() <= MOST_ROUND
+        )
 
 
 def settings(faults: list[Fault], kind: str, usual: int) -> list[tuple[int, int]]:
@@ -145,7 +149,11 @@ def held(changes: list[tuple[int, int]], kind: str, usual: int) -> list[Fault]:
     changes = sorted(changes, key=lambda it: it[0])
     if changes and changes[-1][1] != usual:
         raise Trouble(2, f"the scenario sets {kind}, and doesn't set it back")
-    return [Fault(at, kind, 0, value, then - at) for (at, value), (then, _) in zip(changes, changes[1:]) if value != usual and then > at]
+    return [
+        Fault(at, kind, 0, value, then - at)
+        for (at, value), (then, _) in zip(changes, changes[1:])
+        if value != usual and then > at
+    ]
 
 
 STYLES = "few", "mixed", "burst", "one floor", "same call", "everybody", "ends"
@@ -153,8 +161,12 @@ LONGEST_FAULT, LONGEST_TRAFFIC = 1500, 3000  # rounds
 GROWS = 24  # scenarios from the smallest to the largest
 
 
-def random_scenario(seed: int, number: int, sizes: Sizes, kinds: tuple[str, ...], plants: tuple[str, ...], crowd: int) -> Scenario:
-    """Of a seed, the one of this number: they grow from a few events to many, again and again. `kinds` are the faults that may come."""
+def random_scenario(
+    seed: int, number: int, sizes: Sizes, kinds: tuple[str, ...], plants: tuple[str, ...], crowd: int
+) -> Scenario:
+    """Of a seed, the one of this number: they grow from a few events to many, again and again. `kinds` are the faults
+    that may come.
+    """
     chance = random.Random(f"{seed}/{number}")
     size = (number % GROWS + 1) / GROWS
     presses = sorted(set(random_presses(chance, size, sizes, crowd)))
@@ -201,7 +213,9 @@ def random_faults(chance: random.Random, size: float, sizes: Sizes, kinds: tuple
 def random_fault(chance: random.Random, sizes: Sizes, kinds: tuple[str, ...], span: int) -> Fault:
     kind, at, rounds = chance.choice(kinds), chance.randint(1, span), chance.randint(10, LONGEST_FAULT)
     if kind == "NOW":
-        return Fault(at, kind, 0, chance.choice((0, chance.randrange(MOST_NOW), MOST_NOW - chance.randrange(100 * span))), 0)
+        return Fault(
+            at, kind, 0, chance.choice((0, chance.randrange(MOST_NOW), MOST_NOW - chance.randrange(100 * span))), 0
+        )
     if kind == "FIRE":
         return Fault(at, kind, 0, 1, rounds)
     if kind == "LIMIT":

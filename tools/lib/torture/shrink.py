@@ -1,8 +1,8 @@
 """Makes a scenario that fails smaller: fewer events, earlier, shorter, with smaller numbers, on the simpler plant.
 
-Each step is tried, and kept where the property still fails. It ends where no step is left, or after so many tries, so it depends on the scenario alone.
-What fails often hangs on the round in which a fault meets a car. Then no event can go without the others being moved; so small scenarios of the same kinds of
-events at random rounds are tried too.
+Each step is tried, and kept where the property still fails. It ends where no step is left, or after so many tries, so
+it depends on the scenario alone. What fails often hangs on the round in which a fault meets a car. Then no event can
+go without the others being moved; so small scenarios of the same kinds of events at random rounds are tried too.
 """
 from __future__ import annotations
 
@@ -14,7 +14,11 @@ from lib.torture.scenario import Fault, Press, Scenario
 
 Event = Press | Fault
 TRIES = 200
-SMALL_TRIES, SMALL, EARLY = 80, 4, 150  # small scenarios that are tried, events of such a one, and rounds in which they begin
+SMALL_TRIES, SMALL, EARLY = (
+    80,
+    4,
+    150,
+)  # small scenarios that are tried, events of such a one, and rounds in which they begin
 
 
 class Shrinker:
@@ -69,7 +73,10 @@ class Shrinker:
             faults = chance.sample(self.best.faults, min(len(self.best.faults), chance.randint(1, 2)))
             presses = chance.sample(self.best.presses, min(len(self.best.presses), chance.randint(1, SMALL - 1)))
             moved = [replace(it, at=chance.randint(1, EARLY)) for it in presses]
-            longer = [replace(it, at=chance.randint(1, 2 * EARLY), rounds=it.rounds * chance.choice((1, 2, 8))) for it in faults]
+            longer = [
+                replace(it, at=chance.randint(1, 2 * EARLY), rounds=it.rounds * chance.choice((1, 2, 8)))
+                for it in faults
+            ]
             if len(moved + longer) <= many:
                 self.take(self.best.with_events(moved + longer))
 

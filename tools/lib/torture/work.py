@@ -63,8 +63,9 @@ class Worker:
         return name in self.ran(scenario, self.alone(name)).failures
 
     def shrunk(self, scenario: Scenario, name: str, known: list[Scenario]) -> Scenario:
-        """A smaller scenario in which this property fails too, perhaps one of those that are known; the same one where it doesn't fail without what was turned
-        away."""
+        """A smaller scenario in which this property fails too, perhaps one of those that are known; the same one where
+        it doesn't fail without what was turned away.
+        """
         for other in known:
             if len(other.events()) < len(scenario.events()) and self.fails(other, name):
                 scenario = other
@@ -91,4 +92,8 @@ def size(result: Result, name: str) -> tuple[int, int, int]:
 
 def smallest(results: list[Result], names: Iterator[str]) -> dict[str, Result]:
     """For each property that fails in one of them, the smallest scenario."""
-    return {name: min(of, key=lambda it: size(it, name)) for name in names if (of := [it for it in results if name in it.failures])}
+    return {
+        name: min(of, key=lambda it: size(it, name))
+        for name in names
+        if (of := [it for it in results if name in it.failures])
+    }
