@@ -338,9 +338,8 @@ class Run:
         times = self.times
         if self.work[at] and self.now - max(work, car.moved_at, good) > times["moves"]:
             has = f"car {at + 1} has {counted(self.work[at], 'call')}"
-            self.fault(
-                "moves", f"{has}, and stands at floor {car.fields[0]} for {shown(times['moves'])}", (at + 1,), slots
-            )
+            what = f"{has}, and stands at floor {car.fields[0]} for {shown(times['moves'])}"
+            self.fault("moves", what, (at + 1,), self.slots_of(at + 1))
         if car.door and self.now - max(car.opened_at, used, good) > times["shuts"]:
             door = f"the door of car {at + 1} at floor {car.fields[0]}"
             self.fault("shuts", f"{door} is open for {shown(times['shuts'])}, and nobody uses it", (at + 1,))
