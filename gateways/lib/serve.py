@@ -42,14 +42,14 @@ class Program:
 
 
 def find_program(named: str = "") -> Program:
-    """The program of this name or path, or else what ./liftplc would use: the proved one in build/, the unproved one where that is missing."""
+    """The program of this name or path, or else what ./liftplc would use: the proved one in build/, or an unproved one, first the optimised."""
     if named:
         found = shutil.which(named)
         if not found or not is_program(found):
             raise NoProgram(f"{named} is no program")
         return Program(found, True)
     build = os.environ.get("LIFTPLC_BUILD") or f"{TOP}/build"
-    for path, is_proved in ((f"{build}/liftplc", True), (f"{build}/unproved/liftplc", False)):
+    for path, is_proved in ((f"{build}/liftplc", True), (f"{build}/optimised/liftplc", False), (f"{build}/unproved/liftplc", False)):
         if is_program(path):
             return Program(path, is_proved)
     raise NoProgram(f"{build} has no program: run ./liftplc --prove")
