@@ -40,6 +40,10 @@ class Program:
     path: str
     is_proved: bool
 
+    def is_slow(self) -> bool:
+        """Whether it is the unproved build of a first call."""
+        return not self.is_proved and os.path.basename(os.path.dirname(self.path)) == "unproved"
+
 
 def find_program(named: str = "") -> Program:
     """The program of this name or path, or else what ./liftplc would use: the proved one in build/, or an unproved one, first the optimised."""
