@@ -40,16 +40,20 @@ class Program:
     path: str
     is_proved: bool
 
+    def is_slow(self) -> bool:
+        """Whether it is the unproved build of a first call."""
+        return not self.is_proved and os.path.basename(os.path.dirname(self.path)) == "unproved"
+
 
 def find_program(named: str = "") -> Program:
-    """The program of this name or path, or else what ./liftplc would use: the proved one in build/, the unproved one where that is missing."""
+    """The program of this name or path, or else what ./liftplc would use: the proved one in build/, or an unproved one, first the optimised."""
     if named:
         found = shutil.which(named)
         if not found or not is_program(found):
             raise NoProgram(f"{named} is no program")
         return Program(found, True)
     build = os.environ.get("LIFTPLC_BUILD") or f"{TOP}/build"
-    for path, is_proved in ((f"{build}/liftplc", True), (f"{build}/unproved/liftplc", False)):
+    for path, is_proved in ((f"{build}/liftplc", True), (f"{build}/optimised/liftplc", False), (f"{build}/unproved/liftplc", False)):
         if is_program(path):
             return Program(path, is_proved)
     raise NoProgram(f"{build} has no program: run ./liftplc --prove")
