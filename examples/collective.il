@@ -218,6 +218,7 @@ VAR
   AHEAD : BOOL;  (* the car has to go on in its direction *)
   HERE : BOOL;  (* a passenger wants to get in or out at this floor *)
   CAME_FROM : INT (0..8);  (* the landing that the car has left; 0 for none *)
+  STANDS_OPEN : BOOL;  (* the door is wholly open *)
   OVER : BOOL;  (* the door has been open long enough *)
   OPENS : BOOL;  (* the door is to be open, also while LEVEL is lost at an open door *)
   RECALLED : BOOL;  (* there was a fire recall in the scan before *)
@@ -240,7 +241,7 @@ END_VAR
 (* Fire: each car goes down to floor 1. Interlock rule 6 lets no car run up. The calls stay as
    they are, and the car goes on with them after the recall. *)
 LD FIRE
-JMPCN ELSE_180
+JMPCN ELSE_181
 LD TRUE
 ST RECALLED
 CAL DWELL(IN := FALSE)
@@ -255,29 +256,34 @@ ST CAME_FROM
 LD POS
 EQ 1
 AND LEVEL
-JMPCN ELSE_190
+JMPCN ELSE_191
 (* At floor 1 it stands with its door open, as long as FIRE holds. *)
 LD 0
 ST MOTOR
 LD TRUE
 ST OPENS
-JMP END_IF_190
-ELSE_190:
+JMP END_IF_191
+ELSE_191:
 LD FALSE
 ST OPENS
 LD LOCKED
+ANDN BOTTOM
 SEL 0, -1
 ST MOTOR
-END_IF_190:
+END_IF_191:
 LD OPENS
 ST OPEN
 RET
-ELSE_180:
+ELSE_181:
+
+(* A switch that sticks opens no door: OPENED counts only while the door isn't shut. *)
+LD OPENED
+ANDN LOCKED
+ST STANDS_OPEN
 
 (* Where is work? The block looks at all call slots. A passenger gets in or out where the car
    stands level with a floor, its door wholly open; not yet in the first scan after a recall,
    since the block then has to find out who has waited longest. *)
-LD OPENED
 AND LEVEL
 ANDN RECALLED
 ST CALLS.OPENED_HERE
@@ -320,11 +326,11 @@ ST SERVE
 
 (* The door stays open until nobody has passed it for the dwell time, and as long as all who pass
    it at this stop need. *)
-LD OPENED
+LD STANDS_OPEN
 ANDN CALLS.MOVED
 ST DWELL.IN
 CAL DWELL(PT := T#3s)
-CAL PASSAGE(IN := OPENED, PT := CALLS.PASSING)
+CAL PASSAGE(IN := STANDS_OPEN, PT := CALLS.PASSING)
 LD DWELL.Q
 AND PASSAGE.Q
 ST OVER
@@ -388,7 +394,7 @@ ANDN LOCKED
 STN IDLE.IN
 CAL IDLE(PT := T#15s)
 LD IDLE.Q
-JMPCN ELSE_248
+JMPCN ELSE_252
 LD CARNO
 SUB 1
 MUL 8
@@ -401,31 +407,31 @@ ST ABOVE
 LD POS
 GT HOME
 ST BELOW
-ELSE_248:
+ELSE_252:
 
 (* A car that is out and has no call goes to another landing: once it has moved, it is back. *)
 LD OUT[CARNO]
 ANDN ABOVE
 ANDN BELOW
 ANDN CALLS.OUT_HERE
-JMPCN ELSE_255
+JMPCN ELSE_259
 LD POS
 LT 8
 ST ABOVE
 LDN ABOVE
 ST BELOW
-ELSE_255:
+ELSE_259:
 
 LD REST.Q
 ANDN LEVEL
-JMPCN ELSE_260
+JMPCN ELSE_264
 LD 0
 ST MOTOR
 RET
-ELSE_260:
+ELSE_264:
 LD MOTOR
 NE 0
-JMPCN ELSE_262
+JMPCN ELSE_266
 (* It runs. Between two landings it runs on, and at the landing from which it comes. *)
 LD MOTOR
 ST DIRECTION
@@ -455,23 +461,23 @@ LD HERE
 ST OPENS
 ST OPEN
 RET
-ELSE_262:
+ELSE_266:
 LD LEVEL
-JMPCN ELSE_278
+JMPCN ELSE_282
 (* It stands. At a landing it keeps its direction as long as there is work that way. *)
 LD DIRECTION
 EQ -1
 ORN ABOVE
 AND BELOW
-JMPCN ELSE_280
+JMPCN ELSE_284
 LD -1
 ST DIRECTION
-JMP END_IF_280
-ELSE_280:
+JMP END_IF_284
+ELSE_284:
 LD ABOVE
 SEL 0, 1
 ST DIRECTION
-END_IF_280:
+END_IF_284:
 
 (* The door opens for those who get in or out, and stays open until its time is over. While LEVEL
    is lost the interlock takes the open command away: OPENS keeps the wish. *)
@@ -496,7 +502,7 @@ ST CAME_FROM
 LD DIRECTION
 ST MOTOR
 RET
-ELSE_278:
+ELSE_282:
 LD LOCKED
 RETCN
 (* It stands between two landings, after a start, a fire recall or a limit of running cars. It runs
@@ -583,7 +589,7 @@ ST WORKS[2]
 LD RUNLIMIT
 GT 0
 ANDN FIRE
-JMPCN ELSE_362
+JMPCN ELSE_366
 LD CALLCAR[1]
 ST HELD1
 LD TRUE
@@ -648,7 +654,7 @@ LD CALLCAR[16]
 ST HELD1
 LD TRUE
 ST WORKS[HELD1]
-ELSE_362:
+ELSE_366:
 CAL WATCH1(FLOOR := CPOS[1], RUNS := CMOTOR[1], WORKS := WORKS[1])
 LD WATCH1.IS_OUT
 ST OUT[1]
@@ -712,12 +718,12 @@ ST WAITING
    slots until the recall is over. *)
 LD WAITING
 EQ 0
-JMPC PAST_378
+JMPC PAST_382
 LD FIRE
-JMPCN ELSE_378
-PAST_378:
+JMPCN ELSE_382
+PAST_382:
 RET
-ELSE_378:
+ELSE_382:
 
 (* Which car is nearest to the landing? At a tie it is the one with the lowest number. *)
 LD CALLFROM[WAITING]
@@ -732,24 +738,24 @@ ABS
 ST DISTANCE
 LT LEAST
 ANDN OUT[1]
-JMPCN ELSE_388
+JMPCN ELSE_392
 LD 1
 ST CHOSEN
 LD DISTANCE
 ST LEAST
-ELSE_388:
+ELSE_392:
 LD CPOS[2]
 SUB LANDING
 ABS
 ST DISTANCE
 LT LEAST
 ANDN OUT[2]
-JMPCN ELSE_388_2
+JMPCN ELSE_392_2
 LD 2
 ST CHOSEN
 LD DISTANCE
 ST LEAST
-ELSE_388_2:
+ELSE_392_2:
 
 (* It gets the call. If all cars are out, none does, and the call waits. *)
 LD CHOSEN

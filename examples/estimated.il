@@ -218,6 +218,7 @@ VAR
   AHEAD : BOOL;  (* the car has to go on in its direction *)
   HERE : BOOL;  (* a passenger wants to get in or out at this floor *)
   CAME_FROM : INT (0..16);  (* the landing that the car has left; 0 for none *)
+  STANDS_OPEN : BOOL;  (* the door is wholly open *)
   OVER : BOOL;  (* the door has been open long enough *)
   OPENS : BOOL;  (* the door is to be open, also while LEVEL is lost at an open door *)
   RECALLED : BOOL;  (* there was a fire recall in the scan before *)
@@ -241,7 +242,7 @@ END_VAR
 (* Fire: each car goes down to floor 1. Interlock rule 6 lets no car run up. The calls stay as
    they are, and the car goes on with them after the recall. *)
 LD FIRE
-JMPCN ELSE_181
+JMPCN ELSE_182
 LD TRUE
 ST RECALLED
 CAL DWELL(IN := FALSE)
@@ -256,29 +257,34 @@ ST CAME_FROM
 LD POS
 EQ 1
 AND LEVEL
-JMPCN ELSE_191
+JMPCN ELSE_192
 (* At floor 1 it stands with its door open, as long as FIRE holds. *)
 LD 0
 ST MOTOR
 LD TRUE
 ST OPENS
-JMP END_IF_191
-ELSE_191:
+JMP END_IF_192
+ELSE_192:
 LD FALSE
 ST OPENS
 LD LOCKED
+ANDN BOTTOM
 SEL 0, -1
 ST MOTOR
-END_IF_191:
+END_IF_192:
 LD OPENS
 ST OPEN
 RET
-ELSE_181:
+ELSE_182:
+
+(* A switch that sticks opens no door: OPENED counts only while the door isn't shut. *)
+LD OPENED
+ANDN LOCKED
+ST STANDS_OPEN
 
 (* Where is work? The block looks at all call slots. A passenger gets in or out where the car
    stands level with a floor, its door wholly open; not yet in the first scan after a recall,
    since the block then has to find out who has waited longest. *)
-LD OPENED
 AND LEVEL
 ANDN RECALLED
 ST CALLS.OPENED_HERE
@@ -337,11 +343,11 @@ ST SERVE
 
 (* The door stays open until nobody has passed it for the dwell time, and as long as all who pass
    it at this stop need. *)
-LD OPENED
+LD STANDS_OPEN
 ANDN CALLS.MOVED
 ST DWELL.IN
 CAL DWELL(PT := T#3s)
-CAL PASSAGE(IN := OPENED, PT := CALLS.PASSING)
+CAL PASSAGE(IN := STANDS_OPEN, PT := CALLS.PASSING)
 LD DWELL.Q
 AND PASSAGE.Q
 ST OVER
@@ -408,7 +414,7 @@ ANDN LOCKED
 STN IDLE.IN
 CAL IDLE
 LD IDLE.Q
-JMPCN ELSE_250
+JMPCN ELSE_254
 LD CARNO
 SUB 1
 MUL 16
@@ -425,31 +431,31 @@ ST ABOVE
 LD POS
 GT HOME
 ST BELOW
-ELSE_250:
+ELSE_254:
 
 (* A car that is out and has no call goes to another landing: once it has moved, it is back. *)
 LD OUT[CARNO]
 ANDN ABOVE
 ANDN BELOW
 ANDN CALLS.OUT_HERE
-JMPCN ELSE_259
+JMPCN ELSE_263
 LD POS
 LT 16
 ST ABOVE
 LDN ABOVE
 ST BELOW
-ELSE_259:
+ELSE_263:
 
 LD REST.Q
 ANDN LEVEL
-JMPCN ELSE_264
+JMPCN ELSE_268
 LD 0
 ST MOTOR
 RET
-ELSE_264:
+ELSE_268:
 LD MOTOR
 NE 0
-JMPCN ELSE_266
+JMPCN ELSE_270
 (* It runs. Between two landings it runs on, and at the landing from which it comes. *)
 LD MOTOR
 ST DIRECTION
@@ -479,23 +485,23 @@ LD HERE
 ST OPENS
 ST OPEN
 RET
-ELSE_266:
+ELSE_270:
 LD LEVEL
-JMPCN ELSE_282
+JMPCN ELSE_286
 (* It stands. At a landing it keeps its direction as long as there is work that way. *)
 LD DIRECTION
 EQ -1
 ORN ABOVE
 AND BELOW
-JMPCN ELSE_284
+JMPCN ELSE_288
 LD -1
 ST DIRECTION
-JMP END_IF_284
-ELSE_284:
+JMP END_IF_288
+ELSE_288:
 LD ABOVE
 SEL 0, 1
 ST DIRECTION
-END_IF_284:
+END_IF_288:
 
 (* The door opens for those who get in or out, and stays open until its time is over. While LEVEL
    is lost the interlock takes the open command away: OPENS keeps the wish. *)
@@ -520,7 +526,7 @@ ST CAME_FROM
 LD DIRECTION
 ST MOTOR
 RET
-ELSE_282:
+ELSE_286:
 LD LOCKED
 RETCN
 (* It stands between two landings, after a start, a fire recall or a limit of running cars. It runs
@@ -552,12 +558,12 @@ VAR_INPUT
 END_VAR
 
 LD IS_UP
-JMPCN ELSE_328
+JMPCN ELSE_332
 LD FLOOR
 MAX 1
 ST PLACE_OF
 RET
-ELSE_328:
+ELSE_332:
 LD 33
 SUB FLOOR
 MIN 32
@@ -590,7 +596,7 @@ END_VAR
 
 (* A new call: nothing is counted yet. *)
 LD ANEW
-JMPCN ELSE_361
+JMPCN ELSE_365
 LD 0
 ST BEFORE
 ST BETWEEN
@@ -632,7 +638,7 @@ ST STOP[30]
 ST STOP[31]
 ST STOP[32]
 RET
-ELSE_361:
+ELSE_365:
 
 (* Is this passenger delayed where the car stops for the new one? *)
 LD AHEAD
@@ -744,7 +750,7 @@ END_VAR
 (* Slot 1 begins anew. *)
 LD SLOT
 EQ 1
-JMPCN ELSE_510
+JMPCN ELSE_514
 (* How long does the car take for a floor, and for a stop? It is measured, so that nothing has to
    be known of its drive and door. Halved now and then, the sums forget. *)
 LD RUNS
@@ -762,14 +768,14 @@ LD FLOOR
 ST WAS_AT
 LD RUN_TIME
 GE 10000
-JMPCN ELSE_462
+JMPCN ELSE_466
 LD RUN_TIME
 DIV 2
 ST RUN_TIME
 LD RUN_FLOORS
 DIV 2
 ST RUN_FLOORS
-ELSE_462:
+ELSE_466:
 LD RUN_FLOORS
 MAX 1
 ST RUN_FLOORS
@@ -786,22 +792,22 @@ EQ 0
 AND( CALLS
 NE 0
 )
-JMPCN ELSE_471
+JMPCN ELSE_475
 LD STOOD
 MIN 600
 ADD 1
 ST STOOD
-JMP END_IF_471
-ELSE_471:
+JMP END_IF_475
+ELSE_475:
 LD STOOD
 GE 10
-JMPCN ELSE_477
+JMPCN ELSE_481
 LD STOOD
 LE 600
-JMPCN ELSE_477
+JMPCN ELSE_481
 LD RUNS
 NE 0
-JMPCN ELSE_477
+JMPCN ELSE_481
 LD STOOD_TIME
 ADD STOOD
 MIN 20000
@@ -812,17 +818,17 @@ ADD 1
 ST STOPS_MADE
 LD STOOD_TIME
 GE 10000
-JMPCN ELSE_477
+JMPCN ELSE_481
 LD STOOD_TIME
 DIV 2
 ST STOOD_TIME
 LD STOPS_MADE
 DIV 2
 ST STOPS_MADE
-ELSE_477:
+ELSE_481:
 LD 0
 ST STOOD
-END_IF_471:
+END_IF_475:
 LD STOPS_MADE
 MAX 1
 ST STOPS_MADE
@@ -836,24 +842,24 @@ ST STOP_TIME
    there. ABOVE and BELOW are those of the scan before. *)
 LD RUNS
 NE 0
-JMPCN ELSE_489
+JMPCN ELSE_493
 LD RUNS
 ST DIRECTION
-JMP END_IF_489
-ELSE_489:
+JMP END_IF_493
+ELSE_493:
 LD DIRECTION
 EQ -1
 ORN ABOVE
 AND BELOW
-JMPCN ELSE_491
+JMPCN ELSE_495
 LD -1
 ST DIRECTION
-JMP END_IF_489
-ELSE_491:
+JMP END_IF_493
+ELSE_495:
 LD ABOVE
 SEL 0, 1
 ST DIRECTION
-END_IF_489:
+END_IF_493:
 LD DIRECTION
 NE -1
 ST HELD1
@@ -878,7 +884,7 @@ ST LOWEST
 (* Where in the circle are the floors of the new call, and how far ahead of the car? A car that
    runs is too late for the floor at which it is: DISTANCE is 1 then. *)
 LD ASKED
-JMPCN ELSE_510
+JMPCN ELSE_514
 LD NEW_TO
 GT NEW_FROM
 ST HELD1
@@ -909,16 +915,16 @@ MIN 48
 ST OUT_AHEAD
 CAL STOPS(ANEW := TRUE, IN_PLACE := IN_PLACE, IN_AHEAD := IN_AHEAD, OUT_PLACE := OUT_PLACE,
   OUT_AHEAD := OUT_AHEAD)
-ELSE_510:
+ELSE_514:
 
 (* Is the call of this slot assigned to this car? *)
 LD ASSIGNED
 NE CAR
-JMPCN ELSE_521
+JMPCN ELSE_525
 LD FALSE
 ST ABOARD[SLOT]
-JMP ELSE_556
-ELSE_521:
+JMP ELSE_560
+ELSE_525:
 LD CALLS
 MIN 31
 ADD 1
@@ -932,25 +938,25 @@ ANDN ABOARD[SLOT]
 AND( RUNS
 EQ 0
 )
-JMPCN ELSE_528
+JMPCN ELSE_532
 LD FILLED
 LT 8
-JMPCN ELSE_528
+JMPCN ELSE_532
 LD GETS_OFF
 GT GETS_ON
 SEL 1, -1
 NE DIRECTION
-JMPCN ELSE_528
+JMPCN ELSE_532
 LD TRUE
 ST ABOARD[SLOT]
 LD FILLED
 MIN 31
 ADD 1
 ST FILLED
-ELSE_528:
+ELSE_532:
 
 LD ABOARD[SLOT]
-JMPCN ELSE_534
+JMPCN ELSE_538
 (* They are in the car: it has work at their destination, and stops there. *)
 LD LOAD
 MIN 31
@@ -969,7 +975,7 @@ LD GETS_OFF
 MIN LOWEST
 ST LOWEST
 LD ASKED
-JMPCN ELSE_556
+JMPCN ELSE_560
 LD GETS_OFF
 GT FLOOR
 ST HELD1
@@ -990,8 +996,8 @@ ADD BESIDE
 MIN 32
 ST BESIDE
 CAL STOPS(ANEW := FALSE, PLACE := THERE, AHEAD := SECOND_AHEAD)
-JMP ELSE_556
-ELSE_534:
+JMP ELSE_560
+ELSE_538:
 (* They wait: the car has work at their landing. *)
 LD GETS_ON
 GT FLOOR
@@ -1022,7 +1028,7 @@ MIN GETS_OFF
 MIN LOWEST
 ST LOWEST
 LD ASKED
-JMPCN ELSE_556
+JMPCN ELSE_560
 (* It stops there for them, *)
 LD GETS_OFF
 GT GETS_ON
@@ -1061,7 +1067,7 @@ SEL 0, 1
 ADD BESIDE
 MIN 32
 ST BESIDE
-ELSE_556:
+ELSE_560:
 
 (* After the last slot all stops are known. *)
 LD SLOT
@@ -1096,17 +1102,17 @@ LD IN_AHEAD
 ST DISTANCE
 LD PLACE
 LE 16
-JMPCN PAST_587_2
+JMPCN PAST_591_2
 LD PLACE
 ADD IN_AHEAD
 GT 16
-JMPC PAST_587
-PAST_587_2:
+JMPC PAST_591
+PAST_591_2:
 LD PLACE
 ADD IN_AHEAD
 GT 48
-JMPCN ELSE_587
-PAST_587:
+JMPCN ELSE_591
+PAST_591:
 LD HIGHEST
 SUB 16
 MUL 2
@@ -1114,11 +1120,11 @@ SUB 1
 ADD DISTANCE
 MAX 0
 ST DISTANCE
-ELSE_587:
+ELSE_591:
 LD PLACE
 ADD IN_AHEAD
 GT 32
-JMPCN ELSE_590
+JMPCN ELSE_594
 LD LOWEST
 MUL -2
 ADD 1
@@ -1126,17 +1132,17 @@ ADD DISTANCE
 MAX 0
 MIN 48
 ST DISTANCE
-ELSE_590:
+ELSE_594:
 
 (* A car without calls runs straight there. *)
 LD CALLS
 EQ 0
-JMPCN ELSE_595
+JMPCN ELSE_599
 LD FLOOR
 SUB NEW_FROM
 ABS
 ST DISTANCE
-ELSE_595:
+ELSE_599:
 
 (* How long do they wait? For the run, the stops before, and the rest of the present stop. *)
 LD DISTANCE
@@ -1154,19 +1160,19 @@ NE 0
 AND( IN_AHEAD
 NE 0
 )
-JMPCN ELSE_601
+JMPCN ELSE_605
 LD STOP_TIME
 SUB STOOD
 MAX 0
 ADD WAITING
 MIN 8000
 ST WAITING
-ELSE_601:
+ELSE_605:
 
 (* If the car is full then, they wait for its next round trip as well. *)
 LD BESIDE
 GE 8
-JMPCN ELSE_606
+JMPCN ELSE_610
 LD FLOOR_TIME
 MUL 32
 ADD( STOP_TIME
@@ -1175,7 +1181,7 @@ MUL 4
 ADD WAITING
 MIN 8000
 ST WAITING
-ELSE_606:
+ELSE_610:
 
 (* How long are they in the car? *)
 LD NEW_TO
@@ -1314,7 +1320,7 @@ ST WORKS[4]
 LD RUNLIMIT
 GT 0
 ANDN FIRE
-JMPCN ELSE_684
+JMPCN ELSE_688
 LD CALLCAR[1]
 ST HELD1
 LD TRUE
@@ -1443,7 +1449,7 @@ LD CALLCAR[32]
 ST HELD1
 LD TRUE
 ST WORKS[HELD1]
-ELSE_684:
+ELSE_688:
 CAL WATCH1(FLOOR := CPOS[1], RUNS := CMOTOR[1], WORKS := WORKS[1])
 LD WATCH1.IS_OUT
 ST OUT[1]
@@ -1747,39 +1753,39 @@ ST CHOSEN
 LD ROUTE1.COST
 LT LEAST
 ANDN OUT[1]
-JMPCN ELSE_751
+JMPCN ELSE_755
 LD 1
 ST CHOSEN
 LD ROUTE1.COST
 ST LEAST
-ELSE_751:
+ELSE_755:
 LD ROUTE2.COST
 LT LEAST
 ANDN OUT[2]
-JMPCN ELSE_755
+JMPCN ELSE_759
 LD 2
 ST CHOSEN
 LD ROUTE2.COST
 ST LEAST
-ELSE_755:
+ELSE_759:
 LD ROUTE3.COST
 LT LEAST
 ANDN OUT[3]
-JMPCN ELSE_759
+JMPCN ELSE_763
 LD 3
 ST CHOSEN
 LD ROUTE3.COST
 ST LEAST
-ELSE_759:
+ELSE_763:
 LD ROUTE4.COST
 LT LEAST
 ANDN OUT[4]
-JMPCN ELSE_763
+JMPCN ELSE_767
 LD 4
 ST CHOSEN
 LD ROUTE4.COST
 ST LEAST
-ELSE_763:
+ELSE_767:
 
 (* It gets the call. If all cars are out, none does, and the call waits. *)
 LD CHOSEN
