@@ -1,6 +1,6 @@
 -- The line of a step (own rules).
-use Rattle.std.specs.Prelude.{ℕ, ◌-◌, ◌==◌, min, Bool, true, false, nat_lt, List, [], ◌++◌, flat_map, map, take, drop, length, replicate, slice_get, Option, Some, None, option_map, if◌then◌else◌, codes, decimal}
-use Rattle.std.specs.List.{prefix_len}
+use Rattle.std.specs.Prelude.{ℕ, ◌-◌, ◌==◌, bytes_eq, min, Bool, true, false, nat_lt, List, [], ◌++◌, flat_map, map, take, drop, length, replicate, slice_get, Option, Some, None, option_map, if◌then◌else◌, codes, decimal}
+use Rattle.std.specs.List.{prefix_len, list_any}
 use Rattle.il_spec.specs.declared.tree.Argument.{Argument}
 use Rattle.il_spec.specs.declared.tree.Argument.TheVariants.{Input, Output}
 use Rattle.il_spec.specs.declared.tree.Config.{Config}
@@ -17,7 +17,7 @@ use Rattle.il_run.specs.State.{Values, State}
 use Rattle.il_run.specs.Meaning.{under, member_path}
 use Rattle.lift_messages.specs.Places.{shown}
 use Rattle.lift_scan.specs.declared.before.Before.{Before}
-use Rattle.lift_scan.specs.Stands.{StandOf, of_stand, stand_at, step_at, result_text, named_text, reference_text}
+use Rattle.lift_scan.specs.Stands.{StandOf, of_stand, stand_at, step_at, result_text, named_text, there_text, reference_text}
 
 -- WHERE A STEP STANDS
 
@@ -91,9 +91,27 @@ first_shown items = take (min most_shown (length items)) items
 abbrev pub rest_text : ℕ → List ℕ
 rest_text count = if nat_lt most_shown count then codes " .." else []
 
+-- whether a call hands an output on by an argument
+abbrev pub is_output_of : Text → Argument → Bool
+is_output_of word (Input name operand) = false
+is_output_of word (Output name target) = bytes_eq name.name word
+
+-- an output of an instance that has it, unless the call hands it on
+abbrev pub kept_text : Values → Text → Text → List Argument → Text → List ℕ
+kept_text values path instance arguments word =
+    if list_any (is_output_of word) arguments then [] else there_text values (member_path (under path instance) word)
+
+-- the outputs of a standard block that a call doesn't hand on, as it leaves them (2.5.2.3); those of another are shown where its body ends
+abbrev pub outputs_text : Values → Text → Text → Bool → List Argument → List ℕ
+outputs_text values path instance true arguments = []
+outputs_text values path instance false arguments =
+    let kept = kept_text values path instance arguments in
+    kept (codes "Q") ++ (kept (codes "Q1") ++ (kept (codes "QU") ++ (kept (codes "QD") ++ (kept (codes "ET") ++ kept (codes "CV")))))
+
 -- what goes into a call by its arguments, and out of it where no body is entered
 abbrev pub arguments_text : Values → Text → Text → Bool → List Argument → List ℕ
-arguments_text values path instance enters arguments = flat_map (argument_text values path instance enters) (first_shown arguments) ++ rest_text (length arguments)
+arguments_text values path instance enters arguments =
+    flat_map (argument_text values path instance enters) (first_shown arguments) ++ (rest_text (length arguments) ++ outputs_text values path instance enters arguments)
 
 -- what goes out of a call by its arguments
 abbrev pub outs_text : Values → Text → Text → List Argument → List ℕ

@@ -62,6 +62,14 @@ result_text (Some c) = value_text (Some c.value)
 abbrev pub named_text : Values → Text → List ℕ
 named_text values path = codes ", " ++ (path ++ (codes " " ++ value_text (get values path)))
 
+-- the same where the path has a value, and nothing where it has none
+abbrev pub there_by : Text → Option Value → List ℕ
+there_by path None = []
+there_by path (Some value) = codes ", " ++ (path ++ (codes " " ++ value_text (Some value)))
+
+abbrev pub there_text : Values → Text → List ℕ
+there_text values path = there_by path (get values path)
+
 -- an element of an array whose index is a variable
 abbrev pub indexed_text : Values → Text → Option Value → List ℕ
 indexed_text values path (Some (Integer z)) = named_text values (element_path path z)

@@ -1,14 +1,14 @@
 // The line of a step.
 
-ghost use Rattle.std.specs.Prelude.{◌≡◌, ◌≤◌, flat_map, length, map, option_copied, option_map, replicate, OnOk};
-ghost use Rattle.std.specs.List.{prefix_len};
+ghost use Rattle.std.specs.Prelude.{◌≡◌, ◌≤◌, false, flat_map, length, map, option_copied, option_map, replicate, OnOk};
+ghost use Rattle.std.specs.List.{prefix_len, list_any};
 ghost use Rattle.base_texts.specs.Puts.{Puts};
 ghost use Rattle.lift_messages.specs.Places.{shown};
 ghost use Rattle.lift_scan.specs.Stands.{of_stand, reference_text};
-ghost use Rattle.lift_scan.specs.Lines.{is_within_line, shown_front, source_text, front_text, results_text, of_before, first_shown, rest_text, out_text, outs_text, output_text, argument_text, arguments_text, operands_text, instruction_text, step_text, call_text, left_by, left_text, names_text, line_text};
+ghost use Rattle.lift_scan.specs.Lines.{is_within_line, shown_front, source_text, front_text, results_text, of_before, first_shown, rest_text, out_text, outs_text, output_text, argument_text, is_output_of, kept_text, outputs_text, arguments_text, operands_text, instruction_text, step_text, call_text, left_by, left_text, names_text, line_text};
 
 use crate::before::Before;
-use crate::values::{put_member, put_reference, put_result, put_variable};
+use crate::values::{put_member, put_member_there, put_reference, put_result, put_variable};
 use crate::view::{Stand, View};
 use il_spec::tree::{Argument, Instruction, Operand, Step};
 use lift_messages::place::shown;
@@ -355,7 +355,69 @@ fn put_first_arguments(
 {
     let first = first_shown(arguments);
     put_arguments(alloc, text, view, path, instance, enters, first)?;
-    put_rest(text, arguments.len())
+    put_rest(text, arguments.len())?;
+    if enters {
+        return Ok(());
+    }
+    put_outputs(alloc, text, view, path, instance, arguments)
+}
+
+// The outputs of a standard block that a call doesn't hand on (IEC 61131-3:2003, 2.5.2.3).
+fn put_outputs(
+    alloc: Global,
+    text: &mut String,
+    view: &View<'_>,
+    path: &str,
+    instance: &str,
+    arguments: &[Argument],
+) -> Result<(), AllocError>
+    ensures { OnOk result (Puts text.old text.new
+        (outputs_text view.now.state.values path.now instance.now false arguments.now)) }
+{
+    put_kept(alloc, text, view, path, instance, arguments, "Q")?;
+    put_kept(alloc, text, view, path, instance, arguments, "Q1")?;
+    put_kept(alloc, text, view, path, instance, arguments, "QU")?;
+    put_kept(alloc, text, view, path, instance, arguments, "QD")?;
+    put_kept(alloc, text, view, path, instance, arguments, "ET")?;
+    put_kept(alloc, text, view, path, instance, arguments, "CV")
+}
+
+// An output of an instance that has it, unless the call hands it on.
+fn put_kept(
+    alloc: Global,
+    text: &mut String,
+    view: &View<'_>,
+    path: &str,
+    instance: &str,
+    arguments: &[Argument],
+    word: &str,
+) -> Result<(), AllocError>
+    ensures { OnOk result (Puts text.old text.new
+        (kept_text view.now.state.values path.now instance.now arguments.now word.now)) }
+{
+    if hands_on(arguments, word) {
+        return Ok(());
+    }
+    put_member_there(alloc, text, view, path, instance, word)
+}
+
+// Whether arguments hand an output on.
+fn hands_on(arguments: &[Argument], word: &str) -> bool
+    ensures { result ≡ list_any (is_output_of word.now) arguments.now }
+{
+    arguments
+        .iter()
+        .any(|argument| is_output_of(argument, word))
+}
+
+// Whether an argument hands an output on.
+fn is_output_of(argument: &Argument, word: &str) -> bool
+    ensures { result ≡ is_output_of word.now argument.now }
+{
+    match argument {
+        Argument::Input { .. } => false,
+        Argument::Output { word: name, .. } => name.name.as_str() == word,
+    }
 }
 
 // What goes into a call by arguments, and out of it where no body is entered.

@@ -3,7 +3,7 @@
 ghost use Rattle.std.specs.Prelude.{IfOk, OnOk, string_bytes};
 ghost use Rattle.base_texts.specs.Puts.{Puts};
 ghost use Rattle.il_run.specs.Meaning as meaning;
-ghost use Rattle.lift_scan.specs.Stands.{value_text, result_text, named_text, indexed_text, element_text, reference_text};
+ghost use Rattle.lift_scan.specs.Stands.{value_text, result_text, named_text, there_by, there_text, indexed_text, element_text, reference_text};
 
 use crate::view::{View, under};
 use il_machine::Value;
@@ -73,6 +73,38 @@ pub fn put_member(
     path.push_str(".")?;
     path.push_str(word)?;
     put_named(text, view, path.as_str())
+}
+
+/// The same of an instance that may lack it: nothing where it does.
+pub fn put_member_there(
+    alloc: Global,
+    text: &mut String,
+    view: &View<'_>,
+    path: &str,
+    instance: &str,
+    word: &str,
+) -> Result<(), AllocError>
+    ensures { OnOk result (Puts text.old text.new
+        (there_text view.now.state.values
+        (meaning.member_path (meaning.under path.now instance.now) word.now))) }
+{
+    let mut path = under(String::from_str(alloc, path)?, instance)?;
+    path.push_str(".")?;
+    path.push_str(word)?;
+    put_there(text, path.as_str(), view.value(path.as_str()))
+}
+
+// A path and its value, if it has one.
+fn put_there(text: &mut String, path: &str, value: Option<Value>) -> Result<(), AllocError>
+    ensures { OnOk result (Puts text.old text.new (there_by path.now value)) }
+{
+    match value {
+        None => Ok(()),
+        Some(_) => {
+            write!(text, ", {} ", path)?;
+            put_value(text, value)
+        }
+    }
 }
 
 // An element of the array at a path, and its value.
