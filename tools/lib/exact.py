@@ -22,7 +22,8 @@ MOST_PASSING = 600  # rounds
 MOST_AHEAD = 6000  # rounds that a car is played on
 LOST = 600  # rounds more for who is not carried then: they press again, and wait for another trip
 FROM_MAIN_OF, UP_PEAK_FROM = 100, 70  # of the last calls so many come from floor 1 in an up-peak, as in GROUP
-CROWDING = 0.4  # what a call costs those who come later, as a part: the rounds by which the car is busy longer, times the calls that each car has
+WAITING = 0.2  # what a round of waiting costs beside a round until the destination
+CROWDING = 0.3  # what a round by which a car is busy longer costs those who come later, for each call that a car has on average
 
 
 class Timer:
@@ -274,10 +275,11 @@ class Ahead(Building):
             self.round()
         return self
 
-    def times(self) -> dict[int, int]:
-        """For each of its people, the round in which they are at their floor."""
+    def times(self) -> dict[int, tuple[int, int]]:
+        """For each of its people, the rounds in which they get in, and are at their floor."""
         late = self.now + LOST
-        return {number: round(it.left * ROUNDS_A_SECOND) if it.left >= 0 else late for number, it in self.people.items()}
+        of = {number: [round(time * ROUNDS_A_SECOND) if time >= 0 else late for time in (it.boarded, it.left)] for number, it in self.people.items()}
+        return {number: (boarded, left) for number, (boarded, left) in of.items()}
 
 
 class Desk:
@@ -324,27 +326,32 @@ class InTurn:
 
 
 class LeastTime:
-    """The car in which it costs least time, of all people of that car together."""
+    """The car in which it costs least time, of all people of that car together and of those who come later."""
 
     def __init__(self):
-        self.known: dict[int, tuple[dict[int, int], int]] = {}  # by car: when its people are at their floors, and the last of them
+        self.known: dict[int, dict[int, tuple[int, int]]] = {}  # by car, the times of its people as foreseen at its last call
 
     def car_for(self, controller: Exact, told: Told, people: list[Passenger]) -> int:
-        building = controller.building
-        calls = sum(len(it.calls) for it in controller.programs) / len(controller.programs)
-        least, chosen = float("inf"), None
-        for car, program in zip(building.cars, controller.programs):
+        building, programs = controller.building, controller.programs
+        calls = sum(len(it.calls) for it in programs) / len(programs)
+        least, chosen = float("inf"), (0, {})
+        for car, program in zip(building.cars, programs):
             ahead = Ahead(building, car, program)
             ahead.add(copy(told), people)
-            ahead.play_on()
-            times, (known, end) = ahead.times(), self.known.get(car.number, ({}, 0))
-            cost = sum(left - known.get(number, building.now) for number, left in times.items())
-            cost += CROWDING * calls * (ahead.now - max(end, building.now))
+            times = ahead.play_on().times()
+            cost = self.cost(car.number, times, building.now, calls)
             if cost < least:
-                least, chosen = cost, (car.number, times, ahead.now)
-        number, times, end = chosen
-        self.known[number] = times, end
+                least, chosen = cost, (car.number, times)
+        number, self.known[number] = chosen
         return number
+
+    def cost(self, number: int, times: dict[int, tuple[int, int]], now: int, calls: float) -> float:
+        """In rounds: by how much later all get in and are there than without the new call, and by how much longer the car is busy."""
+        known = self.known.get(number, {})
+        before = [known.get(passenger, (now, now)) for passenger in times]
+        later = sum(left - left_before + WAITING * (boarded - boarded_before) for (boarded, left), (boarded_before, left_before) in zip(times.values(), before))
+        busy = max(left for _, left in times.values()) - max(now, *(left for _, left in before))
+        return later + CROWDING * calls * max(busy, 0)
 
 
 class Exact:
