@@ -2,10 +2,12 @@
 import contextlib, multiprocessing, os, pathlib, signal
 from dataclasses import dataclass
 from functools import partial
-from typing import Iterator
+from typing import Callable, Iterator
 
 from lib.building import Controller, Scene, Trouble, simulated
+from lib.exact import Exact, Known, LeastTime
 from lib.figures import Figures, figures
+from lib.group_text import Group
 
 
 @dataclass(frozen=True)
@@ -26,6 +28,12 @@ def played(binary: str, job: Job) -> tuple[Job, Figures]:
     return job, figures(building, job.scene.length)
 
 
+def played_with_knowledge(groups: dict[str, Group], job: Job) -> tuple[Job, Figures]:
+    """The same with a dispatcher that knows all, in place of the program; the file is the name of a group."""
+    controller = Exact(groups[job.file], LeastTime())
+    return job, figures(simulated(job.scene, job.cars, job.demand, job.seed, lambda: controller, kind=Known), job.scene.length)
+
+
 def end_worker(*_):
     """Ends this process, and before it what it runs, which would complain otherwise."""
     for task in pathlib.Path("/proc/self/task").glob("*/children"):
@@ -44,5 +52,14 @@ def begin_worker():
 
 def made(jobs: list[Job], binary: str, at_a_time: int) -> Iterator[tuple[Job, Figures]]:
     """The figures of each job, in the order of the jobs."""
+    yield from of_all(partial(played, binary), jobs, at_a_time)
+
+
+def made_with_knowledge(jobs: list[Job], groups: dict[str, Group], at_a_time: int) -> Iterator[tuple[Job, Figures]]:
+    """The same of a dispatcher that knows all."""
+    yield from of_all(partial(played_with_knowledge, groups), jobs, at_a_time)
+
+
+def of_all(play: Callable[[Job], tuple[Job, Figures]], jobs: list[Job], at_a_time: int) -> Iterator[tuple[Job, Figures]]:
     with multiprocessing.Pool(at_a_time, begin_worker) as pool:
-        yield from pool.imap(partial(played, binary), jobs)
+        yield from pool.imap(play, jobs)

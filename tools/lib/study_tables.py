@@ -135,6 +135,27 @@ def differences(rows: list[Row], best: str, shown: Shown, what: str) -> str:
     return "\n".join(lines) + "\n"
 
 
+def beside(rows: list[Row], best: str, bound: str, shown: Shown) -> str:
+    """The best dispatcher beside the bound, of the seeds that both have."""
+    times = "waiting", "journey"
+    heads = [f"{name}: {who}" for name in ("waiting", "time to destination") for who in (bound, best, "difference")]
+    lines = [f"| building | traffic | {' | '.join(heads)} |", "|---" * (2 + len(heads)) + "|"]
+    for building in dict.fromkeys(it.building for it in rows):
+        for traffic, demand in shown.named.items():
+            own = of_run(rows, building=building, traffic=traffic, demand=demand)
+            of = {who: of_run(own, dispatcher=who) for who in (bound, best)}
+            if all(of.values()):
+                seeds = {it.seed for it in of[bound]} & {it.seed for it in of[best]}
+                own = [it for it in own if it.seed in seeds]
+                cells = [cell for what in times for cell in beside_of(own, best, bound, what)]
+                lines.append(f"| {building} | {traffic}, {demand:g} % | {' | '.join(cells)} |")
+    return "\n".join(lines) + "\n"
+
+
+def beside_of(rows: list[Row], best: str, bound: str, what: str) -> list[str]:
+    return [*(cell(of_run(rows, dispatcher=who), what) for who in (bound, best)), paired(rows, best, bound, what)]
+
+
 def capacity(rows: list[Row]) -> tuple[float, bool]:
     """The greatest demand, in per cent, that is carried to 95 %, between two demands of the study.
 
