@@ -18,7 +18,8 @@ use Rattle.lift_run_laws.specs.Accepted.{IsSound}
 use Rattle.lift_run_laws.specs.Holding.{SeatHolds, TaskHolds, WorldHolds}
 use Rattle.lift_run_laws.specs.Runs.{IsReached}
 use Rattle.std.proofs.lemmas.List.{append_assoc}
-use Rattle.lift_run_laws.proofs.Accepted.{accepted_runs_well, opens_well, scans_well}
+use Rattle.lift_run_laws.proofs.Accepted.{opens_well, scans_well}
+use Rattle.lift_run_laws.proofs.Histories.{reached_well}
 use Rattle.lift_run_laws.proofs.Following.{follow, before, ended, same_end, goes_on}
 use Rattle.lift_run_laws.proofs.Lists.{get_other, same_or_other}
 use Rattle.lift_run_laws.proofs.Running.{reached_world_holds}
@@ -61,7 +62,7 @@ runs_reach c [] w v reached same = subst (IsReached c) same reached
 runs_reach c (e ∷ entries) w v reached (m, answer, step, rest) = runs_reach c entries m v (goes_on c w m [] (step.replies ++ answer ∷ []) (events_of step.instructions e) reached step.happens) rest
 
 pub opening_reached : (c : Config) → IsReached c (opening c)
-opening_reached c = record { events = []; replies = []; is = refl }
+opening_reached c = record { base = opening c; begins = inl refl; events = []; replies = []; is = refl }
 
 pub journal_reaches : (c : Config) (entries : List Entry) (w : World) → IsJournalOf c entries w → IsReached c w
 journal_reaches c entries w runs = runs_reach c entries (opening c) w (opening_reached c) runs
@@ -69,7 +70,7 @@ journal_reaches c entries w runs = runs_reach c entries (opening c) w (opening_r
 pub journal_is_well : (c : Config) → IsSound c → (entries : List Entry) (w : World) → IsJournalOf c entries w → InRanges c w.group × Obeys w.group.image
 journal_is_well c sound entries w runs =
     let reached = journal_reaches c entries w runs in
-    let well = (accepted_runs_well c sound).well reached.events w reached.replies reached.is in
+    let well = reached_well c sound w reached in
     (well.ranges, well.obeys)
 
 -- WHOSE SCANS ARE OPEN
