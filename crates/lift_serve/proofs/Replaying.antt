@@ -14,7 +14,7 @@ use Rattle.lift_spec.specs.declared.image.Fields.{Fields}
 use Rattle.lift_spec.specs.World.{World, Halt, Next, happens, run, and_then, presses, presses_floors, presses_new}
 use Rattle.lift_run_laws.proofs.Following.{follow, before}
 use Rattle.lift_trace.specs.declared.format.Format.TheVariants.{Two}
-use Rattle.lift_trace.specs.Text.{last_line, line_of, text_of, text_of_lines}
+use Rattle.lift_trace.specs.Text.{last_line, line_of, text_of_lines}
 use Rattle.lift_trace.specs.Writing.{events_text}
 use Rattle.lift_trace.proofs.Texts.{text_append}
 use Rattle.lift_trace.proofs.Writes.{events_append}
@@ -27,7 +27,7 @@ use Rattle.lift_serve.specs.declared.said.Said.{Said}
 use Rattle.lift_serve.specs.declared.said.Said.TheVariants.{Round, Press, End}
 use Rattle.lift_serve.specs.Saying.{events_of, scan_events, is_call}
 use Rattle.lift_serve.specs.Answers.{Acts}
-use Rattle.lift_serve.specs.Ending.{head}
+use Rattle.lift_serve.specs.Ending.{behind_head}
 use Rattle.lift_serve.specs.Serving.{IsServed, Serves, is_end, traced_text}
 
 -- THE FIRST OF SOME EVENTS
@@ -155,8 +155,8 @@ serves_taken c (line ∷ lines) w v count next text events (said, m, k, first, o
       joined c here more.0 w m v (acts_taken c said w m first hears.acts) more.3,
     )
 
--- the same of all lines up to the end: behind the head it is the trace of those events
-pub served_taken : (c : Config) (w v : World) (next : ℕ) (Taken Out Trace : List ℕ → Type 0) → (s : IsServed c w 0 v next Taken Out Trace) → (es : List TraceEvent) × TakesAll c w es v × (head ++ (s.events ++ s.ends) ≡ text_of Two es)
+-- the same of all lines up to the end: it is what stands behind the head of the trace of those events
+pub served_taken : (c : Config) (w v : World) (next : ℕ) (Taken Out Trace : List ℕ → Type 0) → (s : IsServed c w 0 v next Taken Out Trace) → (es : List TraceEvent) × TakesAll c w es v × (s.events ++ s.ends ≡ behind_head es)
 served_taken c w v next Taken Out Trace s =
     let before = serves_taken c s.lines w s.behind 0 s.many s.text s.events s.serves in
     let es = before.0 in
@@ -167,5 +167,5 @@ served_taken c w v next Taken Out Trace s =
     in (
       es,
       subst (λ x. TakesAll c w es x) s.hears.acts.0 before.3,
-      ap (λ l. head ++ l) (ap (λ l. l ++ s.ends) before.1 ∙ ap (λ l. events_text es ++ l) last ∙ ends),
+      ap (λ l. l ++ s.ends) before.1 ∙ ap (λ l. events_text es ++ l) last ∙ ends,
     )

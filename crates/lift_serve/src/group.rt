@@ -1,13 +1,16 @@
 // A group from its opening to the end of its lines.
 
 ghost use Rattle.std.specs.Prelude.{◌≡◌, None, OnOk, IfErr};
-ghost use Rattle.lift_serve.specs.Ending.{Ends, IsHaltWritten};
+ghost use Rattle.lift_journal.specs.Closed.{IsClosed};
+ghost use Rattle.lift_spec.specs.World.{opening};
+ghost use Rattle.lift_serve.specs.Ending.{Ends, IsHaltWritten, opening_head};
 ghost use Rattle.lift_serve.specs.Between.{EndsGroup, HaltsGroup};
 
 use crate::serve::{Stop, Stopped, serve};
 use crate::server::{ServeFault, Server};
 use il_machine::Verified;
 use lift_host::sink::{Sink, put_all};
+use lift_world::World;
 use std::alloc::Global;
 use std::io::Read;
 use thiserror::Error;
@@ -33,20 +36,46 @@ pub fn serve_group<R: Read, O: Sink, T: Sink>(
     out: &mut O,
     trace: &mut T,
 ) -> Result<(), Halt>
-    ensures ended { OnOk result (EndsGroup R.Read O.Sink T.Sink verified.config reader.old reader.new
-        out.old out.new trace.old trace.new) }
-    ensures halted { IfErr result (HaltsGroup R.Read O.Sink T.Sink verified.config reader.old
-        reader.new out.old out.new trace.old trace.new) }
+    ensures ended { OnOk result (EndsGroup R.Read O.Sink T.Sink verified.config
+        (opening verified.config) opening_head reader.old reader.new out.old out.new trace.old
+        trace.new) }
+    ensures halted { IfErr result (HaltsGroup R.Read O.Sink T.Sink verified.config
+        (opening verified.config) opening_head reader.old reader.new out.old out.new trace.old
+        trace.new) }
     ensures silent { T.contents trace.old ≡ None → T.contents trace.new ≡ None }
     ensures made { T.made trace.new ≡ T.made trace.old }
 {
-    let Ok(mut server) = Server::new(alloc, verified) else {
+    let Ok(world) = World::new(alloc, verified) else {
+        return Err(Halt::Memory);
+    };
+    serve_from(alloc, world, b"LIFTTRACE 2\n", reader, out, trace)
+}
+
+/// Serves a group from a world between scans to the end of its lines, with this head of its trace. Where it stops before, the stop is the last
+/// line that is written.
+pub fn serve_from<R: Read, O: Sink, T: Sink>(
+    alloc: Global,
+    world: World,
+    head: &[u8],
+    reader: &mut R,
+    out: &mut O,
+    trace: &mut T,
+) -> Result<(), Halt>
+    requires { IsClosed world.world }
+    ensures ended { OnOk result (EndsGroup R.Read O.Sink T.Sink world.program.config world.world
+        head.now reader.old reader.new out.old out.new trace.old trace.new) }
+    ensures halted { IfErr result (HaltsGroup R.Read O.Sink T.Sink world.program.config world.world
+        head.now reader.old reader.new out.old out.new trace.old trace.new) }
+    ensures silent { T.contents trace.old ≡ None → T.contents trace.new ≡ None }
+    ensures made { T.made trace.new ≡ T.made trace.old }
+{
+    let Ok(mut server) = Server::of(alloc, world) else {
         return Err(Halt::Memory);
     };
     let Ok(mut line) = Vec::with_capacity(alloc, 128) else {
         return Err(Halt::Memory);
     };
-    if put_all(trace, b"LIFTTRACE 2\n").is_err() {
+    if put_all(trace, head).is_err() {
         put_stop(server.stop.as_bytes(), out);
         return Err(Halt::Head);
     }
