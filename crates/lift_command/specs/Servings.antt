@@ -29,8 +29,7 @@ use Rattle.lift_serve.specs.declared.serve.Stop.{Stop}
 use Rattle.lift_serve.specs.declared.serve.Stop.TheVariants as stop
 use Rattle.lift_serve.specs.declared.server.ServeFault.{ServeFault}
 use Rattle.lift_serve.specs.declared.server.ServeFault.TheVariants as fault
-use Rattle.lift_serve.specs.Ending.{IsEnded, IsHalted, opening_head}
-use Rattle.lift_spec.specs.World.{opening}
+use Rattle.lift_serve.specs.Ending.{IsEnded, IsHalted}
 use Rattle.lift_serve.specs.Serving.{AtStop, at_stop}
 use Rattle.lift_command.specs.Loaded.{IsLoaded}
 
@@ -148,8 +147,8 @@ IsCreated (Some tracing) t created = IsMade tracing.name.now tracing.sync t crea
 -- Of a configuration: its trace was wanted and could not be created; or its lines were answered and traced, to the end or up to a stop. The stop's fault is told.
 pub data IsLoadedAnswer (c : Config) (tracing : Option Tracing) (s : Streams) (status : Status) : Type 0 where
   uncreated : (wanted : Tracing) → tracing ≡ Some wanted → s.trace_failed ≡ true → NothingServed s → Tells s (message_of CannotWrite) → status ≡ with_status.CannotWrite → IsLoadedAnswer c tracing s status
-  ended : (created : Option (List ℕ)) → IsCreated tracing s.trace created → IsEnded c (opening c) opening_head (Takes s) (Appends s.out.before s.out.after) (Appends created s.trace.after) → IsSilent s → status ≡ with_status.Done → IsLoadedAnswer c tracing s status
-  halted : (created : Option (List ℕ)) → IsCreated tracing s.trace created → (halt : Halt) → IsHalted c (opening c) opening_head (stop_of s) (Takes s) s.out.before s.out.after (Appends created s.trace.after) (AppendsFront created s.trace.after) halt → Tells s (message_of (fault_of_halt halt)) → status ≡ status_of (fault_of_halt halt)
+  ended : (created : Option (List ℕ)) → IsCreated tracing s.trace created → IsEnded c (Takes s) (Appends s.out.before s.out.after) (Appends created s.trace.after) → IsSilent s → status ≡ with_status.Done → IsLoadedAnswer c tracing s status
+  halted : (created : Option (List ℕ)) → IsCreated tracing s.trace created → (halt : Halt) → IsHalted c (stop_of s) (Takes s) s.out.before s.out.after (Appends created s.trace.after) (AppendsFront created s.trace.after) halt → Tells s (message_of (fault_of_halt halt)) → status ≡ status_of (fault_of_halt halt)
       → IsLoadedAnswer c tracing s status
 
 -- below a refusal of FILE its place, its line, and what is told of it

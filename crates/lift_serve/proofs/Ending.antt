@@ -14,7 +14,7 @@ use Rattle.lift_serve.specs.declared.serve.Stopped.{Stopped}
 use Rattle.lift_serve.specs.declared.serve.Stop.TheVariants.{Line, Input, Lines}
 use Rattle.lift_serve.specs.declared.server.ServeFault.TheVariants as fault
 use Rattle.lift_serve.specs.Answers.{stop_line}
-use Rattle.lift_serve.specs.Ending.{Ends, IsHaltWritten, IsEnded, IsHalted}
+use Rattle.lift_serve.specs.Ending.{Ends, IsHaltWritten, IsEndedFrom, IsHaltedFrom}
 use Rattle.lift_serve.specs.Serving.{IsServed, IsStopped, IsStoppedBy, AtStop, traced_text}
 use Rattle.lift_serve.proofs.Serving.{front_behind}
 use Rattle.lift_serve.proofs.Replaying.{served_taken}
@@ -24,7 +24,7 @@ consumes_none None = tt
 consumes_none (Some xs) = refl
 
 pub ended : (p q : WorldOf) (a : ℕ) (v : World) (next : ℕ) (head : List ℕ) (Taken Out : List ℕ → Type 0) (t0 t1 t2 : Option (List ℕ)) → (q ≡ p) × (a ≡ 0) → Appends t0 t1 head → IsServed q.program.config q.world a v next Taken Out (Appends t1 t2)
-    → IsEnded p.program.config p.world head Taken Out (Appends t0 t2)
+    → IsEndedFrom p.program.config p.world head Taken Out (Appends t0 t2)
 ended p q a v next head Taken Out t0 t1 t2 opened grown s =
     let one = subst (λ (x : WorldOf). IsServed x.program.config x.world a v next Taken Out (Appends t1 t2)) opened.0 s in
     let all = subst (λ n. IsServed p.program.config p.world n v next Taken Out (Appends t1 t2)) opened.1 one in
@@ -68,7 +68,7 @@ module _ (c : Config) (v : World) (next heard : ℕ) (left : Option (List ℕ)) 
   why Lines written (many, taken, out, trace) = (many, taken, ends_behind o0 o o1 failed (text ++ []) still out written, appends_more t0 t1 t2 head (events ++ []) grown trace)
 
 pub halted : (p q : WorldOf) (a : ℕ) (Taken : List ℕ → Type 0) (left o0 o o1 : Option (List ℕ)) (had_failed failed trace_failed : Bool) (t0 t1 t2 : Option (List ℕ)) (still head : List ℕ) (s : Stopped) → (q ≡ p) × (a ≡ 0) → Appends t0 t1 head → still ≡ stop_line p.program.config
-    → IsHaltWritten s.stop o o1 had_failed failed still → IsStopped q.program.config q.world a (record { left = left; out_failed = had_failed; trace_failed = trace_failed }) Taken (Appends o0 o) (AppendsFront o0 o) (Appends t1 t2) (AppendsFront t1 t2) s.stop s.line → IsHalted p.program.config p.world head (record { left = left; out_failed = failed; trace_failed = trace_failed }) Taken o0 o1 (Appends t0 t2) (AppendsFront t0 t2) (halt.Stop s)
+    → IsHaltWritten s.stop o o1 had_failed failed still → IsStopped q.program.config q.world a (record { left = left; out_failed = had_failed; trace_failed = trace_failed }) Taken (Appends o0 o) (AppendsFront o0 o) (Appends t1 t2) (AppendsFront t1 t2) s.stop s.line → IsHaltedFrom p.program.config p.world head (record { left = left; out_failed = failed; trace_failed = trace_failed }) Taken o0 o1 (Appends t0 t2) (AppendsFront t0 t2) (halt.Stop s)
 halted p q a Taken left o0 o o1 had_failed failed trace_failed t0 t1 t2 still head s opened grown is written stopped =
     let one = subst (λ (x : WorldOf). IsStopped x.program.config x.world a (record { left = left; out_failed = had_failed; trace_failed = trace_failed }) Taken (Appends o0 o) (AppendsFront o0 o) (Appends t1 t2) (AppendsFront t1 t2) s.stop s.line) opened.0 stopped in
     let all = subst (λ n. IsStopped p.program.config p.world n (record { left = left; out_failed = had_failed; trace_failed = trace_failed }) Taken (Appends o0 o) (AppendsFront o0 o) (Appends t1 t2) (AppendsFront t1 t2) s.stop s.line) opened.1 one in

@@ -14,7 +14,7 @@ use Rattle.lift_serve.specs.declared.server.ServeFault.{ServeFault}
 use Rattle.lift_serve.specs.declared.server.ServeFault.TheVariants as fault
 use Rattle.lift_serve.specs.Answers.{Acts}
 use Rattle.lift_serve.specs.Serving.{Hears, Unheard, is_end, IsServed, IsStopped, at_stop}
-use Rattle.lift_serve.specs.Ending.{IsEnded, IsHalted}
+use Rattle.lift_serve.specs.Ending.{IsEndedFrom, IsHaltedFrom}
 
 -- the configuration of a server, and its world
 abbrev pub config_of : Server → Config
@@ -62,10 +62,10 @@ Stops reader out trace before r s o p t u stopped =
     IsStopped (config_of before) (world_of before) before.count (at_stop (reader.remaining s) (out.has_failed p) (trace.has_failed u)) (IsRead reader r s) (IsPut out o p) (IsPutFront out o p) (IsPut trace t u) (IsPutFront trace t u) stopped.stop stopped.line
 
 -- a group comes to its end, from this world, with this head of its trace
-abbrev pub EndsGroup : {R O T : Type 0} → Read R → Sink O → Sink T → Config → World → List ℕ → R → R → O → O → T → T → Type 0
-EndsGroup reader out trace c w head r s o p t u = IsEnded c w head (IsRead reader r s) (IsPut out o p) (IsPut trace t u)
+abbrev pub EndsFrom : {R O T : Type 0} → Read R → Sink O → Sink T → Config → World → List ℕ → R → R → O → O → T → T → Type 0
+EndsFrom reader out trace c w head r s o p t u = IsEndedFrom c w head (IsRead reader r s) (IsPut out o p) (IsPut trace t u)
 
 -- a group halts before
-abbrev pub HaltsGroup : {R O T : Type 0} → Read R → Sink O → Sink T → Config → World → List ℕ → R → R → O → O → T → T → Halt → Type 0
-HaltsGroup reader out trace c w head r s o p t u =
-    IsHalted c w head (at_stop (reader.remaining s) (out.has_failed p) (trace.has_failed u)) (IsRead reader r s) (out.contents o) (out.contents p) (IsPut trace t u) (IsPutFront trace t u)
+abbrev pub HaltsFrom : {R O T : Type 0} → Read R → Sink O → Sink T → Config → World → List ℕ → R → R → O → O → T → T → Halt → Type 0
+HaltsFrom reader out trace c w head r s o p t u =
+    IsHaltedFrom c w head (at_stop (reader.remaining s) (out.has_failed p) (trace.has_failed u)) (IsRead reader r s) (out.contents o) (out.contents p) (IsPut trace t u) (IsPutFront trace t u)

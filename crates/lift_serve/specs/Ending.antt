@@ -2,7 +2,7 @@
 use Rattle.std.specs.Prelude.{◌≡◌, ℕ, Bool, true, false, List, [], ◌∷◌, ◌++◌, length, map, Option}
 use Rattle.std.specs.Io.KnownBytes.{Appends}
 use Rattle.il_spec.specs.declared.tree.Config.{Config}
-use Rattle.lift_spec.specs.World.{World}
+use Rattle.lift_spec.specs.World.{World, opening}
 use Rattle.lift_host.specs.Writes.{AppendsFront}
 use Rattle.lift_trace.specs.declared.format.Format.TheVariants.{Two}
 use Rattle.lift_spec.specs.declared.trace.TraceEvent.{TraceEvent}
@@ -40,14 +40,21 @@ IsHaltWritten stop.Lines old new had_failed failed text = Ends old new failed te
 
 -- It came to its end: from this world on each line that the reader gave was answered, and the trace is whole: behind this head it is that of events which lead to the
 -- world behind them, so that a replay of it does.
-abbrev pub IsEnded : Config → World → List ℕ → (List ℕ → Type 0) → (List ℕ → Type 0) → (List ℕ → Type 0) → Type 0
-IsEnded c w head Taken Out Trace =
+abbrev pub IsEndedFrom : Config → World → List ℕ → (List ℕ → Type 0) → (List ℕ → Type 0) → (List ℕ → Type 0) → Type 0
+IsEndedFrom c w head Taken Out Trace =
     (v : World) × (next : ℕ) × IsServed c w 0 v next Taken Out (λ events. Trace (head ++ events)) × ((events : List TraceEvent) × TakesAll c w events v × Trace (head ++ behind_head events))
 
 -- It came to no end. Where a line was not answered, or none came, or the head of the trace couldn't be written, the stop is the last line that was written, behind the
 -- answers; only an output that failed before has a front of the answer. Where memory was missing for the group to open, nothing was written.
-abbrev pub IsHalted : Config → World → List ℕ → AtStop → (List ℕ → Type 0) → Option (List ℕ) → Option (List ℕ) → (List ℕ → Type 0) → (List ℕ → Type 0) → Halt → Type 0
-IsHalted c w head at Taken old new Trace TraceFront halt.Memory = Taken [] × (new ≡ old) × Trace []
-IsHalted c w head at Taken old new Trace TraceFront halt.Head = Taken [] × (at.trace_failed ≡ true) × Ends old new at.out_failed (stop_line c) × TraceFront head
-IsHalted c w head at Taken old new Trace TraceFront (halt.Stop s) =
+abbrev pub IsHaltedFrom : Config → World → List ℕ → AtStop → (List ℕ → Type 0) → Option (List ℕ) → Option (List ℕ) → (List ℕ → Type 0) → (List ℕ → Type 0) → Halt → Type 0
+IsHaltedFrom c w head at Taken old new Trace TraceFront halt.Memory = Taken [] × (new ≡ old) × Trace []
+IsHaltedFrom c w head at Taken old new Trace TraceFront halt.Head = Taken [] × (at.trace_failed ≡ true) × Ends old new at.out_failed (stop_line c) × TraceFront head
+IsHaltedFrom c w head at Taken old new Trace TraceFront (halt.Stop s) =
     IsStopped c w 0 at Taken (λ text. Ends old new at.out_failed (text ++ stop_line c)) (λ text. AppendsFront old new text) (λ events. Trace (head ++ events)) (λ events. TraceFront (head ++ events)) s.stop s.line
+
+-- The same from the opening.
+abbrev pub IsEnded : Config → (List ℕ → Type 0) → (List ℕ → Type 0) → (List ℕ → Type 0) → Type 0
+IsEnded c = IsEndedFrom c (opening c) opening_head
+
+abbrev pub IsHalted : Config → AtStop → (List ℕ → Type 0) → Option (List ℕ) → Option (List ℕ) → (List ℕ → Type 0) → (List ℕ → Type 0) → Halt → Type 0
+IsHalted c = IsHaltedFrom c (opening c) opening_head

@@ -4,7 +4,7 @@ ghost use Rattle.std.specs.Prelude.{◌≡◌, None, OnOk, IfErr};
 ghost use Rattle.lift_journal.specs.Closed.{IsClosed};
 ghost use Rattle.lift_spec.specs.World.{opening};
 ghost use Rattle.lift_serve.specs.Ending.{Ends, IsHaltWritten, opening_head};
-ghost use Rattle.lift_serve.specs.Between.{EndsGroup, HaltsGroup};
+ghost use Rattle.lift_serve.specs.Between.{EndsFrom, HaltsFrom};
 
 use crate::serve::{Stop, Stopped, serve};
 use crate::server::{ServeFault, Server};
@@ -36,10 +36,10 @@ pub fn serve_group<R: Read, O: Sink, T: Sink>(
     out: &mut O,
     trace: &mut T,
 ) -> Result<(), Halt>
-    ensures ended { OnOk result (EndsGroup R.Read O.Sink T.Sink verified.config
+    ensures ended { OnOk result (EndsFrom R.Read O.Sink T.Sink verified.config
         (opening verified.config) opening_head reader.old reader.new out.old out.new trace.old
         trace.new) }
-    ensures halted { IfErr result (HaltsGroup R.Read O.Sink T.Sink verified.config
+    ensures halted { IfErr result (HaltsFrom R.Read O.Sink T.Sink verified.config
         (opening verified.config) opening_head reader.old reader.new out.old out.new trace.old
         trace.new) }
     ensures silent { T.contents trace.old ≡ None → T.contents trace.new ≡ None }
@@ -62,9 +62,9 @@ pub fn serve_from<R: Read, O: Sink, T: Sink>(
     trace: &mut T,
 ) -> Result<(), Halt>
     requires { IsClosed world.world }
-    ensures ended { OnOk result (EndsGroup R.Read O.Sink T.Sink world.program.config world.world
+    ensures ended { OnOk result (EndsFrom R.Read O.Sink T.Sink world.program.config world.world
         head.now reader.old reader.new out.old out.new trace.old trace.new) }
-    ensures halted { IfErr result (HaltsGroup R.Read O.Sink T.Sink world.program.config world.world
+    ensures halted { IfErr result (HaltsFrom R.Read O.Sink T.Sink world.program.config world.world
         head.now reader.old reader.new out.old out.new trace.old trace.new) }
     ensures silent { T.contents trace.old ≡ None → T.contents trace.new ≡ None }
     ensures made { T.made trace.new ≡ T.made trace.old }
