@@ -214,7 +214,10 @@ impl Server {
             (T.contents trace.old) (T.contents trace.new) (T.has_failed trace.new)) }
         ensures silent { T.contents trace.old ≡ None → T.contents trace.new ≡ None }
         ensures made { T.made trace.new ≡ T.made trace.old }
-        ensures same { self.new.rounds ≡ self.old.rounds }
+        ensures same { self.new.rounds.world ≡ self.old.rounds.world }
+        ensures tasks { self.new.rounds.tasks ≡ self.old.rounds.tasks }
+        ensures notices { self.new.rounds.notices ≡ self.old.rounds.notices }
+        ensures report { self.new.rounds.report ≡ self.old.rounds.report }
         ensures stop { self.new.stop ≡ self.old.stop }
         ensures server { IsServer self.new }
     {
