@@ -18,6 +18,6 @@ returns-clause-server c =
       closed = subst (λ (x : WorldOf). IsClosed x.world) (sym c.of-rounds.ensures) c.requires;
       gathers = c.in_ok-gathers.ensures ∙ ap (λ (s : Sizes). events_text (map Gather (counting_from 1 s.floors))) c.sizes.ensures;
       scans = c.in_ok-scans.ensures ∙ ap (λ (l : List ℕ). events_text (flat_map scan_events l)) (c.as_slice.ensures ∙ rounds.fits);
-      stop = c.in_ok-stop.ensures.line ∙ ap (λ (s : Sizes). outputs_line (opening_image s).outputs) c.sizes.ensures;
+      stop = c.in_ok-stop.ensures.line ∙ ap (λ (s : Sizes). outputs_line (opening_image s).outputs) c.sizes-2.ensures;
       short = c.in_ok-stop.ensures.short;
     }
