@@ -1,0 +1,6 @@
+pub mod NextLines
+pub mod Cars
+pub mod Slots
+pub mod Hex
+pub mod Words
+pub mod Walks
