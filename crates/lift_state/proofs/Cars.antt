@@ -12,21 +12,23 @@ use Rattle.lift_trace.proofs.Bytes.{same_rest}
 use Rattle.lift_state.specs.declared.car.Car.{Car}
 use Rattle.lift_state.specs.Text.{outputs_part, car_line}
 use Rattle.lift_state.specs.Saying.{SaysCar, TakesCar}
+use Rattle.std.specs.Prelude.{codes}
 use Rattle.lift_state.specs.Heads.{TakesCars, car_of}
+use Rattle.lift_state.proofs.Words.{cancel}
 
 -- OUTPUTS
 
 -- outputs are those of a motor, with an open command or without
 pub both_ways : (text : List ℕ) (motor : Motor) (o : CarOutputs) → o.motor ≡ motor → (text ≡ outputs_part (record { motor = motor; opens = false }) → ⊥) → (text ≡ outputs_part (record { motor = motor; opens = true }) → ⊥)
     → text ≡ outputs_part o → ⊥
-both_ways text motor o same shut open e = by o.opens refl
+both_ways text motor o same shut opened e = by o.opens refl
   where
     moved : (b : Bool) → o.opens ≡ b → o ≡ record { motor = motor; opens = b }
     moved b is = let made : ◌≡◌ {A = CarOutputs} (record { motor = o.motor; opens = o.opens }) (record { motor = motor; opens = b }) = cc in made
 
     by : (b : Bool) → o.opens ≡ b → ⊥
     by false is = shut (e ∙ ap outputs_part (moved false is))
-    by true is = open (e ∙ ap outputs_part (moved true is))
+    by true is = opened (e ∙ ap outputs_part (moved true is))
 
 -- there are three motors
 pub three_motors : (P : CarOutputs → Type 0) → ((o : CarOutputs) → o.motor ≡ Still → P o) → ((o : CarOutputs) → o.motor ≡ Up → P o) → ((o : CarOutputs) → o.motor ≡ Down → P o) → (o : CarOutputs) → P o
@@ -67,3 +69,8 @@ cars_many sizes number text rest [] [] h = refl
 cars_many sizes number text rest [] (o ∷ outputs) h = absurd h
 cars_many sizes number text rest (f ∷ fields) [] h = absurd h
 cars_many sizes number text rest (f ∷ fields) (o ∷ outputs) h = let more = cars_many sizes (number + 1) h.0 rest fields outputs h.2 in omega (arith, more)
+
+-- what is behind CAR
+pub car_parts : (number : ℕ) (line parts : List ℕ) (car : Car) → SaysCar number car line → line ≡ codes "CAR" ++ parts → parts ≡ part number ++ (car_part car.fields ++ outputs_part car.outputs)
+unfolding car_line
+car_parts number line parts car says e = cancel (codes "CAR") parts (part number ++ (car_part car.fields ++ outputs_part car.outputs)) (sym e ∙ says.1)

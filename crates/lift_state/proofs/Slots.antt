@@ -1,5 +1,5 @@
 -- Lines of call slots.
-use Rattle.std.proofs.Common.{◌≡◌, ◌≢◌, ℕ, zero, suc, ◌+◌, ◌-◌, ◌<◌, ◌≤◌, Bool, true, false, List, [], ◌∷◌, ◌++◌, length, refl, sym, ap, ap₂, ◌∙◌, subst, append_assoc, append-nil, arith, length-append, Some, None, Option}
+use Rattle.std.proofs.Common.{◌≡◌, ◌≢◌, ℕ, zero, suc, ◌+◌, ◌-◌, ◌<◌, ◌≤◌, Bool, true, false, List, [], ◌∷◌, ◌++◌, length, get_or, refl, sym, ap, ap₂, ◌∙◌, subst, append_assoc, append-nil, arith, length-append, Some, None, Option}
 use Rattle.std.specs.Prelude.{codes}
 use Rattle.lift_spec.specs.declared.calls.Call.{Call}
 use Rattle.lift_spec.specs.declared.calls.Slot.{Slot}
@@ -10,11 +10,12 @@ use Rattle.lift_run_laws.specs.Holding.{ticket_at}
 use Rattle.lift_trace.specs.Text.{part}
 use Rattle.lift_trace.specs.Parts.{Ends}
 use Rattle.lift_trace.proofs.Numbers.{part_once}
-use Rattle.lift_trace.proofs.Bytes.{same_rest}
-use Rattle.lift_state.specs.Text.{slot_part}
-use Rattle.lift_state.specs.Saying.{HasSmallFloors, HasSmallNumbers, HasActors, HasWay, HasTicket, IsGiven, SlotHolds, TakesSlot}
+use Rattle.lift_trace.proofs.Bytes.{same_first, same_rest}
+use Rattle.lift_state.specs.Text.{slot_part, slot_line}
+use Rattle.lift_state.specs.Saying.{HasSmallFloors, HasSmallNumbers, HasActors, HasWay, HasTicket, IsGiven, SlotHolds, SaysSlot, TakesSlot}
 use Rattle.lift_state.specs.Parts.{IsWaiting, IsTold}
 use Rattle.lift_state.specs.Heads.{TakesSlots}
+use Rattle.lift_state.proofs.Words.{cancel}
 
 -- WHAT A SLOT HOLDS
 
@@ -44,13 +45,13 @@ told_held text parts (Told ticket call car) e h = (h.0, e ∙ ap (λ (p : List �
 
 -- words that differ at a byte
 pub no_free_waits : (parts : List ℕ) → codes " FREE" ≡ codes " WAITING" ++ parts → ⊥
-no_free_waits parts e = absurd (cc)
+no_free_waits parts e = let n : ◌≡◌ {A = ℕ} 70 87 = same_first _ _ _ _ (same_rest _ _ _ _ e) in omega arith
 
 pub no_free_told : (parts : List ℕ) → codes " FREE" ≡ codes " TOLD" ++ parts → ⊥
-no_free_told parts e = absurd (cc)
+no_free_told parts e = let n : ◌≡◌ {A = ℕ} 70 84 = same_first _ _ _ _ (same_rest _ _ _ _ e) in omega arith
 
 pub no_wait_told : (parts others : List ℕ) → codes " WAITING" ++ parts ≡ codes " TOLD" ++ others → ⊥
-no_wait_told parts others e = absurd (cc)
+no_wait_told parts others e = let n : ◌≡◌ {A = ℕ} 87 84 = same_first _ _ _ _ (same_rest _ _ _ _ e) in omega arith
 
 -- what a slot holds begins with a space
 pub slot_ends : (slot : Slot) → Ends 32 (slot_part slot)
@@ -81,6 +82,38 @@ ticket_more [] slot (suc k) n e none = absurd (cc)
 ticket_more (x ∷ slots) slot zero n e none = absurd (none zero e)
 ticket_more (x ∷ slots) slot (suc k) n e none = let more = ticket_more slots slot k n e (λ j. none (suc j)) in (omega (arith, more.0), more.1)
 
+-- the ticket at a place is that of the slot there
+pub ticket_got : (slots : List Slot) (k : ℕ) → ticket_at slots k ≡ ticket_of (get_or slots k Free)
+ticket_got [] k = refl
+ticket_got (x ∷ slots) zero = refl
+ticket_got (x ∷ slots) (suc k) = ticket_got slots k
+
+pub ticket_within : (slots : List Slot) (k n : ℕ) → ticket_at slots k ≡ Some n → k < length slots
+ticket_within [] k n e = absurd (cc)
+ticket_within (x ∷ slots) zero n e = omega arith
+ticket_within (x ∷ slots) (suc k) n e = let more = ticket_within slots k n e in omega (arith, more)
+
+-- KINDS OF SLOTS
+
+pub no_waiting : (text : List ℕ) → ((t : ℕ) (call : Call) (rest : List ℕ) → t ≤ greatest_ticket → HasSmallFloors call → Ends 32 rest → text ≡ part t ++ (part call.from ++ (part call.to ++ rest)) → ⊥) → (slot : Slot) → IsWaiting text slot → ⊥
+no_waiting text none Free h = h
+no_waiting text none (Waiting t call) h = none t call [] h.0.0 h.0.1 tt (h.1 ∙ ap (λ (l : List ℕ). part t ++ (part call.from ++ l)) (sym (append-nil (part call.to))))
+no_waiting text none (Told t call car) h = h
+
+-- what is behind the call of a slot that waits, and of one that is told
+module _ (text : List ℕ) (t : ℕ) (call : Call) (rest : List ℕ) (few : t ≤ greatest_ticket) (small : HasSmallFloors call) (is : text ≡ part t ++ (part call.from ++ (part call.to ++ rest))) (ends : Ends 32 rest) where
+  pub waiting_ends : (slot : Slot) → IsWaiting text slot → rest ≡ []
+  waiting_ends Free h = absurd h
+  waiting_ends (Waiting u other) h =
+      let whole : text ≡ part u ++ (part other.from ++ (part other.to ++ [])) = h.1 ∙ ap (λ (l : List ℕ). part u ++ (part other.from ++ l)) (sym (append-nil (part other.to))) in
+      (ticket_once t u call other rest [] few h.0.0 small h.0.1 ends tt (sym is ∙ whole)).2
+  waiting_ends (Told u other car) h = absurd h
+
+  pub told_ends : ((car : ℕ) → car ≤ 255 → rest ≡ part car → ⊥) → (slot : Slot) → IsTold text slot → ⊥
+  told_ends none Free h = h
+  told_ends none (Waiting u other) h = h
+  told_ends none (Told u other car) h = none car h.0.2 (ticket_once t u call other rest (part car) few h.0.0 small h.0.1 ends refl (sym is ∙ h.1)).2
+
 -- THE LINES
 
 -- one slot more
@@ -93,3 +126,8 @@ slots_more sizes last earlier text behind rest [] slot h k =
 slots_more sizes last earlier text behind rest (x ∷ slots) slot h k =
     let flat : earlier ++ (x ∷ slots) ≡ (earlier ++ x ∷ []) ++ slots = sym (append_assoc earlier (x ∷ []) slots) in
     (h.0, h.1, slots_more sizes last (earlier ++ x ∷ []) h.0 behind rest slots slot h.2 (subst (λ (xs : List Slot). TakesSlot sizes last xs (length xs + 1) behind slot rest) flat k))
+
+-- what is behind SLOT
+pub slot_parts : (number : ℕ) (line parts : List ℕ) (slot : Slot) → SaysSlot number slot line → line ≡ codes "SLOT" ++ parts → parts ≡ part number ++ slot_part slot
+unfolding slot_line
+slot_parts number line parts slot says e = cancel (codes "SLOT") parts (part number ++ slot_part slot) (sym e ∙ says.1)

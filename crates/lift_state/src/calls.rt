@@ -3,6 +3,7 @@
 ghost use Rattle.std.specs.Prelude.{◌≡◌, ◌≤◌, ◌<◌, ◌+◌, ◌++◌, ◌↔◌, ℕ, List, [], IsTrue, length, Some, IfSome, IfNone, IfOk, IfErr};
 ghost use Rattle.lift_spec.specs.declared.calls.Call.{Call as CallOf};
 ghost use Rattle.lift_spec.specs.declared.calls.Slot.{Slot as SlotOf};
+ghost use Rattle.lift_spec.specs.declared.calls.Slot.TheVariants.{Free};
 ghost use Rattle.lift_spec.specs.Calls.{greatest_ticket, ticket_of};
 ghost use Rattle.lift_trace.specs.Text.{part};
 ghost use Rattle.lift_trace.specs.Parts.{Ends};
@@ -61,13 +62,20 @@ fn told(text: &[u8]) -> Option<Slot>
     })
 }
 
+#[tactic(auto, unfolding(crate::specs::Text::slot_part))]
+fn is_free(text: &[u8]) -> bool
+    ensures { IsTrue result ↔ (text.now ≡ slot_part Free) }
+{
+    text == b" FREE".as_slice()
+}
+
 // What a slot holds.
 fn held(text: &[u8]) -> Option<Slot>
     ensures found { IfSome result (λ slot. HasSmallNumbers slot × (text.now ≡ slot_part slot)) }
     ensures none { IfNone result ((slot : SlotOf) → HasSmallNumbers slot → text.now
         ≡ slot_part slot → ⊥) }
 {
-    if text == b" FREE".as_slice() {
+    if is_free(text) {
         return Some(Slot::Free);
     }
     match behind(b" WAITING", text) {

@@ -1,6 +1,6 @@
 // What a state says before its variables.
 
-ghost use Rattle.std.specs.Prelude.{◌≡◌, ◌≤◌, ◌<◌, ◌⊎◌, ◌+◌, ◌↔◌, ℕ, IsTrue, length, take, IfOk, IfErr};
+ghost use Rattle.std.specs.Prelude.{◌≡◌, ◌≤◌, ◌<◌, ◌⊎◌, ◌+◌, ◌*◌, ◌↔◌, ℕ, IsTrue, length, take, IfOk, IfErr};
 ghost use Rattle.std.specs.List.{AllByRecursion};
 ghost use Rattle.lift_state.specs.Text.{hex_digit, hex_byte, hex_text};
 ghost use Rattle.lift_state.specs.Parts.{calls_of};

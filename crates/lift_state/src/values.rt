@@ -36,8 +36,10 @@ fn negative(digits: &[u8]) -> Option<i64>
     ensures none { IfNone result ((n : ℕ) → n < 2 ^ 63 → digits.now ≡ decimal (suc n) → ⊥) }
 {
     let number = number_of(digits, 9_223_372_036_854_775_808)?;
-    let less = number.checked_sub(1)?;
-    Some(-1 - less as i64)
+    if number == 0 {
+        return None;
+    }
+    Some(-1 - (number - 1) as i64)
 }
 
 // The number that a word without a sign spells.
@@ -51,7 +53,7 @@ fn natural(word: &[u8]) -> Option<i64>
 
 // The number that a word spells.
 fn integer(word: &[u8]) -> Option<i64>
-    ensures found { IfSome result (λ z. word.now ≡ signed_decimal z) }
+    ensures found { IfSome result (λ z. FitsSigned w64 z × (word.now ≡ signed_decimal z)) }
     ensures none { IfNone result ((z : ℤ) → FitsSigned w64 z → word.now ≡ signed_decimal z → ⊥) }
 {
     match behind(b"-", word) {

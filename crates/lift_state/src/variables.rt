@@ -13,7 +13,6 @@ use il_machine::{Cell, Value};
 use lift_spec::MOST_CARS;
 
 /// What stands before a path: nothing for a global, and the name of its task and a point for a variable of a task.
-#[tactic(auto, unfolding(std::specs::Fmt::digits))]
 pub fn owner_prefix(owner: Option<u8>) -> &'static str
     requires { IsOwner owner }
     ensures { result.now ≡ owner_prefix owner }

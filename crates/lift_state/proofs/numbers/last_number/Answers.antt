@@ -7,7 +7,7 @@ use Rattle.lift_state.proofs.numbers.last_number.Goals as goal
 
 pub returns-in_err-value-clause-none : goal.returns-in_err-value-clause-none
 returns-in_err-value-clause-none c =
-    let none : (n : ℕ) → n ≤ 255 → c.args.parts.now ≡ part n → ⊥ = λ n h e. c.in_err-value.ensures.none n [] h tt (e ∙ only_part n) in
+    let none : (n : ℕ) → n ≤ c.args.greatest → c.args.text.now ≡ part n → ⊥ = λ n h e. c.in_err-value.ensures.none n [] h tt (e ∙ only_part n) in
     if_none _ _ none
 
 pub returns-then-not-is_empty-clause-none : goal.returns-then-not-is_empty-clause-none
