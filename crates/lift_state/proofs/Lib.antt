@@ -4,3 +4,10 @@ pub mod Slots
 pub mod Hex
 pub mod Words
 pub mod Walks
+pub mod Denied
+pub mod Placing
+pub mod Once
+pub mod HeadOnce
+pub mod VarsOnce
+pub mod StateOnce
+pub mod Puts

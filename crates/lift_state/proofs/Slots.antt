@@ -21,7 +21,7 @@ use Rattle.lift_state.proofs.Words.{cancel}
 
 -- a text that is of neither of three kinds is of no slot
 pub none_held :
-    (text : List ℕ) → (text ≡ codes " FREE" → ⊥)
+    (text : List ℕ) → (text ≡ slot_part Free → ⊥)
     → ((parts : List ℕ) (slot : Slot) → text ≡ codes " WAITING" ++ parts → IsWaiting parts slot → ⊥)
     → ((parts : List ℕ) (slot : Slot) → text ≡ codes " TOLD" ++ parts → IsTold parts slot → ⊥)
     → (slot : Slot) → HasSmallNumbers slot → text ≡ slot_part slot → ⊥

@@ -1,5 +1,5 @@
 -- What going over the cells leaves of a group (own rules).
-use Rattle.std.specs.Prelude.{◌≡◌, ◌⊎◌, ℕ, suc, List, slice_set, Option, Some}
+use Rattle.std.specs.Prelude.{◌≡◌, ◌⊎◌, ℕ, suc, List, slice_set, Option}
 use Rattle.il_spec.specs.declared.tree.Config.{Config}
 use Rattle.il_run.specs.State.{Values}
 use Rattle.lift_spec.specs.Image.{sizes_of}
@@ -9,7 +9,7 @@ use Rattle.lift_state.specs.declared.fault.Wrong.{Wrong}
 use Rattle.lift_state.specs.declared.read.Behind.{Behind}
 use Rattle.lift_state.specs.declared.read.Begun.{Begun as BegunIn}
 use Rattle.lift_state.specs.Holding.{with_globals}
-use Rattle.lift_state.specs.Variables.{Reached, reached, Left, left, TakesGlobals, RefusesGlobals, TakesTask, TakesTasks, RefusesTasks, IsLeftOver, at_rest}
+use Rattle.lift_state.specs.Variables.{Reached, reached, Left, left, TakesGlobals, RefusesGlobals, TakesTask, TakesTasks, RefusesTasks, IsLeftOver}
 use Rattle.lift_state.specs.Reading.{Begun, HasLeftOver}
 
 -- what is behind some lines (own rule)
@@ -22,14 +22,14 @@ pub record ReadsGlobals (c : Config) (before : Group) (from : Behind) (after : G
   pub others : after ≡ with_globals before after.globals
 
 -- a group with another task of a number (own rule)
-abbrev pub with_task : Group → ℕ → TaskState → Group
-with_task g t task = record g { tasks = slice_set g.tasks t (Some task) }
+abbrev pub with_task : Group → ℕ → Option TaskState → Group
+with_task g t task = record g { tasks = slice_set g.tasks t task }
 
--- the variables of a task are read (own rule)
+-- the variables of a task are read, if there is such a task (own rule)
 pub record ReadsTask (c : Config) (t : ℕ) (before : Group) (from : Behind) (after : Group) (to : Behind) : Type 0 where
-  pub variables : Values
-  pub takes : TakesTask c t (program_of c t) (left_of from) (Some (at_rest variables)) (left_of to)
-  pub others : after ≡ with_task before t (at_rest variables)
+  pub task : Option TaskState
+  pub takes : TakesTask c t (program_of c t) (left_of from) task (left_of to)
+  pub others : after ≡ with_task before t task
 
 -- a group with other tasks (own rule)
 abbrev pub with_tasks : Group → List (Option TaskState) → Group

@@ -1,6 +1,6 @@
 // What a state says before its variables.
 
-ghost use Rattle.std.specs.Prelude.{◌≡◌, ◌≤◌, ◌<◌, ◌⊎◌, ◌+◌, ◌*◌, ◌↔◌, ℕ, IsTrue, length, take, IfOk, IfErr};
+ghost use Rattle.std.specs.Prelude.{◌≡◌, ◌≤◌, ◌<◌, ◌⊎◌, ◌+◌, ◌*◌, ◌/◌, ◌%◌, ◌↔◌, ℕ, IsTrue, length, take, IfOk, IfErr};
 ghost use Rattle.std.specs.List.{AllByRecursion};
 ghost use Rattle.lift_state.specs.Text.{hex_digit, hex_byte, hex_text};
 ghost use Rattle.lift_state.specs.Parts.{calls_of};
@@ -47,14 +47,21 @@ pub fn hex_digit(number: u8) -> u8
     }
 }
 
+// Whether two digits are those of a byte.
+fn are_of_byte(byte: u8, first: u8, second: u8) -> bool
+    ensures { IsTrue result ↔ ((first ≡ hex_digit (byte / 16))
+        × (second ≡ hex_digit (byte % 16))) }
+{
+    first == hex_digit(byte / 16) && second == hex_digit(byte % 16)
+}
+
 // Whether digits are those of bytes.
 fn are_digits_of(bytes: &[u8], digits: &[u8]) -> bool
     requires { length digits.now ≡ 2 * length bytes.now }
     ensures { IsTrue result ↔ (digits.now ≡ hex_text bytes.now) }
 {
     'bytes: for at in 0..bytes.len() {
-        let byte = bytes[at];
-        if digits[2 * at] != hex_digit(byte / 16) || digits[2 * at + 1] != hex_digit(byte % 16) {
+        if !are_of_byte(bytes[at], digits[2 * at], digits[2 * at + 1]) {
             return false;
         }
     }

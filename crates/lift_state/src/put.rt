@@ -1,6 +1,6 @@
 // A state, written.
 
-ghost use Rattle.std.specs.Prelude.{◌≡◌, ◌<◌, ◌∷◌, [], suc, codes, length, OnOk};
+ghost use Rattle.std.specs.Prelude.{◌≡◌, ◌<◌, ◌≤◌, ◌/◌, ◌%◌, ◌∷◌, [], suc, codes, length, OnOk};
 ghost use Rattle.base_texts.specs.Puts.{Puts};
 ghost use Rattle.il_table.specs.NameMap.{get};
 ghost use Rattle.il_run.specs.Scan.{opening_globals};
@@ -303,6 +303,21 @@ fn put_task(text: &mut String, world: &World, task: u8) -> Result<(), AllocError
     Ok(())
 }
 
+// Puts the variables of the task of a number, if the group has it.
+fn put_if_there(text: &mut String, world: &World, task: u8) -> Result<(), AllocError>
+    requires { task ≤ (sizes_of world.now.program.config).cars }
+    ensures { OnOk result (PutsLines text.old text.new
+        (task_lines world.now.program.config task (program_of world.now.program.config task)
+        (task_at world.now.world.group task))) }
+{
+    let verified = world.verified();
+    let _config = verified.config();
+    if !verified.has_task(task) {
+        return Ok(());
+    }
+    put_task(text, world, task)
+}
+
 // Puts the variables of all tasks: GROUP first, and then the cars'.
 fn put_tasks(text: &mut String, world: &World) -> Result<(), AllocError>
     ensures { OnOk result (PutsLines text.old text.new
@@ -312,9 +327,7 @@ fn put_tasks(text: &mut String, world: &World) -> Result<(), AllocError>
     let verified = world.verified();
     let _config = verified.config();
     'tasks: for task in 0..verified.sizes().cars + 1 {
-        if verified.has_task(task) {
-            put_task(text, world, task)?;
-        }
+        put_if_there(text, world, task)?;
     }
     Ok(())
 }

@@ -1,8 +1,8 @@
 // A state, read.
 
-ghost use Rattle.std.specs.Prelude.{◌≡◌, ◌≤◌, ◌<◌, ◌+◌, ◌^◌, suc, length, Ok, Err, IfOk, IfErr, OnOk};
+ghost use Rattle.std.specs.Prelude.{◌≡◌, ◌≤◌, ◌<◌, ◌+◌, ◌^◌, suc, length, slice_get, Some, IfOk, IfErr};
 ghost use Rattle.lift_spec.specs.Image.{sizes_of};
-ghost use Rattle.lift_spec.specs.World.{task_at, opening_group, opening_task, opening_tasks_from};
+ghost use Rattle.lift_spec.specs.World.{opening_task, opening_tasks_from};
 ghost use Rattle.lift_spec.specs.Snapshot.{program_of};
 ghost use Rattle.il_run.specs.Scan.{opening_globals};
 ghost use Rattle.il_machine.specs.Scanning.{HasTask};
@@ -10,7 +10,7 @@ ghost use Rattle.lift_world.specs.Setting.{IsSeated};
 ghost use Rattle.lift_state.specs.Variables.{left, RefusesGlobals, RefusesTask, RefusesTasks};
 ghost use Rattle.lift_state.specs.Parts.{IsSplit};
 ghost use Rattle.lift_state.specs.Walking.{begun_of, ReadsGlobals, ReadsTask, ReadsTasks, ReadsVariables, RefusesAll};
-ghost use Rattle.lift_state.specs.Reading.{IsState, IsNoState, Explains};
+ghost use Rattle.lift_state.specs.Reading.{IsState, Explains};
 
 use crate::fault::{StateError, StateFault, Wrong};
 use crate::head::take_head;
@@ -92,8 +92,8 @@ fn take_task<'a>(
 ) -> Result<Behind<'a>, Wrong>
     requires program { core.old.config ≡ verified.now.config }
     requires there { HasTask verified.now.config task }
-    requires opened { task_at core.old.group task
-        ≡ opening_task verified.now.config (program_of verified.now.config task) }
+    requires opened { slice_get core.old.group.tasks task
+        ≡ Some (opening_task verified.now.config (program_of verified.now.config task)) }
     requires room { from.line + length from.rest.now < 2 ^ 64 }
     ensures config { core.new.config ≡ core.old.config }
     ensures found { IfOk result (λ to. ReadsTask verified.now.config task core.old.group
@@ -125,6 +125,32 @@ fn take_task<'a>(
     Ok(Behind { rest, line })
 }
 
+// The same, where the group may not have the task.
+fn take_if_there<'a>(
+    core: &mut Core,
+    verified: &Verified,
+    task: u8,
+    from: Behind<'a>,
+) -> Result<Behind<'a>, Wrong>
+    requires program { core.old.config ≡ verified.now.config }
+    requires task { task ≤ (sizes_of verified.now.config).cars }
+    requires opened { slice_get core.old.group.tasks task
+        ≡ Some (opening_task verified.now.config (program_of verified.now.config task)) }
+    requires room { from.line + length from.rest.now < 2 ^ 64 }
+    ensures config { core.new.config ≡ core.old.config }
+    ensures found { IfOk result (λ to. ReadsTask verified.now.config task core.old.group
+        from.entry core.new.group to) }
+    ensures room { IfOk result (λ to. to.line + length to.rest.now < 2 ^ 64) }
+    ensures wrong { IfErr result (λ wrong. RefusesTask verified.now.config task
+        (program_of verified.now.config task) (left from.entry.rest.now from.entry.line) wrong) }
+{
+    let _config = verified.config();
+    if !verified.has_task(task) {
+        return Ok(from);
+    }
+    take_task(core, verified, task, from)
+}
+
 // The lines of the variables of all tasks: GROUP first, and then the cars'.
 fn take_tasks<'a>(
     core: &mut Core,
@@ -146,9 +172,7 @@ fn take_tasks<'a>(
     let _config = verified.config();
     let mut to = from;
     'tasks: for task in 0..verified.sizes().cars + 1 {
-        if verified.has_task(task) {
-            to = take_task(core, verified, task, to)?;
-        }
+        to = take_if_there(core, verified, task, to)?;
     }
     Ok(to)
 }
