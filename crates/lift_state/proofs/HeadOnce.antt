@@ -73,15 +73,15 @@ times_takes sizes text t u l m f g a b x y =
 times_not : (sizes : Sizes) (text : List ℕ) (t l : ℕ) (f : Bool) (a : List ℕ) (w : Wrong) → TakesTimes sizes text t l f a → RefusesTimes sizes text w → ⊥
 times_not sizes text t l f a w x r =
     elim r [
-      | inl no ↦ now_not text t x.behind_now w.fault x.now_is no.1
+      | inl nay ↦ now_not text t x.behind_now w.fault x.now_is nay.1
       | inr other ↦ elim other [
-        | inl no ↦
-            let now = now_takes text t no.0 x.behind_now no.1 x.now_is no.2 in
-            limit_not sizes.cars no.1 l x.behind_limit w.fault (subst (λ (s : List ℕ). TakesRunLimit sizes.cars s l x.behind_limit) now.1 x.limit_is) no.3.1
-        | inr no ↦
-            let now = now_takes text t no.0 x.behind_now no.2 x.now_is no.4 in
-            let limit = limit_takes sizes.cars no.2 l no.1 x.behind_limit no.3 (subst (λ (s : List ℕ). TakesRunLimit sizes.cars s l x.behind_limit) now.1 x.limit_is) no.5 in
-            fire_not no.3 f a w.fault (subst (λ (s : List ℕ). TakesFire s f a) limit.1 x.fire_is) no.6.1
+        | inl nay ↦
+            let now = now_takes text t nay.0 x.behind_now nay.1 x.now_is nay.2 in
+            limit_not sizes.cars nay.1 l x.behind_limit w.fault (subst (λ (s : List ℕ). TakesRunLimit sizes.cars s l x.behind_limit) now.1 x.limit_is) nay.3.1
+        | inr nay ↦
+            let now = now_takes text t nay.0 x.behind_now nay.2 x.now_is nay.4 in
+            let limit = limit_takes sizes.cars nay.2 l nay.1 x.behind_limit nay.3 (subst (λ (s : List ℕ). TakesRunLimit sizes.cars s l x.behind_limit) now.1 x.limit_is) nay.5 in
+            fire_not nay.3 f a w.fault (subst (λ (s : List ℕ). TakesFire s f a) limit.1 x.fire_is) nay.6.1
       ]
     ]
 
@@ -127,7 +127,7 @@ times_refuses sizes text v w r s =
 car_parts : (f g : CarFields) (o p : CarOutputs) → ◌≡◌ {A = Car} (car_of f o) (car_of g p) → (f ≡ g) × (o ≡ p)
 car_parts f g o p e = (ap (λ (c : Car). c.fields) e, ap (λ (c : Car). c.outputs) e)
 
--- of two readings of cars the one that reads no more than the other is its front
+-- of two readings of cars the one that reads nay more than the other is its front
 abbrev Further : Sizes → ℕ → List ℕ → List CarFields → List CarOutputs → List CarFields → List CarOutputs → List ℕ → Type 0
 Further sizes number behind fields outputs more others rest =
     (fs : List CarFields) × (os : List CarOutputs) × (more ≡ fields ++ fs) × (others ≡ outputs ++ os) × TakesCars sizes (number + length fields) behind fs os rest
@@ -171,7 +171,7 @@ cars_takes sizes text fields more outputs others a b x y =
         done [] (p ∷ os) e f o t = absurd t
         done (g ∷ fs) os e f o t = absurd (let n : length (g ∷ fs) ≡ 0 = ap length e in omega (arith, n))
 
--- where one reads more cars than another that is refused there, there is no such refusal
+-- where one reads more cars than another that is refused there, there is nay such refusal
 cars_not : (sizes : Sizes) (text : List ℕ) (more : List CarFields) (others : List CarOutputs) (b : List ℕ) (w : Wrong) → TakesCars sizes 1 text more others b → (r : RefusesCars sizes text w) → length r.fields < length more → ⊥
 cars_not sizes text more others b w y r h = by (cars_further sizes 1 text r.fields r.outputs more others r.behind b r.before y (omega (arith, h)))
   where
@@ -238,15 +238,15 @@ disobeys_once image v w a b =
 image_not : (sizes : Sizes) (text : List ℕ) (i : Image) (a : List ℕ) (w : Wrong) → TakesImage sizes text i a → RefusesImage sizes text w → ⊥
 image_not sizes text i a w x r =
     elim r [
-      | inl no ↦ times_not sizes text i.fields.time i.fields.run_limit i.fields.fire x.behind w x.times no
+      | inl nay ↦ times_not sizes text i.fields.time i.fields.run_limit i.fields.fire x.behind w x.times nay
       | inr other ↦ elim other [
-        | inl no ↦
-            let t = times_takes sizes text i.fields.time no.0 i.fields.run_limit no.1 i.fields.fire no.2 x.behind no.3 x.times no.4 in
-            all_cars_not sizes no.3 i.fields.cars i.outputs a w (subst (λ (s : List ℕ). TakesAllCars sizes s i.fields.cars i.outputs a) t.3 x.cars) no.5
-        | inr no ↦
-            let t = times_takes sizes text i.fields.time no.0 i.fields.run_limit no.1 i.fields.fire no.2 x.behind no.3 x.times no.7 in
-            let c = cars_takes sizes no.3 i.fields.cars no.4 i.outputs no.5 a no.6 (subst (λ (s : List ℕ). TakesAllCars sizes s i.fields.cars i.outputs a) t.3 x.cars) no.8 in
-            no.9.not (subst Obeys (image_same i (record { fields = fields_of no.0 no.1 no.2 no.4; outputs = no.5 }) t.0 t.1 t.2 c.0 c.1) x.obeys)
+        | inl nay ↦
+            let t = times_takes sizes text i.fields.time nay.0 i.fields.run_limit nay.1 i.fields.fire nay.2 x.behind nay.3 x.times nay.4 in
+            all_cars_not sizes nay.3 i.fields.cars i.outputs a w (subst (λ (s : List ℕ). TakesAllCars sizes s i.fields.cars i.outputs a) t.3 x.cars) nay.5
+        | inr nay ↦
+            let t = times_takes sizes text i.fields.time nay.0 i.fields.run_limit nay.1 i.fields.fire nay.2 x.behind nay.3 x.times nay.7 in
+            let c = cars_takes sizes nay.3 i.fields.cars nay.4 i.outputs nay.5 a nay.6 (subst (λ (s : List ℕ). TakesAllCars sizes s i.fields.cars i.outputs a) t.3 x.cars) nay.8 in
+            nay.9.not (subst Obeys (image_same i (record { fields = fields_of nay.0 nay.1 nay.2 nay.4; outputs = nay.5 }) t.0 t.1 t.2 c.0 c.1) x.obeys)
       ]
     ]
 
@@ -359,13 +359,13 @@ calls_takes sizes text x y a b t u =
 calls_not : (sizes : Sizes) (text : List ℕ) (x : Calls) (a : List ℕ) (w : Wrong) → TakesCalls sizes text x a → RefusesCalls sizes text w → ⊥
 calls_not sizes text x a w t r =
     elim r [
-      | inl no ↦ tickets_not text x.last_ticket t.behind w.fault t.tickets no.1
-      | inr no ↦
-          let first = tickets_takes text x.last_ticket no.0 t.behind no.1 t.tickets no.2 in
-          let moved : TakesSlots sizes no.0 [] no.1 x.slots a =
-          subst (λ (n : ℕ). TakesSlots sizes n [] no.1 x.slots a) first.0 (subst (λ (s : List ℕ). TakesSlots sizes x.last_ticket [] s x.slots a) first.1 t.slots) in
-          let few = no.3.more in
-          slots_not sizes no.0 no.1 x.slots a w moved no.3 (omega (arith, few, t.all))
+      | inl nay ↦ tickets_not text x.last_ticket t.behind w.fault t.tickets nay.1
+      | inr nay ↦
+          let first = tickets_takes text x.last_ticket nay.0 t.behind nay.1 t.tickets nay.2 in
+          let moved : TakesSlots sizes nay.0 [] nay.1 x.slots a =
+          subst (λ (n : ℕ). TakesSlots sizes n [] nay.1 x.slots a) first.0 (subst (λ (s : List ℕ). TakesSlots sizes x.last_ticket [] s x.slots a) first.1 t.slots) in
+          let few = nay.3.more in
+          slots_not sizes nay.0 nay.1 x.slots a w moved nay.3 (omega (arith, few, t.all))
     ]
 
 calls_refuses : (sizes : Sizes) (text : List ℕ) (v w : Wrong) → RefusesCalls sizes text v → RefusesCalls sizes text w → v ≡ w
@@ -395,15 +395,15 @@ head_takes sizes digest text i j x y a b t u =
 pub head_not : (sizes : Sizes) (digest text : List ℕ) (i : Image) (x : Calls) (a : List ℕ) (w : Wrong) → TakesHead sizes digest text i x a → RefusesHead sizes digest text w → ⊥
 head_not sizes digest text i x a w t r =
     elim r [
-      | inl no ↦ configuration_not digest text t.behind_configuration w.fault t.configuration no.1
+      | inl nay ↦ configuration_not digest text t.behind_configuration w.fault t.configuration nay.1
       | inr other ↦ elim other [
-        | inl no ↦
-            let c = configuration_takes digest text t.behind_configuration no.0 t.configuration no.1 in
-            image_not sizes no.0 i t.behind_image w (subst (λ (s : List ℕ). TakesImage sizes s i t.behind_image) c t.image_is) no.2
-        | inr no ↦
-            let c = configuration_takes digest text t.behind_configuration no.0 t.configuration no.3 in
-            let m = image_takes sizes no.0 i no.1 t.behind_image no.2 (subst (λ (s : List ℕ). TakesImage sizes s i t.behind_image) c t.image_is) no.4 in
-            calls_not sizes no.2 x a w (subst (λ (s : List ℕ). TakesCalls sizes s x a) m.1 t.calls_are) no.5
+        | inl nay ↦
+            let c = configuration_takes digest text t.behind_configuration nay.0 t.configuration nay.1 in
+            image_not sizes nay.0 i t.behind_image w (subst (λ (s : List ℕ). TakesImage sizes s i t.behind_image) c t.image_is) nay.2
+        | inr nay ↦
+            let c = configuration_takes digest text t.behind_configuration nay.0 t.configuration nay.3 in
+            let m = image_takes sizes nay.0 i nay.1 t.behind_image nay.2 (subst (λ (s : List ℕ). TakesImage sizes s i t.behind_image) c t.image_is) nay.4 in
+            calls_not sizes nay.2 x a w (subst (λ (s : List ℕ). TakesCalls sizes s x a) m.1 t.calls_are) nay.5
       ]
     ]
 

@@ -11,3 +11,4 @@ pub mod HeadOnce
 pub mod VarsOnce
 pub mod StateOnce
 pub mod Puts
+mod Rows

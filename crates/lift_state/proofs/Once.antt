@@ -94,7 +94,7 @@ digests_once x y line a b = cancel (codes "CONFIGURATION ") x y (sym a.1 ∙ b.1
 numbers_once : (word : List ℕ) (greatest : ℕ) → greatest < 2 ^ 64 → (x y : ℕ) (line : List ℕ) → SaysNumber word greatest x line → SaysNumber word greatest y line → x ≡ y
 numbers_once word greatest fits x y line a b = part_alone x y (omega (arith, a.0, fits)) (omega (arith, b.0, fits)) (cancel word (part x) (part y) (sym a.1 ∙ b.1))
 
-truths_once : (a b : Bool) → truth_text a ≡ truth_text b → a ≡ b
+pub truths_once : (a b : Bool) → truth_text a ≡ truth_text b → a ≡ b
 truths_once true true e = refl
 truths_once false false e = refl
 truths_once true false e = absurd (cc)
@@ -171,24 +171,24 @@ slots_once number x y line a b = held_once x y a.0 b.0 (cancel (part number) _ _
 slot_apart : (sizes : Sizes) (last : ℕ) (earlier : List Slot) (x : Slot) (f : StateFault) → SlotHolds sizes last earlier x → SlotBreaks sizes last earlier x f → ⊥
 slot_apart sizes last earlier x f h b =
     elim b [
-      | inl no ↦ no.1 h.actors
+      | inl nay ↦ nay.1 h.actors
       | inr other ↦ elim other [ inl way ↦ way.2 h.way | inr ticket ↦ ticket.3 h.ticket ]
     ]
 
 slot_single : (sizes : Sizes) (last : ℕ) (earlier : List Slot) (x : Slot) (f g : StateFault) → SlotBreaks sizes last earlier x f → SlotBreaks sizes last earlier x g → f ≡ g
 slot_single sizes last earlier x f g a b =
     elim a [
-      | inl no ↦ elim b [
-        | inl also ↦ no.0 ∙ sym also.0
-        | inr other ↦ elim other [ inl way ↦ absurd (no.1 way.1) | inr ticket ↦ absurd (no.1 ticket.1) ]
+      | inl nay ↦ elim b [
+        | inl also ↦ nay.0 ∙ sym also.0
+        | inr other ↦ elim other [ inl way ↦ absurd (nay.1 way.1) | inr ticket ↦ absurd (nay.1 ticket.1) ]
       ]
       | inr other ↦ elim other [
         | inl way ↦ elim b [
-          | inl no ↦ absurd (no.1 way.1)
+          | inl nay ↦ absurd (nay.1 way.1)
           | inr more ↦ elim more [ inl also ↦ way.0 ∙ sym also.0 | inr ticket ↦ absurd (way.2 ticket.2) ]
         ]
         | inr ticket ↦ elim b [
-          | inl no ↦ absurd (no.1 ticket.1)
+          | inl nay ↦ absurd (nay.1 ticket.1)
           | inr more ↦ elim more [ inl way ↦ absurd (way.2 ticket.2) | inr also ↦ ticket.0 ∙ sym also.0 ]
         ]
       ]

@@ -41,7 +41,8 @@ use Rattle.lift_world.specs.Setting.{with_variables, SetsGlobal, SetsVariable, S
 use Rattle.lift_state.specs.Saying.{SlotHolds, HasTicket, IsGiven}
 use Rattle.lift_state.specs.Heads.{TakesCars, TakesSlots, TakesHead}
 use Rattle.lift_state.specs.Holding.{AreApart, SlotsHold, HoldsHead, with_globals, IsOwnCell}
-use Rattle.lift_state.proofs.Slots.{ticket_more}
+use Rattle.lift_state.proofs.Puts.{all_taken}
+use Rattle.lift_state.proofs.Walks.{nothing_left}
 
 -- SLOTS, ONE AFTER ANOTHER
 
@@ -58,19 +59,7 @@ placed (a ∷ xs) (b ∷ ys) (suc k) m x at h is =
 
 -- all of them are
 pub all_placed : (xs ys : List Slot) (k : ℕ) → length xs ≤ k → length ys ≤ k → take k xs ++ drop k ys ≡ xs
-all_placed [] [] zero h l = refl
-all_placed [] [] (suc k) h l = refl
-all_placed [] (b ∷ ys) zero h l = absurd (omega (arith, l))
-all_placed [] (b ∷ ys) (suc k) h l = all_placed [] ys k (omega arith) (omega (arith, l))
-all_placed (a ∷ xs) ys zero h l = absurd (omega (arith, h))
-all_placed (a ∷ xs) [] (suc k) h l = ap (λ (ss : List Slot). a ∷ ss) (no_more xs k (omega (arith, h)))
-  where
-    no_more : (xs : List Slot) (k : ℕ) → length xs ≤ k → take k xs ++ [] ≡ xs
-    no_more [] zero h = refl
-    no_more [] (suc k) h = refl
-    no_more (x ∷ xs) zero h = absurd (omega (arith, h))
-    no_more (x ∷ xs) (suc k) h = ap (λ (ss : List Slot). x ∷ ss) (no_more xs k (omega (arith, h)))
-all_placed (a ∷ xs) (b ∷ ys) (suc k) h l = ap (λ (ss : List Slot). a ∷ ss) (all_placed xs ys k (omega (arith, h)) (omega (arith, l)))
+all_placed xs ys k h l = ap₂ (λ (a b : List Slot). a ++ b) (all_taken xs k h) (nothing_left ys k l) ∙ append-nil xs
 
 -- free slots are under no ticket
 pub free_tickets : (n k : ℕ) → ticket_at (replicate n Free) k ≡ None
@@ -87,16 +76,20 @@ dropped_tickets [] (suc k) none i = refl
 dropped_tickets (y ∷ ys) (suc k) none i = dropped_tickets ys k (λ j. none (suc j)) i
 
 -- a ticket before free slots is that of a slot in front
+before_free : (front free : List Slot) (j n : ℕ) → ((i : ℕ) → ticket_at free i ≡ None) → ticket_at (front ++ free) j ≡ Some n → ticket_at front j ≡ Some n
+before_free [] free j n none e = absurd (none_is n (sym (none j) ∙ e))
+before_free (x ∷ front) free zero n none e = e
+before_free (x ∷ front) free (suc j) n none e = before_free front free j n none e
+
+of_front : (xs : List Slot) (k j n : ℕ) → ticket_at (take k xs) j ≡ Some n → ticket_at xs j ≡ Some n
+of_front [] zero j n e = absurd (none_is n e)
+of_front [] (suc k) j n e = absurd (none_is n e)
+of_front (x ∷ xs) zero j n e = absurd (none_is n e)
+of_front (x ∷ xs) (suc k) zero n e = e
+of_front (x ∷ xs) (suc k) (suc j) n e = of_front xs k j n e
+
 pub front_ticket : (xs ys : List Slot) (k j n : ℕ) → ((i : ℕ) → ticket_at ys i ≡ None) → ticket_at (take k xs ++ drop k ys) j ≡ Some n → ticket_at xs j ≡ Some n
-front_ticket xs ys zero j n none e = absurd (none_is n (sym (none j) ∙ e))
-front_ticket [] ys (suc k) j n none e = absurd (none_is n (sym (dropped_tickets ys (suc k) none j) ∙ e))
-front_ticket (a ∷ xs) ys (suc k) zero n none e = e
-front_ticket (a ∷ xs) [] (suc k) (suc j) n none e = front_ticket xs [] k j n none (ap (λ (ss : List Slot). ticket_at (take k xs ++ ss) j) (none_left k) ∙ e)
-  where
-    none_left : (k : ℕ) → drop k [] ≡ []
-    none_left zero = refl
-    none_left (suc k) = refl
-front_ticket (a ∷ xs) (b ∷ ys) (suc k) (suc j) n none e = front_ticket xs ys k j n (λ i. none (suc i)) e
+front_ticket xs ys k j n none e = of_front xs k j n (before_free (take k xs) (drop k ys) j n (dropped_tickets ys k none) e)
 
 -- the ticket at a place is that of the slot there
 pub ticket_there : (xs : List Slot) (k n : ℕ) (x : Slot) → slice_get xs k ≡ Some x → ticket_of x ≡ Some n → ticket_at xs k ≡ Some n

@@ -68,23 +68,23 @@ module _ (c : Config) (digest text : List ℕ) where
   state_not : (a : Begun) (w : Wrong) → IsState c digest text a → IsNoState c digest text w → ⊥
   state_not a w x r =
       elim r [
-        | inl no ↦ head_not (sizes_of c) digest text a.group.image a.group.calls x.behind_head w x.head no
+        | inl nay ↦ head_not (sizes_of c) digest text a.group.image a.group.calls x.behind_head w x.head nay
         | inr first ↦ elim first [
-          | inl no ↦
-              let h = head_takes (sizes_of c) digest text a.group.image no.0 a.group.calls no.1 x.behind_head no.2 x.head no.3 in
-              globals_not no.2 (globals_of a x.behind_globals) w (subst (λ (t : List ℕ). Globals t (globals_of a x.behind_globals)) h.2 x.globals) no.4
+          | inl nay ↦
+              let h = head_takes (sizes_of c) digest text a.group.image nay.0 a.group.calls nay.1 x.behind_head nay.2 x.head nay.3 in
+              globals_not nay.2 (globals_of a x.behind_globals) w (subst (λ (t : List ℕ). Globals t (globals_of a x.behind_globals)) h.2 x.globals) nay.4
           | inr second ↦ elim second [
-            | inl no ↦
-                let h = head_takes (sizes_of c) digest text a.group.image no.0 a.group.calls no.1 x.behind_head no.2 x.head no.4 in
-                let g = globals_take no.2 (globals_of a x.behind_globals) no.3 (subst (λ (t : List ℕ). Globals t (globals_of a x.behind_globals)) h.2 x.globals) no.5 in
-                let place : x.behind_globals ≡ left no.3.rest no.3.line = ap (λ (r : Reached). left r.rest r.line) g in
-                tasks_not c 0 count (left no.3.rest no.3.line) (left a.rest (suc a.lines)) a.group.tasks w (subst (λ (l : Left). Tasks l a.group.tasks (left a.rest (suc a.lines))) place x.tasks) no.6
-            | inr no ↦
-                let h = head_takes (sizes_of c) digest text a.group.image no.0 a.group.calls no.1 x.behind_head no.2 x.head no.6 in
-                let g = globals_take no.2 (globals_of a x.behind_globals) no.3 (subst (λ (t : List ℕ). Globals t (globals_of a x.behind_globals)) h.2 x.globals) no.7 in
-                let place : x.behind_globals ≡ left no.3.rest no.3.line = ap (λ (r : Reached). left r.rest r.line) g in
-                let t = tasks_take c 0 count (left no.3.rest no.3.line) (left a.rest (suc a.lines)) no.5 a.group.tasks no.4 (subst (λ (l : Left). Tasks l a.group.tasks (left a.rest (suc a.lines))) place x.tasks) no.8 in
-                x.ends (subst IsLeftOver (sym (ap (λ (l : Left). l.rest) t.1)) no.9.over)
+            | inl nay ↦
+                let h = head_takes (sizes_of c) digest text a.group.image nay.0 a.group.calls nay.1 x.behind_head nay.2 x.head nay.4 in
+                let g = globals_take nay.2 (globals_of a x.behind_globals) nay.3 (subst (λ (t : List ℕ). Globals t (globals_of a x.behind_globals)) h.2 x.globals) nay.5 in
+                let place : x.behind_globals ≡ left nay.3.rest nay.3.line = ap (λ (r : Reached). left r.rest r.line) g in
+                tasks_not c 0 count (left nay.3.rest nay.3.line) (left a.rest (suc a.lines)) a.group.tasks w (subst (λ (l : Left). Tasks l a.group.tasks (left a.rest (suc a.lines))) place x.tasks) nay.6
+            | inr nay ↦
+                let h = head_takes (sizes_of c) digest text a.group.image nay.0 a.group.calls nay.1 x.behind_head nay.2 x.head nay.6 in
+                let g = globals_take nay.2 (globals_of a x.behind_globals) nay.3 (subst (λ (t : List ℕ). Globals t (globals_of a x.behind_globals)) h.2 x.globals) nay.7 in
+                let place : x.behind_globals ≡ left nay.3.rest nay.3.line = ap (λ (r : Reached). left r.rest r.line) g in
+                let t = tasks_take c 0 count (left nay.3.rest nay.3.line) (left a.rest (suc a.lines)) nay.5 a.group.tasks nay.4 (subst (λ (l : Left). Tasks l a.group.tasks (left a.rest (suc a.lines))) place x.tasks) nay.8 in
+                x.ends (subst IsLeftOver (sym (ap (λ (l : Left). l.rest) t.1)) nay.9.over)
           ]
         ]
       ]

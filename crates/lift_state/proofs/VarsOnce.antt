@@ -113,20 +113,20 @@ module _ (path : Text → Text) (initial : Values) where
   variables_not (cell ∷ cells) from a w x r =
       elim x [
         | inl p ↦ elim r [
-          | inl no ↦ absent_not_refuses (path cell.path) cell.scalar (get initial cell.path) from.rest w.fault p.0 no.1
+          | inl nay ↦ absent_not_refuses (path cell.path) cell.scalar (get initial cell.path) from.rest w.fault p.0 nay.1
           | inr other ↦ elim other [
-            | inl no ↦ variables_not cells from a w p.1 no.1
-            | inr no ↦ absent_not_takes (path cell.path) cell.scalar (get initial cell.path) from.rest no.0 no.1 p.0 no.2
+            | inl nay ↦ variables_not cells from a w p.1 nay.1
+            | inr nay ↦ absent_not_takes (path cell.path) cell.scalar (get initial cell.path) from.rest nay.0 nay.1 p.0 nay.2
           ]
         ]
         | inr p ↦ elim r [
-          | inl no ↦ takes_not (path cell.path) cell.scalar (get initial cell.path) from.rest p.0 p.1 w.fault p.2 no.1
+          | inl nay ↦ takes_not (path cell.path) cell.scalar (get initial cell.path) from.rest p.0 p.1 w.fault p.2 nay.1
           | inr other ↦ elim other [
-            | inl no ↦ absent_not_takes (path cell.path) cell.scalar (get initial cell.path) from.rest p.0 p.1 no.0 p.2
-            | inr no ↦
-                let same = variable_takes (path cell.path) cell.scalar (get initial cell.path) from.rest p.0 no.0 p.1 no.1 p.2 no.2 in
+            | inl nay ↦ absent_not_takes (path cell.path) cell.scalar (get initial cell.path) from.rest p.0 p.1 nay.0 p.2
+            | inr nay ↦
+                let same = variable_takes (path cell.path) cell.scalar (get initial cell.path) from.rest p.0 nay.0 p.1 nay.1 p.2 nay.2 in
                 variables_not cells (reached (insert from.values cell.path p.0) p.1 (from.line + 1)) a w p.3
-                (subst (λ (t : List ℕ). RefusesVariables path initial cells t (from.line + 1) w) (sym same.1) no.3)
+                (subst (λ (t : List ℕ). RefusesVariables path initial cells t (from.line + 1) w) (sym same.1) nay.3)
           ]
         ]
       ]
@@ -192,10 +192,10 @@ pub tasks_not : (c : Config) (t n : ℕ) (from a : Left) (xs : List (Option Task
 tasks_not c t zero from a xs w h r = r
 tasks_not c t (suc n) from a xs w h r =
     elim r [
-      | inl no ↦ task_not c t (program_of c t) from h.2 h.0 w h.4 no
-      | inr no ↦
-          let first = task_takes c t (program_of c t) from h.2 no.1 h.0 no.0 h.4 no.2 in
-          tasks_not c (t + 1) n no.1 a h.1 w (subst (λ (l : Left). TakesTasks c (t + 1) n l h.1 a) first.1 h.5) no.3
+      | inl nay ↦ task_not c t (program_of c t) from h.2 h.0 w h.4 nay
+      | inr nay ↦
+          let first = task_takes c t (program_of c t) from h.2 nay.1 h.0 nay.0 h.4 nay.2 in
+          tasks_not c (t + 1) n nay.1 a h.1 w (subst (λ (l : Left). TakesTasks c (t + 1) n l h.1 a) first.1 h.5) nay.3
     ]
 
 pub tasks_refuse : (c : Config) (t n : ℕ) (from : Left) (v w : Wrong) → RefusesTasks c t n from v → RefusesTasks c t n from w → v ≡ w

@@ -126,7 +126,7 @@ fits_pos n h = omega (arith, ints, h)
 fits_neg : (n : ℕ) → FitsSigned w64 (negsuc n) → n < 2 ^ 63
 fits_neg n h = omega (arith, ints, h)
 
-mag_fits : (z : ℤ) → FitsSigned w64 z → mag z < 2 ^ 63
+pub mag_fits : (z : ℤ) → FitsSigned w64 z → mag z < 2 ^ 63
 mag_fits (pos n) h = fits_pos n h
 mag_fits (negsuc n) h = fits_neg n h
 

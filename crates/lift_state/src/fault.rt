@@ -3,7 +3,7 @@
 ghost use Rattle.std.specs.Prelude.{◌≡◌};
 ghost use Rattle.lift_state.specs.Faults.{state_fault_number};
 
-use std::alloc::AllocFailed;
+use std::alloc::AllocError;
 use thiserror::Error;
 
 /// What is wrong with a line of a state.
@@ -88,13 +88,13 @@ impl From<Wrong> for StateError {
     }
 }
 
-impl<T: Drop> From<AllocFailed<T>> for StateError {
+impl From<AllocError> for StateError {
     ghost use Rattle.std.specs.Prelude.{◌≡◌};
     ghost use Rattle.lift_state.specs.declared.fault.StateError.TheVariants.{Memory};
 
     ghost from_gives = { λ _ e. e ≡ Memory };
 
-    fn from(_error: AllocFailed<T>) -> StateError {
+    fn from(_error: AllocError) -> StateError {
         StateError::Memory
     }
 }

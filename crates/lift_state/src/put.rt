@@ -274,10 +274,10 @@ fn put_globals(text: &mut String, world: &World) -> Result<(), AllocError>
     let _config = verified.config();
     let cells = verified.globals();
     let first = verified.opening_globals();
-    let (numbers, flags) = (first.numbers(), first.flags());
     'globals: for at in 0..cells.len() {
-        let path = cells[at].path.as_str();
-        let initial = first_value(cells[at].scalar, numbers[at], flags[at]);
+        let cell = &cells[at];
+        let path = cell.path.as_str();
+        let initial = first_value(cell, first, at);
         put_changed(text, None, path, initial, world.global(path))?;
     }
     Ok(())
@@ -294,10 +294,10 @@ fn put_task(text: &mut String, world: &World, task: u8) -> Result<(), AllocError
     let _config = verified.config();
     let cells = verified.own_cells(task);
     let first = verified.opening_variables(task);
-    let (numbers, flags) = (first.numbers(), first.flags());
     'cells: for at in 0..cells.len() {
-        let path = cells[at].path.as_str();
-        let initial = first_value(cells[at].scalar, numbers[at], flags[at]);
+        let cell = &cells[at];
+        let path = cell.path.as_str();
+        let initial = first_value(cell, first, at);
         put_changed(text, Some(task), path, initial, world.variable(task, path))?;
     }
     Ok(())

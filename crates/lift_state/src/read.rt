@@ -63,22 +63,23 @@ fn take_globals<'a>(
     let _config = verified.config();
     let cells = verified.globals();
     let first = verified.opening_globals();
-    let (numbers, flags) = (first.numbers(), first.flags());
     let mut rest = from.rest;
     let mut line = from.line;
     let mut next = split(rest);
     'cells: for at in 0..cells.len() {
-        let initial = first_value(cells[at].scalar, numbers[at], flags[at]);
-        match take_variable(None, &cells[at], initial, rest, next) {
-            Ok(None) => {}
-            Ok(Some((value, behind))) => {
-                set_global(core, verified, &cells[at], value);
-                rest = behind;
-                line += 1;
-                next = split(rest);
-            }
+        let cell = &cells[at];
+        let initial = first_value(cell, first, at);
+        let taken = match take_variable(None, cell, initial, rest, next) {
+            Ok(taken) => taken,
             Err(fault) => return Err(Wrong { fault, line }),
-        }
+        };
+        let Some((value, behind)) = taken else {
+            continue;
+        };
+        set_global(core, verified, cell, value);
+        rest = behind;
+        line += 1;
+        next = split(rest);
     }
     Ok(Behind { rest, line })
 }
@@ -105,22 +106,23 @@ fn take_task<'a>(
     let _config = verified.config();
     let cells = verified.own_cells(task);
     let first = verified.opening_variables(task);
-    let (numbers, flags) = (first.numbers(), first.flags());
     let mut rest = from.rest;
     let mut line = from.line;
     let mut next = split(rest);
     'cells: for at in 0..cells.len() {
-        let initial = first_value(cells[at].scalar, numbers[at], flags[at]);
-        match take_variable(Some(task), &cells[at], initial, rest, next) {
-            Ok(None) => {}
-            Ok(Some((value, behind))) => {
-                set_variable(core, verified, task, &cells[at], value);
-                rest = behind;
-                line += 1;
-                next = split(rest);
-            }
+        let cell = &cells[at];
+        let initial = first_value(cell, first, at);
+        let taken = match take_variable(Some(task), cell, initial, rest, next) {
+            Ok(taken) => taken,
             Err(fault) => return Err(Wrong { fault, line }),
-        }
+        };
+        let Some((value, behind)) = taken else {
+            continue;
+        };
+        set_variable(core, verified, task, cell, value);
+        rest = behind;
+        line += 1;
+        next = split(rest);
     }
     Ok(Behind { rest, line })
 }

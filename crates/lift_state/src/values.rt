@@ -1,6 +1,6 @@
 // Values, as words.
 
-ghost use Rattle.std.specs.Prelude.{◌≡◌, ◌↔◌, ℕ, suc, ◌<◌, ◌^◌, ℤ, negsuc, pos, Bool, IsTrue, Some, decimal, FitsSigned, IfSome, IfNone};
+ghost use Rattle.std.specs.Prelude.{◌≡◌, ℕ, suc, ◌<◌, ◌^◌, ℤ, negsuc, pos, Bool, false, decimal, length, slice_index_or, FitsSigned, IfSome, IfNone};
 ghost use Rattle.std.specs.Fmt.{signed_decimal};
 ghost use Rattle.std.specs.Int.{w64};
 ghost use Rattle.il_rules.specs.Declarations.{declared_limits};
@@ -11,7 +11,7 @@ ghost use Rattle.lift_state.specs.Variables.{SpellsValue, IsChanged};
 
 use crate::lines::behind;
 use crate::numbers::number_of;
-use il_machine::Value;
+use il_machine::{Cell, FirstRows, Value};
 use il_rules::elementary::{declared_limits, is_within};
 use il_spec::tree::Scalar;
 
@@ -77,14 +77,24 @@ pub fn value_of(scalar: Scalar, word: &[u8]) -> Option<Value>
     Some(Value::Integer(number))
 }
 
-/// The value of a slot of a type.
-pub fn first_value(scalar: Scalar, number: i64, flag: bool) -> Value
+// The value of a slot of a type.
+fn value_by(scalar: Scalar, number: i64, flag: bool) -> Value
     ensures { result ≡ value_by (declared_limits scalar) number flag }
 {
     match declared_limits(scalar) {
         None => Value::Boolean(flag),
         Some(_) => Value::Integer(number),
     }
+}
+
+/// The value with which the cell at an index begins.
+pub fn first_value(cell: &Cell, first: &FirstRows, at: usize) -> Value
+    requires numbers { at < length first.now.numbers }
+    requires flags { at < length first.now.flags }
+    ensures { result ≡ value_by (declared_limits cell.now.scalar)
+        (slice_index_or first.now.numbers at (pos 0)) (slice_index_or first.now.flags at false) }
+{
+    value_by(cell.scalar, first.numbers()[at], first.flags()[at])
 }
 
 /// Whether two values are the same.
