@@ -11,4 +11,6 @@ pub mod HeadOnce
 pub mod VarsOnce
 pub mod StateOnce
 pub mod Puts
+pub mod Steps
+pub mod Readings
 mod Rows

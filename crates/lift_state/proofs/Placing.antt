@@ -1,6 +1,6 @@
 -- What was read of the head, set in a core.
 use Rattle.std.proofs.Common.{◌≡◌, ◌≢◌, ◌⊎◌, inl, inr, ℕ, zero, suc, ◌+◌, ◌-◌, ◌<◌, ◌≤◌, Bool, true, false, List, [], ◌∷◌, ◌++◌, length, get_or, take, drop, replicate, refl, sym, ap, ap₂, ◌∙◌, subst, append_assoc, append-nil, arith, Some, None, Option, Ok, Err, Result, All, map}
-use Rattle.std.specs.Prelude.{slice_get, slice_set, Contains, IsSome, is_some}
+use Rattle.std.specs.Prelude.{slice_get, slice_set, slice_index_or, Contains, IsSome, is_some}
 use Rattle.std.proofs.lemmas.List.Elements.{All-nil, All-cons}
 use Rattle.std.proofs.lemmas.Option.{same_Some}
 use Rattle.il_spec.specs.declared.tree.Config.{Config}
@@ -60,6 +60,16 @@ placed (a ∷ xs) (b ∷ ys) (suc k) m x at h is =
 -- all of them are
 pub all_placed : (xs ys : List Slot) (k : ℕ) → length xs ≤ k → length ys ≤ k → take k xs ++ drop k ys ≡ xs
 all_placed xs ys k h l = ap₂ (λ (a b : List Slot). a ++ b) (all_taken xs k h) (nothing_left ys k l) ∙ append-nil xs
+
+-- what is at a place before the end
+pub at_index : {X : Type 0} (xs : List X) (k : ℕ) (d : X) → k < length xs → slice_get xs k ≡ Some (slice_index_or xs k d)
+at_index [] k d h = absurd (omega (arith, h))
+at_index (x ∷ xs) zero d h = refl
+at_index (x ∷ xs) (suc k) d h = at_index xs k d (omega (arith, h))
+
+pub free_length : (n : ℕ) → length (replicate n Free) ≡ n
+free_length zero = refl
+free_length (suc n) = ap suc (free_length n)
 
 -- free slots are under no ticket
 pub free_tickets : (n k : ℕ) → ticket_at (replicate n Free) k ≡ None

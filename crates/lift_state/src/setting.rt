@@ -1,6 +1,6 @@
 // What was read of a group, set in its core.
 
-ghost use Rattle.std.specs.Prelude.{◌≡◌, Some, Contains, IsSome, replicate};
+ghost use Rattle.std.specs.Prelude.{◌≡◌, ◌≤◌, Some, Contains, IsSome, replicate};
 ghost use Rattle.il_table.specs.NameMap.{insert};
 ghost use Rattle.il_run.specs.Values.{IsOf};
 ghost use Rattle.il_layout.specs.Program.{global_cells};
@@ -13,11 +13,13 @@ ghost use Rattle.lift_state.specs.Holding.{HoldsHead, with_head, with_slots, Slo
 
 use crate::head::Head;
 use il_machine::{Cell, Value, Verified};
+use lift_spec::SLOT_PLACES;
 use lift_spec::calls::Slot;
 use lift_world::Core;
 
 // Sets each slot of a group whose slots are free.
 fn set_slots(core: &mut Core, slots: &[Slot])
+    requires few { (sizes_of core.old.config).slots ≤ SLOT_PLACES }
     requires free { core.old.group.calls.slots ≡ replicate (sizes_of core.old.config).slots Free }
     requires holds { SlotsHold (sizes_of core.old.config) core.old.group.calls.last_ticket
         slots.now }
@@ -31,6 +33,7 @@ fn set_slots(core: &mut Core, slots: &[Slot])
 
 /// Sets the image and the calls of a group that opens.
 pub fn set_head(core: &mut Core, head: &Head)
+    requires few { (sizes_of core.old.config).slots ≤ SLOT_PLACES }
     requires opened { core.old.group ≡ opening_group core.old.config }
     requires holds { HoldsHead (sizes_of core.old.config) head.now.image
         (calls_of head.now.calls) }

@@ -1,0 +1,80 @@
+use Rattle.std.proofs.Common.{◌≡◌, ◌+◌, List, Some, ap, refl, subst}
+use Rattle.std.proofs.lemmas.Option.{same_Some}
+use Rattle.std.proofs.Common.{sym, ◌∙◌}
+use Rattle.il_spec.specs.declared.tree.Unit.{Unit as ProgramUnit}
+use Rattle.il_run.specs.Scan.{opening_variables}
+use Rattle.il_layout.specs.declared.flat.Cell.{Cell}
+use Rattle.lift_spec.specs.Snapshot.{program_of}
+use Rattle.lift_spec.specs.World.{task_at, opening_task}
+use Rattle.lift_state.specs.Text.{task_path}
+use Rattle.lift_state.specs.Variables.{reached, left, at_rest, TakesVariables}
+use Rattle.lift_state.proofs.Steps.{task_fits}
+use Rattle.lift_state.proofs.Walks.{at_place, breaks_at, walked, task_taken, task_refused}
+use Rattle.lift_state.proofs.Readings.{own_first, some_is, task_set, opened_again}
+use Rattle.lift_state.proofs.read.take_task.Goals as goal
+
+pub cells-init : goal.cells-init
+cells-init c =
+    let config = c.args.verified.now.config in
+    let t = c.args.task in
+    let u = c.requires.there.0 in
+    let program = c.requires.there.1.program in
+    let cells = c.own_cells-cells.result.now in
+    record {
+      config = refl;
+      split = c.split-next.ensures;
+      room = c.requires.room;
+      task =
+          (opening_variables config u, opened_again config c.args.core.now.group t u program c.requires.opened,
+          λ w is to h.
+            subst (λ (y : ProgramUnit). TakesVariables (task_path t) (opening_variables config w) cells (reached (opening_variables config y) c.args.from.rest.now c.args.from.line) to) (same_Some u w (sym program ∙ is)) h);
+      wrong = λ w is wrong h. h;
+    }
+
+pub take_variable-requires-clause-owner : goal.take_variable-requires-clause-owner
+take_variable-requires-clause-owner c = task_fits c.args.verified.now.config c.args.verified.now.config refl c.config-config.ensures.runnable c.args.task c.requires.there
+
+pub set_variable-requires-clause-there : goal.set_variable-requires-clause-there
+set_variable-requires-clause-there c =
+    let now = c.cells.invariant.task in
+    some_is (task_at c.cells.core.group c.args.task) (at_rest now.0)
+    (task_set c.args.core.now.group c.cells.core.group c.args.task (opening_task c.args.verified.now.config (program_of c.args.verified.now.config c.args.task)) (at_rest now.0) c.requires.opened now.1)
+
+pub returns-in-Err-clause-wrong : goal.returns-in-Err-clause-wrong
+returns-in-Err-clause-wrong c =
+    let config = c.args.verified.now.config in
+    let t = c.args.task in
+    let u = c.requires.there.0 in
+    let program = c.requires.there.1.program in
+    let x = c.index-cells-at.result in
+    let cells = c.own_cells-cells.result.now in
+    let own = c.own_cells-cells.ensures u program in
+    let first =
+        own_first config c.config-config.ensures.runnable cells c.opening_variables-first.result.now c.cells.at x c.cells-test.true c.index-cells-at.is c.first_value-initial.result c.first_value-initial.ensures t u program own
+        c.opening_variables-first.ensures.fits (c.opening_variables-first.ensures.variables u program) in
+    task_refused config t u (program_of config t) (left c.args.from.rest.now c.args.from.line) _ cells program own
+    (c.cells.invariant.wrong u program _
+    (breaks_at (task_path t) (opening_variables config u) cells c.cells.at (c.cells.at + 1) x (at_place cells c.cells.at x c.cells-test.true c.index-cells-at.is) refl (Some c.first_value-initial.result) first
+    c.cells.rest.now c.cells.line _ (refl, c.in-Err.ensures.wrong)))
+
+pub cells-preserved : goal.cells-preserved
+cells-preserved c = ?
+
+pub cells-preserved-in_default : goal.cells-preserved-in_default
+cells-preserved-in_default c = ?
+
+pub returns-clause-found : goal.returns-clause-found
+returns-clause-found c =
+    let config = c.args.verified.now.config in
+    let t = c.args.task in
+    let u = c.requires.there.0 in
+    let program = c.requires.there.1.program in
+    let cells = c.own_cells-cells.result.now in
+    let now = c.cells.invariant.task in
+    record {
+      task = Some (at_rest now.0);
+      takes =
+          task_taken config t u (program_of config t) (left c.args.from.rest.now c.args.from.line) (left c.cells.rest.now c.cells.line) now.0 cells program (c.own_cells-cells.ensures u program)
+          (now.2 u program (reached now.0 c.cells.rest.now c.cells.line) (walked (task_path t) (opening_variables config u) cells c.cells.at (reached now.0 c.cells.rest.now c.cells.line) c.cells-test.false));
+      others = now.1;
+    }
