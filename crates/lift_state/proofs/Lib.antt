@@ -13,4 +13,5 @@ pub mod StateOnce
 pub mod Puts
 pub mod Steps
 pub mod Readings
+pub mod Again
 mod Rows

@@ -48,7 +48,7 @@ module _ (d : Config) (runs : IsRunnable d) (cells : List Cell) (r : Rows) (k : 
 -- ONE TASK
 
 pub some_is : {X : Type 0} (o : Option X) (x : X) → o ≡ Some x → IsSome o
-some_is (Some y) x e = tt
+some_is (Some y) x e = refl
 some_is None x e = absurd (cc)
 
 -- a task that is set is there
@@ -87,6 +87,12 @@ pub one_longer : {X : Type 0} (done : List X) (x : X) (k : ℕ) → length done 
 one_longer [] x k e = omega (arith, e)
 one_longer (y ∷ done) x k e = let more : length (done ++ x ∷ []) ≡ length done + 1 = one_longer done x (length done) refl in omega (arith, e, more)
 
+-- before the first task
+pub tasks_begin : (c : Config) (g : Group) → g.tasks ≡ opening_tasks_from c 0 (suc (sizes_of c).cars) → g ≡ with_tasks g (opening_tasks_from c 0 (suc (sizes_of c).cars - 0))
+tasks_begin c g opened =
+    let none : suc (sizes_of c).cars ≡ suc (sizes_of c).cars - 0 = omega arith in
+    ap (with_tasks g) (opened ∙ ap (opening_tasks_from c 0) none)
+
 -- no task is left
 pub tasks_read :
     (c : Config) (before after : Group) (from to : Behind) (done : List (Option TaskState)) (t m : ℕ) → m ≡ 0 → after ≡ with_tasks before (done ++ opening_tasks_from c t m)
@@ -102,6 +108,10 @@ tasks_read c before after from to done t m none group more =
 
 -- TASKS THAT ARE READ REST
 
+flat_some : {X : Type 0} (o : Option X) → flat (Some o) ≡ o
+flat_some None = refl
+flat_some (Some x) = refl
+
 task_seated : (c : Config) (t : ℕ) (o : Option ProgramUnit) (from to : Left) (task : Option TaskState) → TakesTask c t o from task to → is_some task ≡ is_some o
 task_seated c t None from to task h = ap is_some h.0
 task_seated c t (Some u) from to task h = ap is_some h.1
@@ -114,19 +124,19 @@ tasks_seated : (c : Config) (a n : ℕ) (from to : Left) (tasks : List (Option T
 tasks_seated c a zero from to tasks h j low = absurd (omega (arith, low))
 tasks_seated c a (suc n) from to tasks h zero low =
     let here : a ≡ a + 0 = omega arith in
-    ap (λ (ts : List (Option TaskState)). is_some (flat (slice_get ts 0))) h.3 ∙ (task_seated c a (program_of c a) from h.2 h.0 h.4 ∙ ap (λ i. is_some (program_of c i)) here)
+    ap (λ (ts : List (Option TaskState)). is_some (flat (slice_get ts 0))) h.3 ∙ (ap is_some (flat_some h.0) ∙ (task_seated c a (program_of c a) from h.2 h.0 h.4 ∙ ap (λ i. is_some (program_of c i)) here))
 tasks_seated c a (suc n) from to tasks h (suc j) low =
     let here : (a + 1) + j ≡ a + suc j = omega arith in
     ap (λ (ts : List (Option TaskState)). is_some (flat (slice_get ts (suc j)))) h.3 ∙ (tasks_seated c (a + 1) n h.2 to h.1 h.5 j (omega (arith, low)) ∙ ap (λ i. is_some (program_of c i)) here)
 
 tasks_rest : (c : Config) (a n : ℕ) (from to : Left) (tasks : List (Option TaskState)) → TakesTasks c a n from tasks to → (j : ℕ) (x : TaskState) → flat (slice_get tasks j) ≡ Some x → x.tickets ≡ None
 tasks_rest c a zero from to tasks h j x e = let no : flat (slice_get [] j) ≡ Some x = ap (λ (ts : List (Option TaskState)). flat (slice_get ts j)) (sym h.0) ∙ e in absurd (cc)
-tasks_rest c a (suc n) from to tasks h zero x e = task_rests c a (program_of c a) from h.2 h.0 h.4 x (ap (λ (ts : List (Option TaskState)). flat (slice_get ts 0)) (sym h.3) ∙ e)
+tasks_rest c a (suc n) from to tasks h zero x e = task_rests c a (program_of c a) from h.2 h.0 h.4 x (sym (flat_some h.0) ∙ (ap (λ (ts : List (Option TaskState)). flat (slice_get ts 0)) (sym h.3) ∙ e))
 tasks_rest c a (suc n) from to tasks h (suc j) x e = tasks_rest c (a + 1) n h.2 to h.1 h.5 j x (ap (λ (ts : List (Option TaskState)). flat (slice_get ts (suc j))) (sym h.3) ∙ e)
 
 pub read_seated : (c : Config) (g : Group) (from to : Left) → TakesTasks c 0 (suc (sizes_of c).cars) from g.tasks to → IsSeated c g
 read_seated c g from to h = record {
-  there = λ t few. tasks_seated c 0 (suc (sizes_of c).cars) from to g.tasks h t (omega (arith, few));
+  there = λ t few. tasks_seated c 0 (suc (sizes_of c).cars) from to g.tasks h t (omega (arith, few)) ∙ ap (λ i. is_some (program_of c i)) (let e : 0 + t ≡ t = omega arith in e);
   closed = λ t x at. tasks_rest c 0 (suc (sizes_of c).cars) from to g.tasks h t x at;
 }
 
