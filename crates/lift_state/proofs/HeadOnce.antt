@@ -146,8 +146,7 @@ cars_further sizes number text (f ∷ fields) (o ∷ outputs) (g ∷ more) (p �
     let first = car_takes sizes number text (car_of f o) (car_of g p) x.0 y.0 x.1 y.1 in
     let parts = car_parts f g o p first.0 in
     let rest = cars_further sizes (number + 1) y.0 fields outputs more others a b (subst (λ (t : List ℕ). TakesCars sizes (number + 1) t fields outputs a) first.1 x.2) y.2 (omega (arith, h)) in
-    let next : (number + 1) + length fields ≡ number + length (f ∷ fields) = omega arith in
-    (
+    let next : (number + 1) + length fields ≡ number + length (f ∷ fields) = omega arith in (
       rest.0,
       rest.1,
       ap₂ (λ (c : CarFields) cs. c ∷ cs) (sym parts.0) rest.2,

@@ -72,7 +72,7 @@ module _ (c d : Config) (same : d ≡ c) (runs : IsRunnable d) where
       let initial : Some v ≡ get (opening_globals c) x.path = first ∙ ap (λ (y : Config). get (opening_globals y) x.path) same in
       let value : now ≡ get globals x.path = now_is ∙ ap (get globals) path in
       let line : changed_line p (Some v) now ≡ changed_line x.path (get (opening_globals c) x.path) (get globals x.path) =
-          ap (λ (q : Text). changed_line q (Some v) now) path ∙ ap₂ (changed_line x.path) initial value in
+      ap (λ (q : Text). changed_line q (Some v) now) path ∙ ap₂ (changed_line x.path) initial value in
       same_lines old new _ _
       (ap (λ (ls : List (List ℕ)). variables_lines global_path (opening_globals c) globals (take k cells) ++ ls) line ∙ sym (variables_more global_path (opening_globals c) globals cells k m x there next))
       (both_lines old mid new (variables_lines global_path (opening_globals c) globals (take k cells)) (changed_line p (Some v) now) before after)
@@ -94,7 +94,7 @@ module _ (c d : Config) (same : d ≡ c) (runs : IsRunnable d) where
       let value : now ≡ option_and_then (λ (task : TaskState). get task.variables x.path) state = now_is ∙ ap (λ (q : Text). option_and_then (λ (task : TaskState). get task.variables q) state) path in
       let line : changed_line (task_path t p) (Some v) now ≡ changed_line (task_path t x.path) (Some v) now = ap (λ (q : Text). changed_line (task_path t q) (Some v) now) path in
       let whole : some_lines d t (program_of d t) state (take m cells) ≡ some_lines d t (program_of d t) state (take k cells) ++ changed_line (task_path t x.path) (Some v) now =
-          some_more d t u (program_of d t) state cells k m x is there next (Some v) now first value in
+      some_more d t u (program_of d t) state cells k m x is there next (Some v) now first value in
       let here : (n : ℕ) → some_lines d t (program_of d t) state (take n cells) ≡ some_lines c t (program_of c t) state (take n cells) = λ n. ap (λ (y : Config). some_lines y t (program_of y t) state (take n cells)) same in
       same_lines old new _ _
       (ap₂ (λ (a b : List (List ℕ)). a ++ b) (sym (here k)) line ∙ (sym whole ∙ here m))
@@ -135,9 +135,9 @@ state_put old t1 t2 t3 t4 t5 t6 t7 t8 first conf tickets fields cars slots globa
     let from_calls : t8 ≡ t4 ++ text_of_lines ((tickets ∷ slots) ++ (globals ++ tasks)) = both_lines t4 t6 t8 (tickets ∷ slots) (globals ++ tasks) calls group in
     let from_image : t8 ≡ t2 ++ text_of_lines ((fields ++ cars) ++ ((tickets ∷ slots) ++ (globals ++ tasks))) = both_lines t2 t4 t8 (fields ++ cars) ((tickets ∷ slots) ++ (globals ++ tasks)) image from_calls in
     let from_conf : t8 ≡ t1 ++ text_of_lines (conf ∷ ((fields ++ cars) ++ ((tickets ∷ slots) ++ (globals ++ tasks)))) =
-        both_lines t1 t2 t8 (conf ∷ []) ((fields ++ cars) ++ ((tickets ∷ slots) ++ (globals ++ tasks))) e2 from_image in
+    both_lines t1 t2 t8 (conf ∷ []) ((fields ++ cars) ++ ((tickets ∷ slots) ++ (globals ++ tasks))) e2 from_image in
     let whole : t8 ≡ old ++ text_of_lines (first ∷ (conf ∷ ((fields ++ cars) ++ ((tickets ∷ slots) ++ (globals ++ tasks))))) =
-        both_lines old t1 t8 (first ∷ []) (conf ∷ ((fields ++ cars) ++ ((tickets ∷ slots) ++ (globals ++ tasks)))) e1 from_conf in
+    both_lines old t1 t8 (first ∷ []) (conf ∷ ((fields ++ cars) ++ ((tickets ∷ slots) ++ (globals ++ tasks)))) e1 from_conf in
     let same : (fields ++ cars) ++ ((tickets ∷ slots) ++ (globals ++ tasks)) ≡ (fields_are ++ cars_are) ++ ((tickets_is ∷ slots_are) ++ (globals ++ tasks)) =
-        ap₂ (λ (a b : List (List ℕ)). a ++ b) (ap₂ (λ (a b : List (List ℕ)). a ++ b) ef ec) (ap₂ (λ (a : List ℕ) (b : List (List ℕ)). (a ∷ b) ++ (globals ++ tasks)) et es) in
+    ap₂ (λ (a b : List (List ℕ)). a ++ b) (ap₂ (λ (a b : List (List ℕ)). a ++ b) ef ec) (ap₂ (λ (a : List ℕ) (b : List (List ℕ)). (a ∷ b) ++ (globals ++ tasks)) et es) in
     whole ∙ ap (λ (ls : List (List ℕ)). old ++ text_of_lines (first ∷ (conf ∷ ls))) same

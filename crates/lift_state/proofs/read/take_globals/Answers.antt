@@ -19,8 +19,8 @@ returns-in-Err-clause-wrong c =
     let x = c.index-cells-at.result in
     let cells = c.globals-cells.result.now in
     let first =
-        global_first config c.config-config.ensures.runnable cells c.opening_globals-first.result.now c.cells.at x c.cells-test.true c.index-cells-at.is c.first_value-initial.result c.first_value-initial.ensures c.globals-cells.ensures
-        c.opening_globals-first.ensures.fits c.opening_globals-first.ensures.opening in
+    global_first config c.config-config.ensures.runnable cells c.opening_globals-first.result.now c.cells.at x c.cells-test.true c.index-cells-at.is c.first_value-initial.result c.first_value-initial.ensures c.globals-cells.ensures
+    c.opening_globals-first.ensures.fits c.opening_globals-first.ensures.opening in
     subst (λ (xs : List Cell). RefusesVariables global_path (opening_globals config) xs c.args.from.rest.now c.args.from.line (record { fault = c.in-Err.fault; line = c.cells.line })) c.globals-cells.ensures
     (c.cells.invariant.wrong _
     (breaks_at global_path (opening_globals config) cells c.cells.at (c.cells.at + 1) x (at_place cells c.cells.at x c.cells-test.true c.index-cells-at.is) refl (Some c.first_value-initial.result) first c.cells.rest.now
@@ -38,10 +38,10 @@ cells-preserved c =
     let value = c.in-Some.value in
     let there = at_place cells k x c.cells-test.true c.index-cells-at.is in
     let first =
-        global_first config c.config-config.ensures.runnable cells c.opening_globals-first.result.now k x c.cells-test.true c.index-cells-at.is v c.first_value-initial.ensures c.globals-cells.ensures
-        c.opening_globals-first.ensures.fits c.opening_globals-first.ensures.opening in
+    global_first config c.config-config.ensures.runnable cells c.opening_globals-first.result.now k x c.cells-test.true c.index-cells-at.is v c.first_value-initial.ensures c.globals-cells.ensures
+    c.opening_globals-first.ensures.fits c.opening_globals-first.ensures.opening in
     let takes : TakesVariable x.path x.scalar (Some v) text value behind =
-        some_taken {X = Value × Bor (List ℕ)} (IsAbsent x.path text) (λ p. TakesVariable x.path x.scalar (Some v) text p.0 p.1.now) c.in-Ok.taken (value, c.in-Some.behind) c.in-Some.is c.in-Ok.ensures.found in
+    some_taken {X = Value × Bor (List ℕ)} (IsAbsent x.path text) (λ p. TakesVariable x.path x.scalar (Some v) text p.0 p.1.now) c.in-Ok.taken (value, c.in-Some.behind) c.in-Some.is c.in-Ok.ensures.found in
     let room : c.cells.line + length text < 18446744073709551616 = c.cells.invariant.room in
     let shorter : length behind < length text = variable_shorter x.path x.scalar (Some v) text behind value takes in
     record {
@@ -66,7 +66,7 @@ cells-preserved-in_default c =
     let text = c.cells.rest.now in
     let there = at_place cells k x c.cells-test.true c.index-cells-at.is in
     let absent : IsAbsent x.path text =
-        none_taken {X = Value × Bor (List ℕ)} (IsAbsent x.path text) (λ p. TakesVariable x.path x.scalar (Some v) text p.0 p.1.now) c.in-Ok.taken c.in_default.is c.in-Ok.ensures.found in
+    none_taken {X = Value × Bor (List ℕ)} (IsAbsent x.path text) (λ p. TakesVariable x.path x.scalar (Some v) text p.0 p.1.now) c.in-Ok.taken c.in_default.is c.in-Ok.ensures.found in
     record {
       config = c.cells.invariant.config;
       group = c.cells.invariant.group;

@@ -27,10 +27,12 @@ cells-init c =
       config = refl;
       split = c.split-next.ensures;
       room = c.requires.room;
-      task =
-          (opening_variables config u, opened_again config c.args.core.now.group t u program c.requires.opened,
-          λ w is to h.
-            subst (λ (y : ProgramUnit). TakesVariables (task_path t) (opening_variables config w) cells (reached (opening_variables config y) c.args.from.rest.now c.args.from.line) to) (same_Some u w (sym program ∙ is)) h);
+      task = (
+        opening_variables config u,
+        opened_again config c.args.core.now.group t u program c.requires.opened,
+        λ w is to h.
+            subst (λ (y : ProgramUnit). TakesVariables (task_path t) (opening_variables config w) cells (reached (opening_variables config y) c.args.from.rest.now c.args.from.line) to) (same_Some u w (sym program ∙ is)) h,
+      );
       wrong = λ w is wrong h. h;
     }
 
@@ -53,8 +55,8 @@ returns-in-Err-clause-wrong c =
     let cells = c.own_cells-cells.result.now in
     let own = c.own_cells-cells.ensures u program in
     let first =
-        own_first config c.config-config.ensures.runnable cells c.opening_variables-first.result.now c.cells.at x c.cells-test.true c.index-cells-at.is c.first_value-initial.result c.first_value-initial.ensures t u program own
-        c.opening_variables-first.ensures.fits (c.opening_variables-first.ensures.variables u program) in
+    own_first config c.config-config.ensures.runnable cells c.opening_variables-first.result.now c.cells.at x c.cells-test.true c.index-cells-at.is c.first_value-initial.result c.first_value-initial.ensures t u program own
+    c.opening_variables-first.ensures.fits (c.opening_variables-first.ensures.variables u program) in
     task_refused config t u (program_of config t) (left c.args.from.rest.now c.args.from.line) _ cells program own
     (c.cells.invariant.wrong u program _
     (breaks_at (task_path t) (opening_variables config u) cells c.cells.at (c.cells.at + 1) x (at_place cells c.cells.at x c.cells-test.true c.index-cells-at.is) refl (Some c.first_value-initial.result) first
@@ -73,12 +75,12 @@ cells-preserved c =
     let value = c.in-Some.value in
     let there = at_place cells k x c.cells-test.true c.index-cells-at.is in
     let first : (w : ProgramUnit) → program_of config t ≡ Some w → Some v ≡ get (opening_variables config w) x.path =
-        λ w is.
-          own_first config c.config-config.ensures.runnable cells c.opening_variables-first.result.now k x c.cells-test.true c.index-cells-at.is v c.first_value-initial.ensures t w is (c.own_cells-cells.ensures w is)
-          c.opening_variables-first.ensures.fits (c.opening_variables-first.ensures.variables w is) in
+    λ w is.
+    own_first config c.config-config.ensures.runnable cells c.opening_variables-first.result.now k x c.cells-test.true c.index-cells-at.is v c.first_value-initial.ensures t w is (c.own_cells-cells.ensures w is)
+    c.opening_variables-first.ensures.fits (c.opening_variables-first.ensures.variables w is) in
     let takes : TakesVariable (task_path t x.path) x.scalar (Some v) text value behind =
-        some_taken {X = Value × Bor (List ℕ)} (IsAbsent (task_path t x.path) text) (λ p. TakesVariable (task_path t x.path) x.scalar (Some v) text p.0 p.1.now) c.in-Ok.taken (value, c.in-Some.behind) c.in-Some.is
-        c.in-Ok.ensures.found in
+    some_taken {X = Value × Bor (List ℕ)} (IsAbsent (task_path t x.path) text) (λ p. TakesVariable (task_path t x.path) x.scalar (Some v) text p.0 p.1.now) c.in-Ok.taken (value, c.in-Some.behind) c.in-Some.is
+    c.in-Ok.ensures.found in
     let room : c.cells.line + length text < 18446744073709551616 = c.cells.invariant.room in
     let shorter : length behind < length text = variable_shorter (task_path t x.path) x.scalar (Some v) text behind value takes in
     let now = c.cells.invariant.task in
@@ -89,9 +91,11 @@ cells-preserved c =
       config = c.set_variable.ensures.config ∙ c.cells.invariant.config;
       split = c.split-next-in-cells.ensures;
       room = omega (arith, room, shorter);
-      task =
-          (values, variables_again old c.cells.core.group c.set_variable.new.core.group t now.0 values now.1 (c.set_variable.ensures.group (at_rest now.0) held),
-          λ w is to h. now.2 w is to (gives (task_path t) (opening_variables config w) cells k (k + 1) x there refl (Some v) (first w is) now.0 text behind c.cells.line value to takes h));
+      task = (
+        values,
+        variables_again old c.cells.core.group c.set_variable.new.core.group t now.0 values now.1 (c.set_variable.ensures.group (at_rest now.0) held),
+        λ w is to h. now.2 w is to (gives (task_path t) (opening_variables config w) cells k (k + 1) x there refl (Some v) (first w is) now.0 text behind c.cells.line value to takes h),
+      );
       wrong = λ w is wrong h. c.cells.invariant.wrong w is wrong (gives_wrong (task_path t) (opening_variables config w) cells k (k + 1) x there refl (Some v) (first w is) text behind c.cells.line value wrong takes h);
     }
 
@@ -106,7 +110,7 @@ cells-preserved-in_default c =
     let text = c.cells.rest.now in
     let there = at_place cells k x c.cells-test.true c.index-cells-at.is in
     let absent : IsAbsent (task_path t x.path) text =
-        none_taken {X = Value × Bor (List ℕ)} (IsAbsent (task_path t x.path) text) (λ p. TakesVariable (task_path t x.path) x.scalar (Some v) text p.0 p.1.now) c.in-Ok.taken c.in_default.is c.in-Ok.ensures.found in
+    none_taken {X = Value × Bor (List ℕ)} (IsAbsent (task_path t x.path) text) (λ p. TakesVariable (task_path t x.path) x.scalar (Some v) text p.0 p.1.now) c.in-Ok.taken c.in_default.is c.in-Ok.ensures.found in
     let now = c.cells.invariant.task in
     record {
       config = c.cells.invariant.config;

@@ -23,9 +23,12 @@ tasks-init c =
     record {
       config = refl;
       room = c.requires.room;
-      tasks =
-          ([], refl, tasks_begin config c.args.core.now.group c.requires.opened,
-          λ others to h. subst (λ n. TakesTasks config 0 n (left_of c.args.from) others to) none h);
+      tasks = (
+        [],
+        refl,
+        tasks_begin config c.args.core.now.group c.requires.opened,
+        λ others to h. subst (λ n. TakesTasks config 0 n (left_of c.args.from) others to) none h,
+      );
       wrong = λ wrong h. subst (λ n. RefusesTasks config 0 n (left_of c.args.from) wrong) none h;
     }
 
@@ -62,11 +65,13 @@ tasks-preserved c =
     record {
       config = c.in_ok-to.ensures.config ∙ c.tasks.invariant.config;
       room = c.in_ok-to.ensures.room;
-      tasks =
-          (now.0 ++ found.task ∷ [], one_longer now.0 found.task k now.1,
-          next_set config c.tasks.core.group c.args.core.now.group c.take_if_there.new.core.group now.0 found.task k m n step now.1 now.2 found.others,
-          λ others to h.
-            task_then config k m n step now.0 (left_of c.tasks.to) (left_of c.in_ok-to.to) found.task found.takes (λ ts at. TakesTasks config 0 (suc cars) (left_of c.args.from) ts at) now.3 others to h);
+      tasks = (
+        now.0 ++ found.task ∷ [],
+        one_longer now.0 found.task k now.1,
+        next_set config c.tasks.core.group c.args.core.now.group c.take_if_there.new.core.group now.0 found.task k m n step now.1 now.2 found.others,
+        λ others to h.
+            task_then config k m n step now.0 (left_of c.tasks.to) (left_of c.in_ok-to.to) found.task found.takes (λ ts at. TakesTasks config 0 (suc cars) (left_of c.args.from) ts at) now.3 others to h,
+      );
       wrong = λ wrong h.
           task_then_wrong config k m n step now.0 (left_of c.tasks.to) (left_of c.in_ok-to.to) found.task found.takes (RefusesTasks config 0 (suc cars) (left_of c.args.from) wrong) wrong (c.tasks.invariant.wrong wrong) h;
     }

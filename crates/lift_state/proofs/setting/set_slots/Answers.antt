@@ -43,7 +43,7 @@ slots-preserved c =
     let low : k < length slots = c.slots-test.true in
     let count : length old.calls.slots ≡ (sizes_of c.args.core.now.config).slots = ap length c.requires.free ∙ free_length (sizes_of c.args.core.now.config).slots in
     let next : with_slot (take k slots ++ drop k old.calls.slots) (k + 1) x ≡ take (k + 1) slots ++ drop (k + 1) old.calls.slots =
-        ap (λ n. with_slot (take k slots ++ drop k old.calls.slots) n x) (let e : k + 1 ≡ suc k = omega arith in e) ∙ placed slots old.calls.slots k (k + 1) x (at_index slots k Free low) (omega (arith, low, count, c.requires.holds.count)) refl in
+    ap (λ n. with_slot (take k slots ++ drop k old.calls.slots) n x) (let e : k + 1 ≡ suc k = omega arith in e) ∙ placed slots old.calls.slots k (k + 1) x (at_index slots k Free low) (omega (arith, low, count, c.requires.holds.count)) refl in
     record {
       config = c.set_slot.ensures.config ∙ c.slots.invariant.config;
       group = c.set_slot.ensures.group ∙ (ap (λ (g : Group). with_place g (k + 1) x) c.slots.invariant.group ∙ ap (with_slots old) next);

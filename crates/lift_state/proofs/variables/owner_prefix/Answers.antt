@@ -3,7 +3,6 @@ use Rattle.std.specs.Fmt.{digits}
 use Rattle.lift_state.specs.Parts.{owner_prefix, IsOwner}
 use Rattle.lift_state.proofs.variables.owner_prefix.Goals as goal
 
-
 car1 : ◌≡◌ {A = List ℕ} (67 ∷ 65 ∷ 82 ∷ 49 ∷ 46 ∷ []) (owner_prefix (Some 1))
 unfolding digits
 car1 = refl
