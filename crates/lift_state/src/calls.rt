@@ -249,7 +249,12 @@ pub fn take_calls(sizes: Sizes, text: &[u8]) -> Result<(Given, &[u8]), Wrong>
     ensures found { IfOk result (λ p. TakesCalls sizes text.now (calls_of p.0) p.1.now) }
     ensures wrong { IfErr result (λ wrong. RefusesCalls sizes text.now wrong) }
 {
-    let (last_ticket, rest) = match take_number(b"TICKETS", GREATEST_TICKET, GREATEST_TICKET, text) {
+    let (last_ticket, rest) = match take_number(
+        b"TICKETS",
+        GREATEST_TICKET,
+        GREATEST_TICKET,
+        text,
+    ) {
         Ok(taken) => taken,
         Err(fault) => {
             return Err(Wrong {

@@ -91,11 +91,7 @@ fn car_of(number: u8, line: &[u8]) -> Option<Car>
 }
 
 /// The car of the next line, which has to be that of this number, and what is behind the line.
-pub fn take_car(
-    sizes: Sizes,
-    number: u8,
-    text: &[u8],
-) -> Result<(Car, &[u8]), StateFault>
+pub fn take_car(sizes: Sizes, number: u8, text: &[u8]) -> Result<(Car, &[u8]), StateFault>
     ensures found { IfOk result (λ p. TakesCar sizes number text.now p.0 p.1.now) }
     ensures wrong { IfErr result (λ fault. RefusesCar sizes number text.now fault) }
 {

@@ -31,11 +31,7 @@ pub fn put_state(text: &mut String, world: &World, digest: &[u8; 32]) -> Result<
     put_configuration(text, digest)?;
     let image = world.image();
     put_fields(text, &image.fields)?;
-    put_cars(
-        text,
-        image.fields.cars.as_slice(),
-        image.outputs.as_slice(),
-    )?;
+    put_cars(text, image.fields.cars.as_slice(), image.outputs.as_slice())?;
     put_tickets(text, world.last_ticket())?;
     put_slots(text, world.slots().as_slice())?;
     put_globals(text, world)?;
