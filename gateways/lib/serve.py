@@ -56,7 +56,7 @@ def find_program(named: str = "") -> Program:
     for path, is_proved in ((f"{build}/liftplc", True), (f"{build}/optimised/liftplc", False), (f"{build}/unproved/liftplc", False)):
         if is_program(path):
             return Program(path, is_proved)
-    raise NoProgram(f"{build} has no program: run ./liftplc --prove")
+    raise NoProgram(f"{build} has no program: run ./liftplc check FILE (unproved, in minutes) or ./liftplc --prove")
 
 
 def is_program(path: str) -> bool:
