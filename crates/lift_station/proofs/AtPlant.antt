@@ -20,7 +20,7 @@ use Rattle.lift_journal.specs.declared.fault.StationFault.{StationFault}
 use Rattle.lift_journal.specs.declared.fault.StationFault.TheVariants.{FieldOutOfRange}
 use Rattle.lift_journal.proofs.Driven.{leads_more}
 use Rattle.lift_journal.proofs.Taking.{fields_so}
-use Rattle.lift_station.specs.Ledgers.{refresh_fault, full_fault, fault_in}
+use Rattle.lift_book.specs.Ledgers.{refresh_fault, full_fault, fault_in}
 use Rattle.lift_station.specs.Counted.{Counted, IsAtPlant}
 
 -- the journal with one entry more is driven, where the entry takes the plant on

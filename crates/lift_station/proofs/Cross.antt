@@ -4,7 +4,7 @@ use denote.Param.Send.{IsSend, IsSync, sendable, view_send}
 use denote.Param.SendFields.{declared_send}
 use Rattle.std.proofs.Crossing.{crosses}
 use Rattle.std.proofs.sync.Mutex.TheSendSync as mutex
-use Rattle.lift_station.proofs.BookCross.{Store-send, Book-send}
+use Rattle.lift_book.proofs.Cross.{Store-send, Book-send}
 use Rattle.lift_station.specs.declared.actor.Naming.{Ghosts}
 use Rattle.lift_station.specs.contracts.locked.Locked as Locked
 use Rattle.lift_station.specs.contracts.passes.TaskPass as TaskPass

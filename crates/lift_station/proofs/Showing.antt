@@ -22,7 +22,7 @@ use Rattle.lift_spec.specs.Limits.{most_cars}
 use Rattle.lift_journal.specs.Journal.{entries_by, calls_entered, refresher, calls_entering, IsJournalOf}
 use Rattle.lift_journal.specs.Pages.{Page, Kept, Adds, IsSnapped, IsShown, IsTold}
 use Rattle.lift_journal.proofs.Journals.{entries_alternate}
-use Rattle.lift_station.specs.Ledgers.{SnappedNow, IsOpenHere, start_fault, full_fault, fault_in}
+use Rattle.lift_book.specs.Ledgers.{SnappedNow, IsOpenHere, start_fault, full_fault, fault_in}
 use Rattle.lift_station.specs.Counted.{IsNoneOrFull, calls_in, IsCommitted, IsTurned, IsRefreshed}
 
 pub snapped_so : (c : Config) (b : Page) → b.config ≡ c → Kept b → (t count : ℕ) → entries_by t b.journal ≡ count → (scan : State) → SnappedNow b t scan → IsSnapped c t count scan

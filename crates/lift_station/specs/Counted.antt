@@ -18,7 +18,7 @@ use Rattle.lift_plant.specs.Switches.{under}
 use Rattle.lift_journal.specs.Driven.{IsDrivenJournal}
 use Rattle.lift_journal.specs.Journal.{entries_by, calls_entered, refresher, calls_entering}
 use Rattle.lift_journal.specs.Pages.{Page, Kept, Adds}
-use Rattle.lift_station.specs.Ledgers.{IsOpenHere, SnappedNow, start_fault, fault_in}
+use Rattle.lift_book.specs.Ledgers.{IsOpenHere, SnappedNow, start_fault, fault_in}
 
 -- the totals are the numbers of entries of the actors; one more counts the refreshes by the plant
 pub record Counted (totals : List ℕ) (journal : List Entry) : Type 0 where

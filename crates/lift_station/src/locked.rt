@@ -13,15 +13,15 @@ ghost use Rattle.lift_journal.specs.Driven.{IsDrivenJournal, first_plant};
 ghost use Rattle.lift_journal.specs.Pages.{Page, Adds, Kept, IsSnapped, IsShown, IsTold};
 ghost use Rattle.lift_spec.specs.declared.journal.Entry.TheVariants as entry;
 ghost use Rattle.lift_journal.specs.declared.fault.StationFault.TheVariants.{FieldOutOfRange, NotOpen, AlreadyOpen};
-ghost use Rattle.lift_station.specs.Ledgers.{fault_of, fault_in, full_fault, start_fault, refresh_fault, IsOpenHere, SnappedNow};
+ghost use Rattle.lift_book.specs.Ledgers.{fault_of, fault_in, full_fault, start_fault, refresh_fault, IsOpenHere, SnappedNow};
 ghost use Rattle.lift_station.specs.Passes.{task_of, count_of, CountsOne, KeepsStore};
 ghost use Rattle.lift_station.specs.Counted.{IsNoneOrFull, calls_in, IsCommitted, IsTurned, IsRefreshed, IsDrivenOn};
 
-use crate::Book;
 use crate::actor::{Counts, Naming, RefreshPass, TaskShare};
 use crate::passes::TaskPass;
 use crate::tally::Tally;
 use il_machine::{OpenScan, Scanned, Store, Verified};
+use lift_book::Book;
 use lift_journal::fault::StationFault;
 use lift_plant::plant::{Plant, plant_step};
 use lift_plant::switches::Switches;

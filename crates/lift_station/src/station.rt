@@ -10,19 +10,19 @@ ghost use Rattle.lift_journal.specs.Journal.{calls_entered, entries_by, refreshe
 ghost use Rattle.lift_journal.specs.Driven.{IsDrivenJournal, first_plant};
 ghost use Rattle.lift_journal.specs.Pages.{Kept, IsSnapped, IsShown, IsTold};
 ghost use Rattle.lift_journal.specs.declared.fault.StationFault.TheVariants.{FieldOutOfRange, JournalFull, NotOpen, AlreadyOpen};
-ghost use Rattle.lift_station.specs.Ledgers.{fault_of, fault_in};
+ghost use Rattle.lift_book.specs.Ledgers.{fault_of, fault_in};
 ghost use Rattle.lift_desk.specs.Account.{times, membership};
 ghost use Rattle.lift_spec.specs.declared.calls.Call.{Call};
 ghost use Rattle.lift_station.specs.Passes.{task_of, count_of, counts_one, is_task, all_tasks};
 ghost use Rattle.lift_station.specs.Counted.{IsNoneOrFull, calls_in, IsCommitted, IsTurned, IsRefreshed, IsDrivenOn};
 
-use crate::Book;
 use crate::actor::{Blanks, Books, Naming, RefreshPass, TaskShare};
 use crate::locked::Locked;
 use crate::ours::Ours;
 use crate::passes::TaskPass;
 use il_machine::{OpenScan, Scanned, Store, Verified, scan};
 use il_spec::fault::Refusal;
+use lift_book::Book;
 use lift_desk::HandPass;
 use lift_journal::fault::StationFault;
 use lift_plant::plant::Plant;

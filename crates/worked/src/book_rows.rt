@@ -6,11 +6,11 @@ ghost use Rattle.il_machine.specs.Scanning.{HasTask};
 use crate::group::fields;
 use crate::texts::{TWO_IDLE, TWO_SLOTS};
 use il_machine::{OpenScan, Store, Verified, scan};
+use lift_book::Book;
 use lift_load::load;
 use lift_spec::calls::Call;
 use lift_spec::hand::Hand;
 use lift_spec::report::Report;
-use lift_station::Book;
 use std::alloc::Global;
 
 // What a commit and a start were answered, by the number of a fault or 0, and how many entries the journal has.
