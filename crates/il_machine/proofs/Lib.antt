@@ -20,3 +20,4 @@ pub mod Planned
 pub mod Standing
 pub mod Shown
 pub mod Looked
+pub mod Changed

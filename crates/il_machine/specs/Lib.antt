@@ -6,3 +6,4 @@ pub mod Standing
 pub mod Ran
 pub mod Sharing
 pub mod Looking
+pub mod Setting

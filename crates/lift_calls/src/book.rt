@@ -229,8 +229,8 @@ impl CallBook {
         Some(bit + 1)
     }
 
-    // Replaces the slot of a number.
-    fn set(&mut self, slot: u8, place: Slot)
+    /// Replaces the slot of a number.
+    pub fn put(&mut self, slot: u8, place: Slot)
         requires { (1 ≤ slot) × (slot ≤ length self.old.slots) }
         ensures slots { self.new.slots ≡ with_slot self.old.slots slot place }
         ensures ticket { self.new.last_ticket ≡ self.old.last_ticket }
@@ -245,6 +245,15 @@ impl CallBook {
         self.calls[index] = call;
         self.cars[index] = car;
         self.columns.set(index, place);
+    }
+
+    /// The last ticket that was given is this one.
+    pub fn give(&mut self, last: u64)
+        requires { last ≤ greatest_ticket }
+        ensures slots { self.new.slots ≡ self.old.slots }
+        ensures ticket { self.new.last_ticket ≡ last }
+    {
+        self.given = last;
     }
 
     /// Enters a call into the lowest Free slot, under the next ticket: 1 first, then always 1 more.
@@ -262,7 +271,7 @@ impl CallBook {
             return Entering::Kept;
         };
         let ticket = self.given + 1;
-        self.set(slot, Slot::Waiting { ticket, call });
+        self.put(slot, Slot::Waiting { ticket, call });
         self.given = ticket;
         Entering::Done { slot, ticket }
     }
@@ -282,7 +291,7 @@ impl CallBook {
                 ticket: waiting,
                 call,
             } if waiting == ticket => {
-                self.set(slot, Slot::Told { ticket, call, car });
+                self.put(slot, Slot::Told { ticket, call, car });
                 Answer::Done
             }
             _ => Answer::Stale,
@@ -309,7 +318,7 @@ impl CallBook {
                 if owner != car {
                     return Answer::NotYours;
                 }
-                self.set(slot, Slot::Free);
+                self.put(slot, Slot::Free);
                 Answer::Done
             }
             _ => Answer::Stale,

@@ -15,7 +15,7 @@ use Rattle.lift_spec.specs.World.{World, opening, happens, refreshes}
 use Rattle.lift_spec.proofs.Laws.{fields_in_range_means}
 use Rattle.lift_run_laws.specs.Accepted.{IsSound}
 use Rattle.lift_run_laws.specs.Runs.{IsReached, HasNoRefresh, fields_behind}
-use Rattle.lift_run_laws.proofs.Accepted.{accepted_runs_well}
+use Rattle.lift_run_laws.proofs.Histories.{reached_well}
 use Rattle.lift_run_laws.proofs.Fields.{fields_changed, fields_kept}
 use Rattle.lift_run_laws.proofs.Following.{goes_on}
 use Rattle.lift_plant.specs.declared.switches.Switches.{Switches}
@@ -81,7 +81,7 @@ step_is_safe c sound switches w m (entry.Commit t) answer before next driven ste
 step_is_safe c sound switches w m (entry.Refresh fields entered) answer before next driven step (moved, told_fields) =
     let sizes = sizes_of c in
     let two = two_floors c sound in
-    let here = (accepted_runs_well c sound).well driven.reached.events w driven.reached.replies driven.reached.is in
+    let here = reached_well c sound w driven.reached in
     let image = w.group.image in
     let obeys : ObeysWithOwnFields before image.outputs = without_fire image before driven.shown here.obeys in
     let many : length image.outputs ≡ length before.cars = obeys.cars ∙ fields_length before.floors before.cars in

@@ -18,7 +18,8 @@ use Rattle.lift_run_laws.specs.Accepted.{IsSound}
 use Rattle.lift_run_laws.specs.Holding.{SeatHolds, TaskHolds, WorldHolds}
 use Rattle.lift_run_laws.specs.Runs.{IsReached}
 use Rattle.std.proofs.lemmas.List.{append_assoc}
-use Rattle.lift_run_laws.proofs.Accepted.{accepted_runs_well, opens_well, scans_well}
+use Rattle.lift_run_laws.proofs.Accepted.{opens_well, scans_well}
+use Rattle.lift_run_laws.proofs.Histories.{reached_well}
 use Rattle.lift_run_laws.proofs.Following.{follow, before, ended, same_end, goes_on}
 use Rattle.lift_run_laws.proofs.Lists.{get_other, same_or_other}
 use Rattle.lift_run_laws.proofs.Running.{reached_world_holds}
@@ -61,7 +62,7 @@ runs_reach c [] w v reached same = subst (IsReached c) same reached
 runs_reach c (e ∷ entries) w v reached (m, answer, step, rest) = runs_reach c entries m v (goes_on c w m [] (step.replies ++ answer ∷ []) (events_of step.instructions e) reached step.happens) rest
 
 pub opening_reached : (c : Config) → IsReached c (opening c)
-opening_reached c = record { events = []; replies = []; is = refl }
+opening_reached c = record { base = opening c; begins = inl refl; events = []; replies = []; is = refl }
 
 pub journal_reaches : (c : Config) (entries : List Entry) (w : World) → IsJournalOf c entries w → IsReached c w
 journal_reaches c entries w runs = runs_reach c entries (opening c) w (opening_reached c) runs
@@ -69,7 +70,7 @@ journal_reaches c entries w runs = runs_reach c entries (opening c) w (opening_r
 pub journal_is_well : (c : Config) → IsSound c → (entries : List Entry) (w : World) → IsJournalOf c entries w → InRanges c w.group × Obeys w.group.image
 journal_is_well c sound entries w runs =
     let reached = journal_reaches c entries w runs in
-    let well = (accepted_runs_well c sound).well reached.events w reached.replies reached.is in
+    let well = reached_well c sound w reached in
     (well.ranges, well.obeys)
 
 -- WHOSE SCANS ARE OPEN
@@ -213,7 +214,7 @@ refreshes_scans w v fields r false e = ap (λ (x : World). x.scans) (sym (same_w
 refreshes_scans w v fields r true e = ap (λ (x : World). x.scans) (sym (same_world _ v _ r e).0)
 
 -- an event of no task
-data IsQuiet : Event → Type 0 where
+pub data IsQuiet : Event → Type 0 where
   pressing : {call : Call} → IsQuiet (Press call)
   gathering : {floor : ℕ} → IsQuiet (Gather floor)
   refreshing : {fields : Fields} → IsQuiet (Refresh fields)
@@ -227,11 +228,11 @@ quiet_scans c w v (Press call) r pressing is = presses_scans w v call r _ (call.
 quiet_scans c w v (Gather floor) r gathering is = gathers_scans w v floor r _ (has_from w.hand floor) refl is
 quiet_scans c w v (Refresh fields) r refreshing is = refreshes_scans w v fields r _ is
 
-abbrev AreQuiet : List Event → Type 0
+abbrev pub AreQuiet : List Event → Type 0
 AreQuiet [] = Unit {0}
 AreQuiet (e ∷ events) = IsQuiet e × AreQuiet events
 
-quiet_run : (c : Config) (events : List Event) (w v : World) (earlier all : List Reply) → AreQuiet events → Ends c w earlier events v all → AreAccepted all → v.scans ≡ w.scans
+pub quiet_run : (c : Config) (events : List Event) (w v : World) (earlier all : List Reply) → AreQuiet events → Ends c w earlier events v all → AreAccepted all → v.scans ≡ w.scans
 quiet_run c [] w v earlier all quiet is accepted = ap (λ (x : World). x.scans) (sym (ended_run c w v earlier all is))
 quiet_run c (e ∷ events) w v earlier all quiet is accepted =
     let g = takes_first c w v earlier all e events is accepted in
@@ -256,7 +257,7 @@ pub record Opens (w v : World) (e : Entry) (t : ℕ) : Type 0 where
   pub may : MayFollow t (is_some (scan_at w t)) e
   pub left : is_some (scan_at v t) ≡ open_after t (is_some (scan_at w t)) e
 
-by_task : (w v : World) (u t : ℕ) (now : Bool) → Puts w v u now → is_some (scan_at v t) ≡ (if u == t then now else is_some (scan_at w t))
+pub by_task : (w v : World) (u t : ℕ) (now : Bool) → Puts w v u now → is_some (scan_at v t) ≡ (if u == t then now else is_some (scan_at w t))
 by_task w v u t now p = by (same_or_other u t)
   where
     by : ((u ≡ t) × ((u == t) ≡ true)) ⊎ ((u ≡ t → ⊥) × ((u == t) ≡ false)) → is_some (scan_at v t) ≡ (if u == t then now else is_some (scan_at w t))

@@ -22,7 +22,7 @@ use Rattle.lift_run_laws.specs.Runs.{IsReached}
 use Rattle.lift_run_laws.specs.Tasks.{budget_of}
 use Rattle.lift_run_laws.proofs.Accepted.{accepted_runs_well}
 use Rattle.lift_run_laws.proofs.Following.{appends, follow, before, goes_on}
-use Rattle.lift_run_laws.proofs.Histories.{event_is_run}
+use Rattle.lift_run_laws.proofs.Histories.{event_is_run, from_base, reached_well}
 use Rattle.lift_spec.specs.declared.journal.Entry.{Entry}
 use Rattle.lift_spec.specs.declared.journal.Entry.TheVariants as entry
 use Rattle.lift_plant.specs.declared.switches.Switches.{Switches}
@@ -133,10 +133,10 @@ answered_steps t (suc (suc n)) k =
 -- so many instructions are within the budget of the task
 steps_within : (c : Config) → IsSound c → (t n : ℕ) (w v : World) → IsReached c w → run c w [] (replicate n (Instruction t)) ≡ Ok (v, ending n) → n ≤ budget_of c t
 steps_within c sound t n w v reached is =
-    let all = accepted_runs_well c sound in
+    let all = from_base c (accepted_runs_well c sound) reached.base reached.begins in
     let here = all.well reached.events w reached.replies reached.is in
-    let longer : run c (opening c) [] (reached.events ++ replicate n (Instruction t)) ≡ Ok (v, reached.replies ++ ending n) =
-    appends c (opening c) [] reached.events (replicate n (Instruction t)) ∙ ap (λ r. and_then r (λ m. run c m.0 m.1 (replicate n (Instruction t)))) reached.is ∙ follow c w reached.replies (replicate n (Instruction t)) ∙ ap (before reached.replies) is
+    let longer : run c reached.base [] (reached.events ++ replicate n (Instruction t)) ≡ Ok (v, reached.replies ++ ending n) =
+    appends c reached.base [] reached.events (replicate n (Instruction t)) ∙ ap (λ r. and_then r (λ m. run c m.0 m.1 (replicate n (Instruction t)))) reached.is ∙ follow c w reached.replies (replicate n (Instruction t)) ∙ ap (before reached.replies) is
     in
     let there = (all.well (reached.events ++ replicate n (Instruction t)) v (reached.replies ++ ending n) longer).within t in
     let count = answered_append t 0 reached.events (replicate n (Instruction t)) reached.replies (ending n) here.replies ∙ answered_steps t n (answered t 0 reached.events reached.replies) in
@@ -163,7 +163,7 @@ finish_enters c sound t w v reached f =
       accepted = accepted_append (ending n) (Committed f.report ∷ []) (ending_accepted n) (tt, tt);
     }
 
-finish_reached : (c : Config) (t : ℕ) (w v : World) → IsReached c w → FinishesAndCommits c t w v → IsReached c v
+pub finish_reached : (c : Config) (t : ℕ) (w v : World) → IsReached c w → FinishesAndCommits c t w v → IsReached c v
 finish_reached c t w v reached f = event_reached c f.at_end v (Commit t) (Committed f.report) (goes_on c w f.at_end [] (ending f.finish.instructions) (replicate f.finish.instructions (Instruction t)) reached f.finish.steps) f.commit
 
 pub scan_reached : (c : Config) (t : ℕ) (w v : World) → IsReached c w → Scans c t w v → IsReached c v
@@ -302,7 +302,7 @@ reports_entered g fields hand after report is = ap (λ (r : Group × Report). en
 pub refresh_runs : (c : Config) → IsSound c → (w v : World) (fields : Fields) (report : Report) → IsReached c w → happens c w (Refresh fields) ≡ Ok (v, Refreshed report) → Enters c (cleared w) (entry.Refresh fields (entered_calls_of report)) (cleared v) (Refreshed report)
 refresh_runs c sound w v fields report reached is =
     let r = refresh_of c w v fields report is in
-    let here = (accepted_runs_well c sound).well reached.events w reached.replies reached.is in
+    let here = reached_well c sound w reached in
     subst (λ calls. Enters c (cleared w) (entry.Refresh fields calls) (cleared v) (Refreshed report)) (sym (reports_entered w.group fields w.hand v.group report r.group))
     (refresh_is_step c (cleared w) (cleared v) fields w.hand report refl refl r.inside (all_calls (sizes_of c) w.hand here.hand.each) here.hand.in_order r.group r.scans refl refl)
 

@@ -15,7 +15,7 @@ use Rattle.lift_spec.specs.Replies.{Started, Committed, Refreshed}
 use Rattle.lift_spec.specs.World.{World, opening}
 use Rattle.lift_run_laws.specs.Accepted.{IsSound}
 use Rattle.lift_run_laws.specs.Runs.{HasNoRefresh}
-use Rattle.lift_run_laws.proofs.Accepted.{accepted_runs_well}
+use Rattle.lift_run_laws.proofs.Histories.{reached_well}
 use Rattle.lift_run_laws.proofs.Fields.{fields_changed, fields_kept}
 use Rattle.lift_run_laws.proofs.Tasks.{floors_within}
 use Rattle.lift_spec.proofs.Laws.{fields_in_range_means}
@@ -71,7 +71,7 @@ driven_is_safe c sound calls switches before next w v entries driven round =
     let sizes = sizes_of c in
     let two = two_floors c sound in
     let gathered = happen_reached c w round.gathered (desk_events c calls) driven.reached round.desk in
-    let here = (accepted_runs_well c sound).well gathered.events round.gathered gathered.replies gathered.is in
+    let here = reached_well c sound round.gathered gathered in
     let same : round.gathered.group ≡ w.group = ap (λ (x : World). x.group) (desk_leaves c calls w round.gathered round.desk) in
     let image = round.gathered.group.image in
     let shown : image.fields ≡ fields_of_plant before = ap (λ g. g.image.fields) same ∙ driven.shown in

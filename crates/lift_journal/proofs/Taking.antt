@@ -25,7 +25,7 @@ use Rattle.lift_spec.specs.World.{World, TaskState, Next, flat, task_at, scan_at
 use Rattle.lift_run_laws.specs.Accepted.{IsSound}
 use Rattle.lift_run_laws.specs.Runs.{IsReached}
 use Rattle.lift_run_laws.specs.Tasks.{IsTaskOf}
-use Rattle.lift_run_laws.proofs.Accepted.{accepted_runs_well}
+use Rattle.lift_run_laws.proofs.Histories.{reached_well}
 use Rattle.lift_run_laws.proofs.Following.{appends, follow, before, same_end}
 use Rattle.lift_run_laws.proofs.Lists.{same_or_other}
 use Rattle.lift_run_laws.proofs.Seats.{flat_same}
@@ -130,7 +130,7 @@ start_by c w v t u r task is there closed among e =
 -- a task of the group starts, where no scan of it is open
 pub start_begins : (c : Config) → IsSound c → (w v : World) (t : ℕ) (u : ProgramUnit) (r : Reply) → IsReached c w → IsTaskOf c t u → is_some (scan_at w t) ≡ false → happens c w (Start t) ≡ Ok (v, r) → IsBegun c t w v r
 start_begins c sound w v t u r reached is closed e =
-    let well = (accepted_runs_well c sound).well reached.events w reached.replies reached.is in
+    let well = reached_well c sound w reached in
     let task = well.tasks t u is in
     start_by c w v t u r task.0 is task.1 (none_of (scan_at w t) closed) (has_place c sound w reached t task.0 task.1) e
 
@@ -244,7 +244,7 @@ closes w m v t first last closed j = by (same_or_other j t)
     by (inl same) = subst (λ k. is_some (scan_at v k) ≡ false) (sym same.0) last.own
     by (inr other) = ap is_some (last.others j other.0 ∙ first.others j other.0) ∙ closed j
 
-finish_closes : (c : Config) (t : ℕ) (w v : World) → FinishesAndCommits c t w v → Puts w v t false
+pub finish_closes : (c : Config) (t : ℕ) (w v : World) → FinishesAndCommits c t w v → Puts w v t false
 finish_closes c t w v f =
     let n = f.finish.instructions in
     let all = ending n ++ Committed f.report ∷ [] in
@@ -272,7 +272,7 @@ calls_left sizes (x ∷ xs) ys all = (all.0, calls_left sizes xs ys all.1)
 pub entered_are : (c : Config) → IsSound c → (w v : World) (fields : Fields) (report : Report) → IsReached c w → happens c w (Refresh fields) ≡ Ok (v, Refreshed report) → AllCalls (sizes_of c) (entered_calls_of report) × IsInOrder (entered_calls_of report)
 entered_are c sound w v fields report reached e =
     let r = refresh_of c w v fields report e in
-    let hand = ((accepted_runs_well c sound).well reached.events w reached.replies reached.is).hand in
+    let hand = (reached_well c sound w reached).hand in
     let same = reports_entered w.group fields w.hand v.group report r.group in
     let first = enters_first w.group.calls w.hand in (
       subst (AllCalls (sizes_of c)) (sym same) (calls_left (sizes_of c) _ _ (subst (AllCalls (sizes_of c)) first (all_calls (sizes_of c) w.hand hand.each))),

@@ -3,7 +3,7 @@ use Rattle.std.proofs.Common.{◌≡◌, List, [], ◌∷◌, ◌++◌, refl, sy
 use Rattle.il_spec.specs.declared.tree.Config.{Config}
 use Rattle.lift_spec.specs.declared.event.Event.{Event}
 use Rattle.lift_spec.specs.Replies.{Reply}
-use Rattle.lift_spec.specs.World.{World, Halt, Next, happens, run, and_then, opening}
+use Rattle.lift_spec.specs.World.{World, Halt, Next, happens, run, and_then}
 use Rattle.lift_run_laws.specs.Runs.{RunAppends, RepliesFollow, ReachedGoesOn}
 
 abbrev pub Runs : Type 0
@@ -57,8 +57,10 @@ pub goes_on : ReachedGoesOn
 goes_on c w v earlier replies es reached is =
     let more = ended c w v earlier replies (run c w [] es) (sym (follow c w earlier es) ∙ is) in
     record {
+      base = reached.base;
+      begins = reached.begins;
       events = reached.events ++ es;
       replies = reached.replies ++ more.0;
       is =
-          appends c (opening c) [] reached.events es ∙ ap (λ r. and_then r (λ n. run c n.0 n.1 es)) reached.is ∙ follow c w reached.replies es ∙ ap (before reached.replies) more.1;
+          appends c reached.base [] reached.events es ∙ ap (λ r. and_then r (λ n. run c n.0 n.1 es)) reached.is ∙ follow c w reached.replies es ∙ ap (before reached.replies) more.1;
     }

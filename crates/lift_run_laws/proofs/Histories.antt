@@ -1,11 +1,12 @@
 -- Runs that go on after a history.
-use Rattle.std.proofs.Common.{◌≡◌, List, [], ◌∷◌, ◌++◌, refl, sym, ap, ◌∙◌, Ok, Err}
+use Rattle.std.proofs.Common.{◌≡◌, ◌⊎◌, inl, inr, subst, List, [], ◌∷◌, ◌++◌, refl, sym, ap, ◌∙◌, Ok, Err}
 use Rattle.std.specs.Prelude.{IsOk, flat_map}
 use Rattle.il_spec.specs.declared.tree.Config.{Config}
 use Rattle.lift_spec.specs.declared.event.Event.{Event}
 use Rattle.lift_spec.specs.Replies.{Reply}
 use Rattle.lift_spec.specs.World.{World, Next, run, and_then, opening}
-use Rattle.lift_run_laws.specs.Histories.{IsHistory, RunsGoOn, CallGoesWell, CallsGoWell, EventIsRun, run_calls, CallsAreOneRun, IsCut, RunsAreCut}
+use Rattle.lift_run_laws.specs.Runs.{RunsWell, RunsWellFrom, WorldWellFrom, Begins, IsReached}
+use Rattle.lift_run_laws.specs.Histories.{IsHistoryFrom, RunsGoOn, CallGoesWell, CallsGoWell, EventIsRun, run_calls, CallsAreOneRun, IsCut, RunsAreCut}
 use Rattle.lift_run_laws.specs.Accepted.{IsSound}
 use Rattle.lift_run_laws.proofs.Following.{Runs, appends, before, follow, ended, same_end}
 use Rattle.lift_run_laws.proofs.Accepted.{accepted_runs_well}
@@ -16,16 +17,26 @@ steady_end : (r : Runs) → IsOk r → (n : World × List Reply) × (r ≡ Ok n)
 steady_end (Err halt) h = cc
 steady_end (Ok n) h = (n, refl)
 
+-- runs go well from wherever they begin
+pub from_base : (c : Config) → RunsWell c → (base : World) → Begins c base → RunsWellFrom c base
+from_base c runs base (inl is) = subst (RunsWellFrom c) (sym is) (record { steady = runs.steady; well = runs.well })
+from_base c runs base (inr rests) = runs.resumed base rests
+
+-- a world that is reached is well
+pub reached_well : (c : Config) → IsSound c → (w : World) (r : IsReached c w) → WorldWellFrom c r.base r.events r.replies w
+reached_well c sound w r = (from_base c (accepted_runs_well c sound) r.base r.begins).well r.events w r.replies r.is
+
 pub run_goes_on : RunsGoOn
-run_goes_on c runs past events answers w is =
-    let whole : run c (opening c) [] (past ++ events) ≡ run c w answers events = appends c (opening c) [] past events ∙ ap (λ r. and_then r (λ n. run c n.0 n.1 events)) is in
-    let last = steady_end (run c (opening c) [] (past ++ events)) (runs.steady (past ++ events)) in
+run_goes_on c runs base begins past events answers w is =
+    let from : RunsWellFrom c base = from_base c runs base begins in
+    let whole : run c base [] (past ++ events) ≡ run c w answers events = appends c base [] past events ∙ ap (λ r. and_then r (λ n. run c n.0 n.1 events)) is in
+    let last = steady_end (run c base [] (past ++ events)) (from.steady (past ++ events)) in
     let rest : (replies : List Reply) × (run c w [] events ≡ Ok (last.0.0, replies)) = ended c w last.0.0 answers last.0.1 (run c w [] events) (sym (follow c w answers events) ∙ sym whole ∙ last.1) in
-    let history : IsHistory c (past ++ events) (answers ++ rest.0) last.0.0 = whole ∙ follow c w answers events ∙ ap (before answers) rest.1 in
-    record { after = last.0.0; replies = rest.0; is = rest.1; history = history; well = runs.well (past ++ events) last.0.0 (answers ++ rest.0) history }
+    let history : IsHistoryFrom c base (past ++ events) (answers ++ rest.0) last.0.0 = whole ∙ follow c w answers events ∙ ap (before answers) rest.1 in
+    record { after = last.0.0; replies = rest.0; is = rest.1; history = history; well = from.well (past ++ events) last.0.0 (answers ++ rest.0) history }
 
 pub calls_go_well : CallsGoWell
-calls_go_well c runs w events past first rest answers history is = run_goes_on c runs past first answers w history
+calls_go_well c runs w events base begins past first rest answers history is = run_goes_on c runs base begins past first answers w history
 
 pub accepted_calls_go_well : (c : Config) → IsSound c → (w : World) (events : List Event) → CallGoesWell c w events
 accepted_calls_go_well c sound = calls_go_well c (accepted_runs_well c sound)

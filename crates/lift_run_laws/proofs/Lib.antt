@@ -12,6 +12,7 @@ pub mod Fields
 pub mod Seen
 pub mod Given
 pub mod Running
+pub mod Resting
 pub mod Tasks
 pub mod Accepted
 pub mod Histories

@@ -4,27 +4,34 @@ use Rattle.il_spec.specs.declared.tree.Config.{Config}
 use Rattle.lift_spec.specs.declared.event.Event.{Event}
 use Rattle.lift_spec.specs.Replies.{Reply}
 use Rattle.lift_spec.specs.World.{World, Halt, happens, run, and_then, opening}
-use Rattle.lift_run_laws.specs.Runs.{RunsWell, WorldWell}
+use Rattle.lift_run_laws.specs.Runs.{RunsWell, WorldWellFrom, Begins}
 
--- these events led from the opening to the world, and were answered so (own rule)
+-- these events led from one world to another, and were answered so (own rule)
+abbrev pub IsHistoryFrom : Config → World → List Event → List Reply → World → Type 0
+IsHistoryFrom c base past answers w = run c base [] past ≡ Ok (w, answers)
+
+-- the same from the opening (own rule)
 abbrev pub IsHistory : Config → List Event → List Reply → World → Type 0
-IsHistory c past answers w = run c (opening c) [] past ≡ Ok (w, answers)
+IsHistory c past answers w = IsHistoryFrom c (opening c) past answers w
 
 -- Events that follow a history run to their end, in a world to which the history and they lead, and which is well (own rule).
-pub record RunsOnWell (c : Config) (past : List Event) (answers : List Reply) (w : World) (events : List Event) : Type 0 where
+pub record RunsOnWell (c : Config) (base : World) (past : List Event) (answers : List Reply) (w : World) (events : List Event) : Type 0 where
   pub after : World
   pub replies : List Reply
   pub is : run c w [] events ≡ Ok (after, replies)
-  pub history : IsHistory c (past ++ events) (answers ++ replies) after
-  pub well : WorldWell c (past ++ events) (answers ++ replies) after
+  pub history : IsHistoryFrom c base (past ++ events) (answers ++ replies) after
+  pub well : WorldWellFrom c base (past ++ events) (answers ++ replies) after
 
 -- of a program that runs well each run goes on well, whatever has led to the world (own rule)
 abbrev pub RunsGoOn : Type 0
-RunsGoOn = (c : Config) → RunsWell c → (past events : List Event) (answers : List Reply) (w : World) → IsHistory c past answers w → RunsOnWell c past answers w events
+RunsGoOn =
+    (c : Config) → RunsWell c → (base : World) → Begins c base → (past events : List Event) (answers : List Reply) (w : World) → IsHistoryFrom c base past answers w → RunsOnWell c base past answers w events
 
--- What a call promises that hands in these events in this world: after every history that leads there, each prefix of them runs on well (own rule).
+-- What a call promises that hands in these events in this world: after every history that leads there, from the opening or from another world that rests, each prefix of
+-- them runs on well (own rule).
 abbrev pub CallGoesWell : Config → World → List Event → Type 0
-CallGoesWell c w events = (past first rest : List Event) (answers : List Reply) → IsHistory c past answers w → events ≡ first ++ rest → RunsOnWell c past answers w first
+CallGoesWell c w events =
+    (base : World) → Begins c base → (past first rest : List Event) (answers : List Reply) → IsHistoryFrom c base past answers w → events ≡ first ++ rest → RunsOnWell c base past answers w first
 
 -- each call of a program that runs well promises it (own rule)
 abbrev pub CallsGoWell : Type 0

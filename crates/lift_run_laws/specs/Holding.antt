@@ -1,12 +1,12 @@
 -- What every world of a run keeps (own rules).
-use Rattle.std.specs.Prelude.{◌≡◌, ℕ, zero, suc, ◌≤◌, List, [], ◌∷◌, All, map, length, Option, Some, None, Ok}
+use Rattle.std.specs.Prelude.{◌≡◌, ℕ, zero, suc, ◌≤◌, List, [], ◌∷◌, All, map, length, replicate, Option, Some, None, Ok}
 use Rattle.il_spec.specs.declared.tree.Config.{Config}
 use Rattle.il_spec.specs.declared.tree.Unit.{Unit as ProgramUnit}
 use Rattle.il_run.specs.State.{State}
 use Rattle.il_run.specs.Scan.{Reaches}
 use Rattle.lift_spec.specs.declared.event.Event.{Event}
 use Rattle.lift_spec.specs.Replies.{Reply}
-use Rattle.lift_spec.specs.Image.{sizes_of, Obeys}
+use Rattle.lift_spec.specs.Image.{sizes_of, Obeys, opening_outputs}
 use Rattle.lift_spec.specs.declared.image.Sizes.{Sizes}
 use Rattle.lift_spec.specs.declared.calls.Call.{Call}
 use Rattle.lift_spec.specs.declared.calls.Slot.{Slot}
@@ -70,6 +70,15 @@ pub record WorldHolds (c : Config) (steps : ℕ → ℕ) (w : World) : Type 0 wh
   pub within : (t : ℕ) → steps t ≤ budget_of c t
   pub desk : IsSetOf (sizes_of c) w.desk
   pub hand : IsSetOf (sizes_of c) w.hand
+
+-- A world between scans, from which runs may go on: it holds, and no scan is open (own rule).
+pub record RestsWell (c : Config) (w : World) : Type 0 where
+  pub holds : WorldHolds c (λ _. 0) w
+  pub closed : (t : ℕ) → scan_at w t ≡ None
+
+-- a world with every motor still and no open command, and else as it was: after a stop (own rule)
+abbrev pub at_rest : World → World
+at_rest w = record w { group = record w.group { image = record { fields = w.group.image.fields; outputs = replicate (length w.group.image.fields.cars) opening_outputs } } }
 
 -- An event happens, and leads to a world that holds again (own rule).
 pub record Leads (c : Config) (steps : ℕ → ℕ) (e : Event) (next : Next) : Type 0 where

@@ -1,5 +1,5 @@
 -- The law of all runs, and laws of runs (own rules).
-use Rattle.std.specs.Prelude.{◌≡◌, ℕ, ◌≤◌, true, false, List, [], ◌∷◌, ◌++◌, length, Some, Ok, IsOk}
+use Rattle.std.specs.Prelude.{◌≡◌, ◌⊎◌, ℕ, ◌≤◌, true, false, List, [], ◌∷◌, ◌++◌, length, Some, None, Ok, IsOk}
 use Rattle.il_spec.specs.declared.tree.Config.{Config}
 use Rattle.il_spec.specs.declared.tree.Unit.{Unit as ProgramUnit}
 use Rattle.il_run.specs.State.{State}
@@ -17,7 +17,7 @@ use Rattle.lift_spec.specs.Snapshot.{scan_begins}
 use Rattle.lift_spec.specs.World.{World, TaskState, happens, run, and_then, opening, answered, beginning_of, task_at, scan_at, InRanges, ChangesScanOnly}
 use Rattle.lift_run_laws.specs.Tasks.{IsTaskOf, budget_of, IsSized}
 use Rattle.lift_run_laws.specs.Scans.{ScansWell, OpensWell}
-use Rattle.lift_run_laws.specs.Holding.{TicketsHold, IsSetOf, WorldHolds, Leads}
+use Rattle.lift_run_laws.specs.Holding.{TicketsHold, IsSetOf, WorldHolds, RestsWell, at_rest, Leads}
 
 -- THE LAW OF ALL RUNS
 
@@ -29,7 +29,7 @@ HasNoStart t (e ∷ events) (r ∷ replies) = ¬ ((e ≡ Start t) × (r ≡ Star
 
 -- The scan's start: the task's last Start that was answered Started ends a prefix of the events, and the scan began with the
 -- task's variables and the group as the world before that Start had them. It has made as many steps as were answered since (own rule).
-pub record IsStarted (c : Config) (events : List Event) (replies : List Reply) (t : ℕ) (scan : State) : Type 0 where
+pub record IsStarted (c : Config) (base : World) (events : List Event) (replies : List Reply) (t : ℕ) (scan : State) : Type 0 where
   pub before_it : List Event
   pub behind_it : List Event
   pub is : events ≡ before_it ++ Start t ∷ behind_it
@@ -38,13 +38,13 @@ pub record IsStarted (c : Config) (events : List Event) (replies : List Reply) (
   pub replies_are : replies ≡ answers ++ Started ∷ since
   pub last : HasNoStart t behind_it since
   pub before : World
-  pub reached : run c (opening c) [] before_it ≡ Ok (before, answers)
+  pub reached : run c base [] before_it ≡ Ok (before, answers)
   pub task : TaskState
   pub there : task_at before.group t ≡ Some task
   pub reaches : Reaches c (answered t 0 events replies) (scan_begins c t (beginning_of before.group task)) scan
 
--- What is so for a world to which a run of events leads from the opening, with these replies (own rule).
-pub record WorldWell (c : Config) (events : List Event) (answers : List Reply) (w : World) : Type 0 where
+-- What is so for a world to which a run of events leads from another, with these replies (own rule).
+pub record WorldWellFrom (c : Config) (base : World) (events : List Event) (answers : List Reply) (w : World) : Type 0 where
   -- the image lies in its ranges, and obeys the interlock
   pub ranges : InRanges c w.group
   pub obeys : Obeys w.group.image
@@ -53,7 +53,7 @@ pub record WorldWell (c : Config) (events : List Event) (answers : List Reply) (
   -- since its last start it made no more steps than its budget
   pub within : (t : ℕ) → answered t 0 events answers ≤ budget_of c t
   -- an open scan was reached from its start in as many
-  pub started : (t : ℕ) (scan : State) → scan_at w t ≡ Some scan → IsStarted c events answers t scan
+  pub started : (t : ℕ) (scan : State) → scan_at w t ≡ Some scan → IsStarted c base events answers t scan
   -- with as many as the budget it has ended
   pub ends : (t : ℕ) (scan : State) → scan_at w t ≡ Some scan → answered t 0 events answers ≡ budget_of c t → has_ended scan ≡ true
   -- and before its end it has a next state: no trap is an outcome, and it doesn't stick
@@ -66,10 +66,21 @@ pub record WorldWell (c : Config) (events : List Event) (answers : List Reply) (
   pub desk : IsSetOf (sizes_of c) w.desk
   pub hand : IsSetOf (sizes_of c) w.hand
 
--- Of every list of events, in any order and with any numbers in them: its run from the opening goes to its end, and the world there is well (own rule).
+-- the same of a run from the opening (own rule)
+abbrev pub WorldWell : Config → List Event → List Reply → World → Type 0
+WorldWell c events answers w = WorldWellFrom c (opening c) events answers w
+
+-- Of every list of events, in any order and with any numbers in them: its run from a world goes to its end, and the world there is well (own rule).
+pub record RunsWellFrom (c : Config) (base : World) : Type 0 where
+  pub steady : (events : List Event) → IsOk (run c base [] events)
+  pub well : (events : List Event) (w : World) (replies : List Reply) → run c base [] events ≡ Ok (w, replies) → WorldWellFrom c base events replies w
+
+-- Of every list of events, in any order and with any numbers in them: its run from the opening goes to its end, and the world there is well. So do those from every
+-- other world that rests (own rule).
 pub record RunsWell (c : Config) : Type 0 where
   pub steady : (events : List Event) → IsOk (run c (opening c) [] events)
   pub well : (events : List Event) (w : World) (replies : List Reply) → run c (opening c) [] events ≡ Ok (w, replies) → WorldWell c events replies w
+  pub resumed : (base : World) → RestsWell c base → RunsWellFrom c base
 
 -- a program whose opening and scans are well runs well (own rule)
 abbrev pub SoundRunsWell : Type 0
@@ -77,9 +88,9 @@ SoundRunsWell = (c : Config) → OpensWell c → ScansWell c → RunsWell c
 
 -- ONE EVENT
 
--- the opening world holds (own rule)
+-- the opening world holds, and rests (own rule)
 abbrev pub OpeningHolds : Type 0
-OpeningHolds = (c : Config) → OpensWell c → WorldHolds c (λ _. 0) (opening c)
+OpeningHolds = (c : Config) → OpensWell c → RestsWell c (opening c)
 
 -- each event leads from a world that holds to one that holds (own rule)
 abbrev pub EventKeeps : Type 0
@@ -124,15 +135,29 @@ RunAppends = (c : Config) (w : World) (replies : List Reply) (es fs : List Event
 abbrev pub RepliesFollow : Type 0
 RepliesFollow = (c : Config) (w : World) (replies : List Reply) (es : List Event) → run c w replies es ≡ and_then (run c w [] es) (λ n. Ok (n.0, replies ++ n.1))
 
--- a world to which some run leads from the opening (own rule)
+-- a world from which runs begin: the opening, or one that rests (own rule)
+abbrev pub Begins : Config → World → Type 0
+Begins c base = (base ≡ opening c) ⊎ RestsWell c base
+
+-- a world to which some run leads from where runs begin (own rule)
 pub record IsReached (c : Config) (w : World) : Type 0 where
+  pub base : World
+  pub begins : Begins c base
   pub events : List Event
   pub replies : List Reply
-  pub is : run c (opening c) [] events ≡ Ok (w, replies)
+  pub is : run c base [] events ≡ Ok (w, replies)
 
 -- a run from a world that is reached leads to one that is reached (own rule)
 abbrev pub ReachedGoesOn : Type 0
 ReachedGoesOn = (c : Config) (w v : World) (earlier replies : List Reply) (es : List Event) → IsReached c w → run c w earlier es ≡ Ok (v, replies) → IsReached c v
+
+-- a world that is reached rests where no scan is open (own rule)
+abbrev pub ReachedRests : Type 0
+ReachedRests = (c : Config) → OpensWell c → ScansWell c → (w : World) → IsReached c w → ((t : ℕ) → scan_at w t ≡ None) → RestsWell c w
+
+-- a world that rests does so with its outputs at rest (own rule)
+abbrev pub RestsAtRest : Type 0
+RestsAtRest = (c : Config) (w : World) → RestsWell c w → RestsWell c (at_rest w)
 
 -- a world that is reached holds, where the opening and all scans are well (own rule)
 abbrev pub ReachedHolds : Type 0

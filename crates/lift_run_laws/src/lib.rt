@@ -5,7 +5,7 @@ ghost use Rattle.il_spec.specs.declared.tree.Config.{Config};
 ghost use Rattle.lift_run_laws.specs.Accepted.{IsSound};
 ghost use Rattle.lift_run_laws.specs.Scans.{ScansWell, OpensWell};
 ghost use Rattle.lift_run_laws.specs.Seeing.{ImageIsSeen};
-ghost use Rattle.lift_run_laws.specs.Runs.{RunsWell, SoundRunsWell, OpeningHolds, EventKeeps, RefusalChangesNothing, InstructionChangesItsScan, RefreshChangesFields, RunsKeepFields, RunAppends, RepliesFollow, ReachedGoesOn, ReachedHolds};
+ghost use Rattle.lift_run_laws.specs.Runs.{RunsWell, SoundRunsWell, OpeningHolds, EventKeeps, RefusalChangesNothing, InstructionChangesItsScan, RefreshChangesFields, RunsKeepFields, RunAppends, RepliesFollow, ReachedGoesOn, ReachedHolds, ReachedRests, RestsAtRest};
 ghost use Rattle.lift_run_laws.specs.Histories.{CallGoesWell, RunsGoOn, EventIsRun, CallsAreOneRun, RunsAreCut};
 ghost use Rattle.std.specs.Prelude.{List};
 ghost use Rattle.lift_spec.specs.World.{World};
@@ -34,7 +34,7 @@ pub fn sound_runs_well()
     ensures { SoundRunsWell }
 {}
 
-/// A law: the opening world holds.
+/// A law: the opening world holds, and no scan of it is open.
 pub fn opening_holds()
     ensures { OpeningHolds }
 {}
@@ -82,6 +82,16 @@ pub fn reached_goes_on()
 /// A law: a world that is reached holds, where the opening is well and every scan is.
 pub fn reached_holds()
     ensures { ReachedHolds }
+{}
+
+/// A law: a world that is reached rests where no scan is open, so that runs may begin there.
+pub fn reached_rests()
+    ensures { ReachedRests }
+{}
+
+/// A law: a world that rests does so with every motor still and no open command.
+pub fn rests_at_rest()
+    ensures { RestsAtRest }
 {}
 
 /// A law: of a program that runs well a run from any world that is reached goes on well.

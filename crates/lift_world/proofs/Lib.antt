@@ -16,3 +16,5 @@ pub mod Straight
 pub mod Whole
 mod Standings
 pub mod Nobody
+pub mod Setting
+pub mod Resuming

@@ -153,7 +153,7 @@ pub tasks_many : (c : Config) (g : Group) → g ≡ opening_group c → length g
 tasks_many c g group = ap (λ (x : Group). length x.tasks) group ∙ opening_length c 0 (suc (sizes_of c).cars)
 
 -- a task is there where the group has its program
-task_opening : (c : Config) (g : Group) (t : ℕ) → g ≡ opening_group c → t ≤ (sizes_of c).cars → is_some (task_at g t) ≡ is_some (program_of c t)
+pub task_opening : (c : Config) (g : Group) (t : ℕ) → g ≡ opening_group c → t ≤ (sizes_of c).cars → is_some (task_at g t) ≡ is_some (program_of c t)
 task_opening c g t group few =
     let below : t < suc (sizes_of c).cars = omega (arith, few) in
     let here : 0 + t ≡ t = omega arith in

@@ -1,5 +1,5 @@
 -- What the machine runs is sound, and what every world of a run keeps.
-use Rattle.std.proofs.Common.{◌≡◌, ℕ, List, [], ◌∷◌, map, Option, Some, None, sym, ap, ◌∙◌, arith, Ok}
+use Rattle.std.proofs.Common.{◌≡◌, ℕ, List, [], ◌∷◌, map, Option, Some, None, sym, ap, ◌∙◌, refl, inl, arith, Ok}
 use Rattle.std.specs.Prelude.{Contains, find, bytes_eq}
 use Rattle.il_spec.specs.declared.tree.Config.{Config}
 use Rattle.il_spec.specs.declared.tree.ProgramLine.{ProgramLine}
@@ -11,10 +11,9 @@ use Rattle.lift_spec.specs.Replies.{Reply}
 use Rattle.lift_spec.specs.Snapshot.{task_name, program_of}
 use Rattle.lift_spec.specs.World.{World, run, opening, happens}
 use Rattle.lift_run_laws.specs.Tasks.{budget_of, budget_by}
-use Rattle.lift_run_laws.specs.Runs.{WorldWell, IsReached}
+use Rattle.lift_run_laws.specs.Runs.{WorldWellFrom, IsReached}
 use Rattle.lift_run_laws.specs.Histories.{CallGoesWell}
-use Rattle.lift_run_laws.proofs.Accepted.{accepted_runs_well}
-use Rattle.lift_run_laws.proofs.Histories.{accepted_calls_go_well, event_is_run}
+use Rattle.lift_run_laws.proofs.Histories.{accepted_calls_go_well, event_is_run, reached_well as reached_is_well}
 use Rattle.lift_run_laws.proofs.Following.{goes_on}
 use Rattle.il_machine.specs.Scanning.{Program, IsRunnable}
 use Rattle.il_verify.specs.Costs.{cost_of}
@@ -35,7 +34,7 @@ call_goes_well c runs w events = accepted_calls_go_well c (sound_of c runs) w ev
 
 -- the opening world has a history: nothing happened
 pub opening_reached : (c : Config) (w : World) → w ≡ opening c → IsReached c w
-opening_reached c w is = record { events = []; replies = []; is = ap (λ v. Ok (v, [])) (sym is) }
+opening_reached c w is = record { base = opening c; begins = inl refl; events = []; replies = []; is = ap (λ v. Ok (v, [])) (sym is) }
 
 -- one event keeps a history
 pub one_event : (c : Config) (w v : World) (e : Happening) (reply : Reply) → IsReached c w → happens c w e ≡ Ok (v, reply) → IsReached c v
@@ -46,8 +45,8 @@ pub many_events : (c : Config) (w v : World) (events : List Happening) (earlier 
 many_events c w v events earlier replies reached is = goes_on c w v earlier replies events reached is
 
 -- a world that was reached is well
-pub reached_well : (c : Config) → IsRunnable c → (w : World) (r : IsReached c w) → WorldWell c r.events r.replies w
-reached_well c runs w r = (accepted_runs_well c (sound_of c runs)).well r.events w r.replies r.is
+pub reached_well : (c : Config) → IsRunnable c → (w : World) (r : IsReached c w) → WorldWellFrom c r.base r.events r.replies w
+reached_well c runs w r = reached_is_well c (sound_of c runs) w r
 
 -- BUDGETS
 

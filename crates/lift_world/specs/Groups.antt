@@ -59,6 +59,10 @@ pub record StoresFit (c : Config) (tasks : List (Option TaskState)) (stores : Li
 abbrev pub KeepVariables : List (Option TaskState) → List (Option Standing) → Type 0
 KeepVariables tasks stores = (t : ℕ) (x : TaskState) (s : Standing) → flat (slice_get tasks t) ≡ Some x → flat (slice_get stores t) ≡ Some s → x.tickets ≡ None → StillHas x.variables s.state
 
+-- a store has the variables of a task (own rule)
+abbrev pub HasVariables : Group → ℕ → Standing → Type 0
+HasVariables g t s = (x : TaskState) → task_at g t ≡ Some x → StillHas x.variables s.state
+
 -- COMMITS
 
 -- what the commit of an open scan of a task leaves, whose scan left these values

@@ -3,3 +3,4 @@ pub mod Running
 pub mod Groups
 pub mod Worlds
 pub mod Scanned
+pub mod Setting

@@ -14,7 +14,9 @@ ghost use Rattle.lift_spec.specs.Snapshot.{program_of, scan_begins};
 ghost use Rattle.lift_spec.specs.World.{TaskState, task_at};
 ghost use Rattle.lift_spec.specs.World as model;
 ghost use Rattle.lift_world.specs.Running.{reports_by, may_report, reporting, instructions, up_to_end};
-ghost use Rattle.lift_world.specs.Groups.{StoresFit, KeepVariables};
+ghost use Rattle.lift_run_laws.specs.Holding.{at_rest};
+ghost use Rattle.lift_world.specs.Groups.{StoresFit, KeepVariables, HasVariables};
+ghost use Rattle.lift_world.specs.Setting.{IsSeated, resting};
 ghost use Rattle.lift_world.specs.Worlds.{world_in, IsController, Happens, Steps, RunsOut, IsWholeScan};
 
 use crate::group::Core;
@@ -78,6 +80,55 @@ fn opening_stores(
     let mut stores = Vec::new(alloc);
     for task in 0..cars + 1 {
         stores.push(opening_store(alloc, verified, task)?)?;
+    }
+    Ok(stores)
+}
+
+// A store for a task, if the group has it, with the task's variables.
+fn resumed_store(
+    alloc: Global,
+    verified: &Verified,
+    core: &Core,
+    task: u8,
+) -> Result<Option<Store>, AllocError>
+    requires program { core.now.config ≡ verified.now.config }
+    requires seated { IsSeated verified.now.config core.now.group }
+    requires task { task ≤ (sizes_of verified.now.config).cars }
+    ensures there { IfOk result (λ o. is_some o ≡ is_some (task_at core.now.group task)) }
+    ensures of { IfOk result (λ o. (s : Standing) → o ≡ Some s → IsOf verified.now.config task s) }
+    ensures variables { IfOk result (λ o. (s : Standing) → o ≡ Some s
+        → HasVariables core.now.group task s) }
+{
+    if !core.has_task(task) {
+        return Ok(None);
+    }
+    let mut store = Store::new(alloc, verified, task)?;
+    core.fill(verified, task, &mut store);
+    Ok(Some(store))
+}
+
+// A store for each task of a group between scans, with the task's variables.
+fn resumed_stores(
+    alloc: Global,
+    verified: &Verified,
+    core: &Core,
+    cars: u8,
+) -> Result<Vec<Option<Store>>, AllocError>
+    requires program { core.now.config ≡ verified.now.config }
+    requires seated { IsSeated verified.now.config core.now.group }
+    requires few { cars ≤ MOST_CARS }
+    requires all { cars ≡ (sizes_of verified.now.config).cars }
+    ensures as_many { IfOk result (λ ss. length ss.items ≡ suc cars) }
+    ensures there { IfOk result (λ ss. (t : ℕ) → t ≤ cars
+        → is_some (model.flat (slice_get ss.items t)) ≡ is_some (task_at core.now.group t)) }
+    ensures each { IfOk result (λ ss. (t : ℕ) (s : Standing)
+        → model.flat (slice_get ss.items t) ≡ Some s → IsOf verified.now.config t s) }
+    ensures variables { IfOk result (λ ss. (t : ℕ) (s : Standing)
+        → model.flat (slice_get ss.items t) ≡ Some s → HasVariables core.now.group t s) }
+{
+    let mut stores = Vec::new(alloc);
+    for task in 0..cars + 1 {
+        stores.push(resumed_store(alloc, verified, core, task)?)?;
     }
     Ok(stores)
 }
@@ -168,6 +219,22 @@ pub fn opening(alloc: Global, verified: &Verified) -> Result<Opened, AllocError>
     Ok(Opened { core, stores })
 }
 
+// What a group between scans goes on with.
+fn resumed(alloc: Global, verified: &Verified, core: Core) -> Result<Opened, AllocError>
+    requires program { core.config ≡ verified.now.config }
+    requires seated { IsSeated core.config core.group }
+    ensures core { IfOk result (λ o. o.core ≡ core) }
+    ensures stores { IfOk result
+        (λ o. StoresFit verified.now.config core.group.tasks o.stores.items) }
+    ensures variables { IfOk result (λ o. KeepVariables core.group.tasks o.stores.items) }
+{
+    let _config = verified.config();
+    core.rests();
+    let stores = resumed_stores(alloc, verified, &core, verified.sizes().cars);
+    let (core, stores) = both(core, stores)?;
+    Ok(Opened { core, stores })
+}
+
 impl Controller {
     /// The group as it opens: no scan is open, and no call waits.
     pub fn new(alloc: Global, verified: Verified) -> Result<Controller, AllocError>
@@ -177,6 +244,21 @@ impl Controller {
     {
         let _config = verified.config();
         let opened = opening(alloc, &verified);
+        let (verified, opened) = both(verified, opened)?;
+        Ok(Controller::of(verified, opened))
+    }
+
+    /// A group that goes on between scans: no call waits.
+    pub fn resume(alloc: Global, verified: Verified, core: Core) -> Result<Controller, AllocError>
+        requires program { core.config ≡ verified.config }
+        requires seated { IsSeated core.config core.group }
+        ensures same { IfOk result (λ w. w.verified ≡ verified) }
+        ensures between { IfOk result (λ w. world_in w ≡ resting verified.config core.group) }
+        ensures world { IfOk result IsController }
+    {
+        let _config = verified.config();
+        core.rests();
+        let opened = resumed(alloc, &verified, core);
         let (verified, opened) = both(verified, opened)?;
         Ok(Controller::of(verified, opened))
     }
@@ -195,6 +277,17 @@ impl Controller {
             desk: Hand::new(),
             hand: Held::new(),
         }
+    }
+
+    /// Every motor is still, and no door has an open command. No scan is open.
+    pub fn rest(&mut self)
+        requires world { IsController self.old }
+        requires closed { (t : ℕ) → model.scan_at (world_in self.old) t ≡ None }
+        ensures rested { world_in self.new ≡ at_rest (world_in self.old) }
+        ensures same { self.new.verified ≡ self.old.verified }
+        ensures world { IsController self.new }
+    {
+        self.core.rest(&self.verified);
     }
 
     /// The image. It lies in its ranges and obeys the interlock.

@@ -1,16 +1,18 @@
 // What the tasks of a group share, as the definitions see it.
 
-ghost use Rattle.std.specs.Prelude.{◌≡◌, List, [], Option, ℕ, All, Some, None, IfOk, IsSome, is_some, option_and_then};
+ghost use Rattle.std.specs.Prelude.{◌≡◌, ◌≤◌, List, [], Option, ℕ, All, Some, None, IfOk, IsSome, is_some, option_and_then};
 ghost use Rattle.il_table.specs.NameMap as values;
 ghost use Rattle.il_machine.specs.Standing.{IsOf, StillHas};
-ghost use Rattle.lift_spec.specs.Calls.{enter_all, IsCall};
+ghost use Rattle.lift_spec.specs.Calls.{enter_all, IsCall, SlotInRange, greatest_ticket};
 ghost use Rattle.lift_spec.specs.Image.{sizes_of, FieldsInRange, Obeys};
 ghost use Rattle.lift_spec.specs.Snapshot.{scan_begins};
 ghost use Rattle.lift_spec.specs.World.{TaskState, task_at, opening_group, beginning_of, started_group, committed_group, refreshed_group, InRanges};
+ghost use Rattle.lift_run_laws.specs.Holding.{RestsWell};
 ghost use Rattle.lift_world.specs.Groups.{is_open_in, CommitsOpen, ScansWhole};
+ghost use Rattle.lift_world.specs.Setting.{IsSeated, IsFreshAt, resting, rested, with_image, with_place, with_last, SetsGlobal, SetsVariable};
 
 use crate::shared::{Shared, Variables};
-use il_machine::{Store, Value, Verified};
+use il_machine::{Store, Unset, Value, Verified};
 use lift_calls::book::CallBook;
 use lift_spec::calls::Slot;
 use lift_spec::hand::Hand;
@@ -57,6 +59,7 @@ impl Core {
     pub fn new(alloc: Global, verified: &Verified) -> Result<Core, AllocError>
         ensures config { IfOk result (λ k. k.config ≡ verified.now.config) }
         ensures group { IfOk result (λ k. k.group ≡ opening_group verified.now.config) }
+        ensures seated { IfOk result (λ k. IsSeated k.config k.group) }
     {
         let _config = verified.config();
         let shared = Shared::new(alloc, verified)?;
@@ -124,6 +127,95 @@ impl Core {
         ensures { result ≡ values.get self.now.group.globals path.now }
     {
         self.shared.global(verified, path)
+    }
+
+    /// Another image, with its fields in their ranges, that obeys the interlock. No allocation.
+    pub fn set_image(&mut self, image: &Image)
+        requires fields { FieldsInRange (sizes_of self.old.config) image.now.fields }
+        requires obeys { Obeys image.now }
+        ensures config { self.new.config ≡ self.old.config }
+        ensures group { self.new.group ≡ with_image self.old.group image.now }
+    {
+        self.shared.set_image(image);
+    }
+
+    /// Another slot of a number, which counts from 1, in its range and under no ticket of another slot. No allocation.
+    pub fn set_slot(&mut self, slot: u8, place: Slot)
+        requires slot { (1 ≤ slot) × (slot ≤ (sizes_of self.old.config).slots) }
+        requires place { SlotInRange (sizes_of self.old.config) self.old.group.calls.last_ticket
+            place }
+        requires fresh { IsFreshAt self.old.group.calls.slots slot place }
+        ensures config { self.new.config ≡ self.old.config }
+        ensures group { self.new.group ≡ with_place self.old.group slot place }
+    {
+        self.shared.set_slot(slot, place);
+    }
+
+    /// Another last ticket, no lower. No allocation.
+    pub fn set_last_ticket(&mut self, last: u64)
+        requires greatest { last ≤ greatest_ticket }
+        requires later { self.old.group.calls.last_ticket ≤ last }
+        ensures config { self.new.config ≡ self.old.config }
+        ensures group { self.new.group ≡ with_last self.old.group last }
+    {
+        self.shared.set_last_ticket(last);
+    }
+
+    /// Gives a global another value of its declared set, by its path. Otherwise nothing changes. No allocation.
+    pub fn set_global(&mut self, verified: &Verified, path: &str, value: Value) -> Result<(), Unset>
+        requires program { self.old.config ≡ verified.now.config }
+        ensures config { self.new.config ≡ self.old.config }
+        ensures set { SetsGlobal verified.now.config self.old.group path.now value result
+            self.new.group }
+    {
+        self.shared.set_global(verified, path, value)
+    }
+
+    /// Gives a variable of a task another value of its declared set, by its path. Otherwise nothing changes. No allocation.
+    pub fn set_variable(
+        &mut self,
+        verified: &Verified,
+        task: u8,
+        path: &str,
+        value: Value,
+    ) -> Result<(), Unset>
+        requires program { self.old.config ≡ verified.now.config }
+        requires there { IsSome (task_at self.old.group task) }
+        ensures config { self.new.config ≡ self.old.config }
+        ensures set { SetsVariable verified.now.config task self.old.group path.now value result
+            self.new.group }
+    {
+        self.shared.set_variable(verified, task, path, value)
+    }
+
+    /// Every motor is still, and no door has an open command. No allocation.
+    pub(crate) fn rest(&mut self, verified: &Verified)
+        requires program { self.old.config ≡ verified.now.config }
+        ensures config { self.new.config ≡ self.old.config }
+        ensures group { self.new.group ≡ rested self.old.group }
+    {
+        let _config = verified.config();
+        self.shared.rest(verified.sizes());
+    }
+
+    /// A group whose tasks are between scans makes a world that rests.
+    pub(crate) fn rests(&self)
+        requires { IsSeated self.now.config self.now.group }
+        ensures { RestsWell self.now.config (resting self.now.config self.now.group) }
+    {
+        let _image = self.shared.image();
+    }
+
+    /// A scan of the task begins in this store, which has the task's variables then. The task holds no tickets of it.
+    pub(crate) fn fill(&self, verified: &Verified, task: u8, store: &mut Store)
+        requires program { self.now.config ≡ verified.now.config }
+        requires there { IsSome (task_at self.now.group task) }
+        requires of { IsOf verified.now.config task store.old }
+        ensures of { IsOf verified.now.config task store.new }
+        ensures kept { (x : TaskState) → task_at self.now.group task ≡ Some x
+            → StillHas x.variables store.new.state }
+    {
+        self.shared.fill(verified, task, store);
     }
 
     /// A task's scan begins, in this store, and the task holds the tickets that it sees. No allocation.

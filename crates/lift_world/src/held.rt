@@ -50,6 +50,13 @@ impl Held {
         }
     }
 
+    /// The calls.
+    pub fn calls(&self) -> &Hand
+        ensures { result.now ≡ self.now }
+    {
+        &self.calls
+    }
+
     /// Whether a call from this floor is in the hand.
     pub fn has_from(&self, floor: u8) -> bool
         requires { HasWord floor }

@@ -13,10 +13,11 @@ mod world;
 
 pub use controller::{Opened, opening};
 pub use group::Core;
-pub use il_machine::Verified;
+pub use il_machine::{Unset, Verified};
 pub use il_spec::fault::Refusal;
 pub use lift_spec::calls::{Answer, Call, Slot};
 pub use lift_spec::event::{Event, EventFault, Reply};
+pub use lift_spec::hand::Hand;
 pub use lift_spec::report::{Denial, Report, Rule};
 pub use lift_spec::{Bounded, CarFields, CarOutputs, Fields, Image, Motor, Sizes};
 pub use replies::Replies;

@@ -1,6 +1,6 @@
 // What the tasks share, and the work of the events on it.
 
-ghost use Rattle.std.specs.Prelude.{◌≡◌, ◌≢◌, ℕ, suc, ◌≤◌, [], All, List, Option, length, map, slice_get, Some, None, IfOk, IsSome, option_and_then, option_copied};
+ghost use Rattle.std.specs.Prelude.{◌≡◌, ◌≢◌, ℕ, suc, ◌≤◌, [], All, List, Option, length, map, replicate, slice_get, Some, None, IfOk, IsSome, option_and_then, option_copied};
 ghost use Rattle.il_spec.specs.declared.tree.Config.{Config as ConfigOf};
 ghost use Rattle.il_table.specs.NameMap as values;
 ghost use Rattle.il_run.specs.Ranges.{HoldGlobals};
@@ -8,26 +8,31 @@ ghost use Rattle.lift_world.specs.declared.shared.TaskMemory.{TaskMemory as Memo
 ghost use Rattle.il_layout.specs.Layout.{Rows as RowsOf};
 ghost use Rattle.il_machine.specs.Scanning.{FitsOwn, variables_in};
 ghost use Rattle.il_machine.specs.Standing.{IsOf, StillHas, IsBeginning, beginning_in, beginning_with};
-ghost use Rattle.lift_spec.specs.Image.{sizes_of, FieldsInRange};
-ghost use Rattle.lift_spec.specs.Calls.{ticket_of, enter_all, SlotInRange};
+ghost use Rattle.lift_spec.specs.Image.{sizes_of, FieldsInRange, opening_outputs};
+ghost use Rattle.lift_spec.specs.Calls.{ticket_of, enter_all, SlotInRange, with_slot, greatest_ticket};
 ghost use Rattle.lift_spec.specs.Settle.{settled_car, settled_all, with_outputs};
 ghost use Rattle.lift_spec.specs.Snapshot.{scan_begins, program_of, wishes_of, written_globals};
 ghost use Rattle.lift_spec.specs.World.{InRanges, flat, opening_task, opening_tasks_from, opening_group, beginning_of, refreshed_group};
 ghost use Rattle.lift_world.specs.Running.{memory_at, task_in, task_by, tasks_in, group_in, is_open, FitDeclared, SharedFits, with_memory, HasOpenScan, Commits, CommitsUnder, ClosesWith, ClosesAmong, TellsTo, CommitsTold, settled_report, wished_ticket};
 ghost use Rattle.lift_world.specs.Scanned.{ScansMemory};
+ghost use Rattle.lift_world.specs.Setting.{SetsMemory, SetsAmong};
+ghost use Rattle.il_machine.specs.Setting.{SetsGlobals};
 ghost use Rattle.il_machine.specs.Sharing.{globals_in, FitsGlobals};
 
 use crate::calling::{clear, enter_all, report_denials, serve, tell_all, tell_all_now, ticket_in};
 use crate::taking::{take_fields, take_outputs};
 use crate::tickets::Tickets;
-use il_machine::{Begin, FirstRows, Rows, Store, Value, Verified, finish, opening_image, variable};
+use il_machine::{
+    Begin, FirstRows, Rows, Store, Unset, Value, Verified, finish, opening_image, set_global,
+    set_variable, variable,
+};
 use lift_calls::book::CallBook;
 use lift_interlock::{replace, settle_car, settle_each};
 use lift_spec::calls::Slot;
 use lift_spec::hand::Hand;
 use lift_spec::image::Wishes;
 use lift_spec::report::{Answered, Report};
-use lift_spec::{Bounded, Fields, Image, MOST_CARS, Motor, SLOT_PLACES};
+use lift_spec::{Bounded, Fields, Image, MOST_CARS, Motor, SLOT_PLACES, Sizes};
 use std::alloc::{AllocError, Global};
 
 /// What a task keeps: its variables as its last commit left them, and the tickets of the call slots that its open scan saw, if it has one.
@@ -112,6 +117,26 @@ fn opening_memories(
         memories.push(opening_memory(alloc, verified, task)?)?;
     }
     Ok(memories)
+}
+
+// Gives a variable of a task another value of its declared set. Otherwise nothing changes.
+fn set_memory(
+    memory: &mut Option<TaskMemory>,
+    verified: &Verified,
+    task: u8,
+    path: &str,
+    value: Value,
+) -> Result<(), Unset>
+    requires there { IsSome memory.old }
+    requires variables { (s : MemoryOf) → memory.old ≡ Some s
+        → FitDeclared verified.now.config task s.variables }
+    ensures { (s : MemoryOf) → memory.old ≡ Some s
+        → SetsMemory verified.now.config task s path.now value result memory.new }
+{
+    match memory {
+        Some(memory) => set_variable(&mut memory.variables, verified, task, path, value),
+        None => unreachable!(),
+    }
 }
 
 // A scan begins in a store, with the variables that it still has, or with those that it takes.
@@ -388,6 +413,127 @@ impl Shared {
             Some(Some(memory)) => memory.tickets.is_open(),
             _ => false,
         }
+    }
+
+    /// Another image.
+    pub fn set_image(&mut self, image: &Image)
+        ensures image { self.new.image ≡ image.now }
+        ensures calls { self.new.calls ≡ self.old.calls }
+        ensures globals { self.new.globals ≡ self.old.globals }
+        ensures memories { self.new.memories ≡ self.old.memories }
+    {
+        take_fields(&mut self.image.fields, &image.fields);
+        take_outputs(&mut self.image.outputs, &image.outputs);
+    }
+
+    /// Every motor is still, and no door has an open command.
+    pub fn rest(&mut self, sizes: Sizes)
+        requires { sizes.cars ≤ MOST_CARS }
+        ensures image { self.new.image
+            ≡ record {
+              fields = self.old.image.fields;
+              outputs = replicate sizes.cars opening_outputs;
+            } }
+        ensures calls { self.new.calls ≡ self.old.calls }
+        ensures globals { self.new.globals ≡ self.old.globals }
+        ensures memories { self.new.memories ≡ self.old.memories }
+    {
+        let opening = opening_image(sizes);
+        take_outputs(&mut self.image.outputs, &opening.outputs);
+    }
+
+    /// Another slot of a number.
+    pub fn set_slot(&mut self, slot: u8, place: Slot)
+        requires { (1 ≤ slot) × (slot ≤ length self.old.calls.slots) }
+        ensures slots { self.new.calls.slots ≡ with_slot self.old.calls.slots slot place }
+        ensures last { self.new.calls.last_ticket ≡ self.old.calls.last_ticket }
+        ensures image { self.new.image ≡ self.old.image }
+        ensures globals { self.new.globals ≡ self.old.globals }
+        ensures memories { self.new.memories ≡ self.old.memories }
+    {
+        self.calls.put(slot, place);
+    }
+
+    /// Another last ticket.
+    pub fn set_last_ticket(&mut self, last: u64)
+        requires { last ≤ greatest_ticket }
+        ensures slots { self.new.calls.slots ≡ self.old.calls.slots }
+        ensures last { self.new.calls.last_ticket ≡ last }
+        ensures image { self.new.image ≡ self.old.image }
+        ensures globals { self.new.globals ≡ self.old.globals }
+        ensures memories { self.new.memories ≡ self.old.memories }
+    {
+        self.calls.give(last);
+    }
+
+    /// Gives a global another value of its declared set. Otherwise nothing changes.
+    pub fn set_global(&mut self, verified: &Verified, path: &str, value: Value) -> Result<(), Unset>
+        requires fits { FitsGlobals verified.now.config self.old.globals }
+        requires shared { HoldGlobals verified.now.config
+            (globals_in verified.now.config self.old.globals) }
+        ensures set { SetsGlobals verified.now.config self.old.globals path.now value result
+            self.new.globals }
+        ensures fits { FitsGlobals verified.now.config self.new.globals }
+        ensures shared { HoldGlobals verified.now.config
+            (globals_in verified.now.config self.new.globals) }
+        ensures image { self.new.image ≡ self.old.image }
+        ensures calls { self.new.calls ≡ self.old.calls }
+        ensures memories { self.new.memories ≡ self.old.memories }
+    {
+        set_global(&mut self.globals, verified, path, value)
+    }
+
+    /// Gives a variable of a task another value of its declared set. Otherwise nothing changes.
+    pub fn set_variable(
+        &mut self,
+        verified: &Verified,
+        task: u8,
+        path: &str,
+        value: Value,
+    ) -> Result<(), Unset>
+        requires there { IsSome (memory_at self.old task) }
+        requires fits { SharedFits verified.now.config self.old }
+        ensures set { (s : MemoryOf) → memory_at self.old task ≡ Some s
+            → SetsAmong verified.now.config task self.old s path.now value result self.new }
+        ensures image { self.new.image ≡ self.old.image }
+        ensures calls { self.new.calls ≡ self.old.calls }
+        ensures globals { self.new.globals ≡ self.old.globals }
+    {
+        set_memory(
+            &mut self.memories[usize::from(task)],
+            verified,
+            task,
+            path,
+            value,
+        )
+    }
+
+    /// A scan of the task begins in this store, with the task's variables. The task holds no tickets of it.
+    pub fn fill(&self, verified: &Verified, task: u8, store: &mut Store)
+        requires there { IsSome (memory_at self.now task) }
+        requires fits { SharedFits verified.now.config self.now }
+        requires ranges { InRanges verified.now.config (group_in verified.now.config self.now) }
+        requires of { IsOf verified.now.config task store.old }
+        ensures begins { (s : MemoryOf) → memory_at self.now task ≡ Some s
+            → store.new.state
+            ≡ scan_begins verified.now.config task
+            (beginning_of (group_in verified.now.config self.now)
+            (task_in verified.now.config task s)) }
+        ensures of { IsOf verified.now.config task store.new }
+    {
+        let Some(memory) = &self.memories[usize::from(task)] else {
+            unreachable!()
+        };
+        begin_task(
+            memory,
+            verified,
+            task,
+            &self.globals,
+            &self.image,
+            &self.calls,
+            store,
+            Variables::Copied,
+        );
     }
 
     /// A task's scan begins, and the task holds the tickets that it sees. No scan of it is open.

@@ -18,13 +18,17 @@ ghost use Rattle.lift_run_laws.specs.Runs.{IsReached};
 ghost use Rattle.lift_run_laws.specs.Histories.{CallGoesWell};
 ghost use Rattle.lift_world.specs.Running.{reports_by, reporting, instructions, up_to_end, scan_events};
 ghost use Rattle.lift_world.specs.Worlds.{PrintsEachBudget, IsWholeScan};
+ghost use Rattle.lift_run_laws.specs.Holding.{at_rest};
+ghost use Rattle.lift_world.specs.Setting.{IsSeated, resting};
 
 use crate::controller::Controller;
+use crate::group::Core;
 use crate::replies::Replies;
 use il_machine::{Store, Value, Verified};
 use il_spec::fault::Refusal;
 use lift_spec::calls::Slot;
 use lift_spec::event::{Event, EventFault, Reply};
+use lift_spec::hand::Hand;
 use lift_spec::report::Report;
 use lift_spec::{Bounded, Fields, Image, SLOT_PLACES, Sizes};
 use std::alloc::Global;
@@ -64,6 +68,27 @@ impl World {
     {
         let group = Controller::new(alloc, verified)?;
         Ok(World { group })
+    }
+
+    /// The world of a group between scans. No call is on the desk or in the hand.
+    pub fn resume(alloc: Global, verified: Verified, core: Core) -> Result<World, Refusal>
+        requires program { core.config ≡ verified.config }
+        requires seated { IsSeated core.config core.group }
+        ensures same { IfOk result (λ w. w.program ≡ verified) }
+        ensures world { IfOk result (λ w. w.world ≡ resting verified.config core.group) }
+        ensures memory { IfErr result (λ e. e ≡ Memory) }
+    {
+        let group = Controller::resume(alloc, verified, core)?;
+        Ok(World { group })
+    }
+
+    /// Every motor is still, and no door has an open command, as after a stop.
+    pub fn rest(&mut self)
+        requires closed { (t : ℕ) → model.scan_at self.old.world t ≡ None }
+        ensures world { self.new.world ≡ at_rest self.old.world }
+        ensures same { self.new.program ≡ self.old.program }
+    {
+        self.group.rest();
     }
 
     /// Gives the world up. Who calls it has no drop of one to prove.
@@ -192,6 +217,27 @@ impl World {
         ensures { result ≡ self.now.world.group.calls.slots }
     {
         self.group.core.slots()
+    }
+
+    /// The last ticket that was given, 0 before the first.
+    pub fn last_ticket(&self) -> u64
+        ensures { result ≡ self.now.world.group.calls.last_ticket }
+    {
+        self.group.core.calls().last_ticket()
+    }
+
+    /// The calls on the desk.
+    pub fn desk(&self) -> &Hand
+        ensures { result.now ≡ self.now.world.desk }
+    {
+        &self.group.desk
+    }
+
+    /// The calls in the hand.
+    pub fn hand(&self) -> &Hand
+        ensures { result.now ≡ self.now.world.hand }
+    {
+        self.group.hand.calls()
     }
 
     /// The program.

@@ -8,12 +8,12 @@ use Rattle.lift_spec.specs.declared.calls.Slot.{Slot}
 use Rattle.lift_spec.specs.Calls.{slot_at}
 use Rattle.lift_spec.specs.Image.{sizes_of}
 use Rattle.lift_run_laws.specs.Runs.{IsReached}
-use Rattle.lift_run_laws.proofs.Accepted.{accepted_runs_well}
+use Rattle.lift_run_laws.proofs.Histories.{reached_well}
 use Rattle.lift_world.specs.Worlds.{WorldOf}
 
 -- there are as many as the configuration says, and no more than 64
 pub slots_many : (w : WorldOf) → IsRunnable w.program.config → IsReached w.program.config w.world → length w.world.group.calls.slots ≡ (sizes_of w.program.config).slots
-slots_many w runs reached = ((accepted_runs_well w.program.config (sound_of w.program.config runs)).well reached.events w.world reached.replies reached.is).ranges.slots
+slots_many w runs reached = (reached_well w.program.config (sound_of w.program.config runs) w.world reached).ranges.slots
 
 pub slots_few : (w : WorldOf) → IsRunnable w.program.config → (sizes_of w.program.config).slots ≤ 64
 slots_few w runs = (sizes_fit w.program.config runs).2.1

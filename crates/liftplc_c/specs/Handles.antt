@@ -4,8 +4,8 @@ use Rattle.lift_spec.specs.declared.event.Event.{Event}
 use Rattle.lift_spec.specs.Replies.{Reply}
 use Rattle.lift_spec.specs.Image.{sizes_of, FieldsInRange, Obeys}
 use Rattle.lift_spec.specs.World.{World, scan_at}
-use Rattle.lift_run_laws.specs.Runs.{IsReached, WorldWell}
-use Rattle.lift_run_laws.specs.Histories.{IsHistory}
+use Rattle.lift_run_laws.specs.Runs.{Begins, IsReached, WorldWellFrom}
+use Rattle.lift_run_laws.specs.Histories.{IsHistoryFrom}
 use Rattle.lift_world.specs.Worlds.{WorldOf}
 
 -- no scan is open, between two calls
@@ -16,6 +16,6 @@ Rests w = (task : ℕ) → is_some (scan_at w task) ≡ false
 -- obeys the interlock.
 pub record IsLed (w : WorldOf) : Type 0 where
   pub reached : IsReached w.program.config w.world
-  pub well : (events : List Event) (replies : List Reply) → IsHistory w.program.config events replies w.world → WorldWell w.program.config events replies w.world
+  pub well : (base : World) → Begins w.program.config base → (events : List Event) (replies : List Reply) → IsHistoryFrom w.program.config base events replies w.world → WorldWellFrom w.program.config base events replies w.world
   pub ranges : FieldsInRange (sizes_of w.program.config) w.world.group.image.fields
   pub obeys : Obeys w.world.group.image

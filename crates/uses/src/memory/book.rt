@@ -9,9 +9,9 @@ use crate::memory::lines::{allocation, no_allocation, print};
 use crate::memory::program::number;
 use crate::memory::trace;
 use il_machine::{Store, Verified, scan};
+use lift_book::Book;
 use lift_spec::hand::Hand;
 use lift_spec::report::Report;
-use lift_station::Book;
 use std::alloc::{AllocError, Global};
 use std::io::Print;
 

@@ -2,6 +2,7 @@ use Rattle.std.proofs.Common.{subst}
 use Rattle.il_machine.specs.Scanning.{Program, IsRunnable}
 use Rattle.il_machine.proofs.Scans.{sound_of}
 use Rattle.lift_run_laws.proofs.Accepted.{accepted_runs_well}
+use Rattle.lift_run_laws.proofs.Histories.{from_base}
 use Rattle.liftplc_c.proofs.history.led.Goals as goal
 
 pub returns : goal.returns
@@ -10,7 +11,7 @@ returns c =
     let runs = subst (λ (p : Program). IsRunnable p.config) c.verified.ensures c.config-config.ensures.runnable in
     record {
       reached = c.image-image.ensures.reached;
-      well = λ events replies is. (accepted_runs_well w.program.config (sound_of w.program.config runs)).well events w.world replies is;
+      well = λ base begins events replies is. (from_base w.program.config (accepted_runs_well w.program.config (sound_of w.program.config runs)) base begins).well events w.world replies is;
       ranges = c.image-image.ensures.ranges;
       obeys = c.image-image.ensures.obeys;
     }

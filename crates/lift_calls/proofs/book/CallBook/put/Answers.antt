@@ -1,7 +1,7 @@
 use Rattle.std.proofs.Common.{◌<◌, ◌-◌, ◌∙◌, ap, length, arith}
 use Rattle.lift_spec.specs.Calls.{Calls, with_slot}
 use Rattle.lift_calls.proofs.Sets.{slots_long, written, slots_with, still_slots, placed}
-use Rattle.lift_calls.proofs.book.CallBook.set.Goals as goal
+use Rattle.lift_calls.proofs.book.CallBook.put.Goals as goal
 
 pub with_bit-self-inside-requires : goal.with_bit-self-inside-requires
 with_bit-self-inside-requires c = omega (arith, c.requires, ap (λ (calls : Calls). length calls.slots) c.self.view_is, slots_long c.self.inside, c.self.invariant.few)
