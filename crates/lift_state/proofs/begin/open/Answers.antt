@@ -1,0 +1,16 @@
+use Rattle.std.proofs.Common.{subst}
+use Rattle.std.specs.Prelude.{Err}
+use Rattle.lift_spec.specs.declared.image.Sizes.{Sizes}
+use Rattle.lift_trace.specs.Reading.{Reads}
+use Rattle.lift_state.proofs.Beginning.{ok_both, few_opened, unread}
+use Rattle.lift_state.proofs.begin.open.Goals as goal
+
+pub returns-in-Ok-clause-few : goal.returns-in-Ok-clause-few
+returns-in-Ok-clause-few c =
+    ok_both _ _ _ c.opened.result (λ b events lines. few_opened c.sizes.result.cars c.args.text.now c.in-Ok.front.events.items b.events.items c.in-Ok.front.cut b.lines c.in-Ok.ensures events lines)
+    c.opened.ensures.events c.opened.ensures.lines
+
+pub returns-in-Err-clause-fault : goal.returns-in-Err-clause-fault
+returns-in-Err-clause-fault c source =
+    unread c.args.verified.config source c.args.text.now c.in-Err.fault c.fault_of.result c.requires
+    (subst (λ (s : Sizes). Reads s.cars c.args.text.now (Err c.in-Err.fault)) c.sizes.ensures c.in-Err.ensures) c.fault_of.ensures

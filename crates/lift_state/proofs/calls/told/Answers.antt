@@ -1,0 +1,11 @@
+use Rattle.lift_spec.specs.declared.calls.Slot.{Slot}
+use Rattle.lift_trace.proofs.Bytes.{if_none}
+use Rattle.lift_state.specs.Parts.{IsTold}
+use Rattle.lift_state.proofs.Slots.{told_ends}
+use Rattle.lift_state.proofs.calls.told.Goals as goal
+
+pub returns-in_err-car-clause-none : goal.returns-in_err-car-clause-none
+returns-in_err-car-clause-none c =
+    let found = c.in_ok-ticket.ensures.found in
+    let none : (slot : Slot) → IsTold c.args.text.now slot → ⊥ = told_ends c.args.text.now c.in_ok-ticket.ticket c.in_ok-ticket.call c.in_ok-ticket.rest.now found.0 found.1 found.2 found.3 c.in_err-car.ensures.none in
+    if_none _ _ none

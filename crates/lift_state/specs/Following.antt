@@ -1,0 +1,48 @@
+-- Parts of a trace's beginning, as it is read (own rules).
+use Rattle.std.specs.Prelude.{◌≡◌, ℕ, ◌+◌, ◌≤◌, List, ◌∷◌, ◌++◌, length, Err}
+use Rattle.lift_host.specs.declared.status.Fault.{Fault}
+use Rattle.lift_host.specs.declared.status.Fault.TheVariants.{Refused, CannotWrite, NoMemory}
+use Rattle.lift_trace.specs.declared.fault.TraceFault.{TraceFault}
+use Rattle.lift_trace.specs.declared.fault.TraceFault.TheVariants.{BadLine, Truncated, Write, Memory}
+use Rattle.lift_trace.specs.Reading.{Reads, greatest_trace}
+use Rattle.lift_state.specs.declared.fault.StateError.{StateError}
+use Rattle.lift_state.specs.declared.fault.StateError.TheVariants as error
+use Rattle.lift_state.specs.Beginnings.{events_text, line_behind, IsNumbered}
+use Rattle.lift_state.specs.Faults.{state_fault_number}
+use Rattle.lift_state.specs.Text.{first_line}
+
+-- a text that isn't too long is the first line of format 3, and then this (own rule)
+pub record IsStateOf (text state : List ℕ) : Type 0 where
+  pub whole : text ≡ first_line ++ (10 ∷ state)
+  pub small : length text ≤ greatest_trace
+
+-- the line of a fault of a trace; 0 where it has none (own rule)
+abbrev pub fault_line : TraceFault → ℕ
+fault_line (BadLine line) = line
+fault_line (Truncated line) = line
+fault_line Write = 0
+fault_line Memory = 0
+
+-- the fault of a trace, where so many lines stand before its text (own rule)
+abbrev pub fault_behind : ℕ → TraceFault → Fault
+fault_behind before (BadLine line) = Refused 80 (line + before)
+fault_behind before (Truncated line) = Refused 81 (line + before)
+fault_behind before Write = CannotWrite
+fault_behind before Memory = NoMemory
+
+-- the line of what is wrong with a state; 0 where memory ran out (own rule)
+abbrev pub error_line : StateError → ℕ
+error_line (error.Unread wrong) = wrong.line
+error_line error.Memory = 0
+
+-- the fault of a state (own rule)
+abbrev pub error_fault : StateError → Fault
+error_fault (error.Unread wrong) = Refused (state_fault_number wrong.fault) wrong.line
+error_fault error.Memory = NoMemory
+
+-- why there are no events in what is behind so many lines (own rule)
+abbrev pub IsEventless : ℕ → ℕ → List ℕ → Fault → Type 0
+IsEventless cars lines rest (Refused number line) =
+    (why : TraceFault) × (place : ℕ) × Reads cars (events_text rest) (Err why) × IsNumbered why number place × (line ≡ line_behind lines place)
+IsEventless cars lines rest NoMemory = Unit {0}
+IsEventless cars lines rest _ = ⊥

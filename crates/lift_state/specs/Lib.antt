@@ -1,0 +1,13 @@
+pub mod Faults
+pub mod Text
+pub mod Lines
+pub mod Saying
+pub mod Heads
+pub mod Variables
+pub mod Reading
+pub mod Parts
+pub mod Holding
+pub mod Walking
+pub mod Writing
+pub mod Beginnings
+pub mod Following

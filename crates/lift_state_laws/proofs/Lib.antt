@@ -1,0 +1,4 @@
+pub mod Once
+pub mod HeadOnce
+pub mod VarsOnce
+pub mod StateOnce
