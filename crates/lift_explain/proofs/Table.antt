@@ -3,7 +3,7 @@ use Rattle.std.proofs.Common.{◌≡◌, ℕ, zero, suc, Bool, true, false, List
 use Rattle.std.specs.Prelude.{◌==◌}
 use Rattle.std.proofs.lemmas.Bool.Decides.{nat_tests}
 use Rattle.lift_explain.specs.declared.Meaning.{Meaning}
-use Rattle.lift_explain.specs.Explained.{numbers, meaning_in}
+use Rattle.lift_explain.specs.Explained.{meaning_in}
 
 -- the numbers of some meanings
 abbrev pub numbers_of : List Meaning → List ℕ
@@ -25,8 +25,8 @@ found_numbered (x ∷ ms) n m e = by (x.number == n) refl e (found_numbered ms n
     by false is f later = in_tail x.number n (numbers_of ms) (later f)
 
 -- a number that has a meaning is one of them
-pub known : (ms : List Meaning) (n : ℕ) (m : Meaning) → Some m ≡ meaning_in ms n → numbers_of ms ≡ numbers → Contains numbers n
-known ms n m e are = subst (λ l. Contains l n) are (found_numbered ms n m e)
+pub known : (ms : List Meaning) (ns : List ℕ) (n : ℕ) (m : Meaning) → Some m ≡ meaning_in ms n → numbers_of ms ≡ ns → Contains ns n
+known ms ns n m e are = subst (λ l. Contains l n) are (found_numbered ms n m e)
 
 missing : (ms : List Meaning) (n : ℕ) → None ≡ meaning_in ms n → Contains (numbers_of ms) n → ⊥
 unfolding meaning_in
@@ -39,5 +39,5 @@ missing (x ∷ ms) n e has = by (x.number == n) refl e has (missing ms n)
     by false is f (suc k, below, at) later = later f (k, omega (arith, below), at)
 
 -- and one that has none is not
-pub unknown : (ms : List Meaning) (n : ℕ) → None ≡ meaning_in ms n → numbers_of ms ≡ numbers → Contains numbers n → ⊥
-unknown ms n e are has = missing ms n e (subst (λ l. Contains l n) (sym are) has)
+pub unknown : (ms : List Meaning) (ns : List ℕ) (n : ℕ) → None ≡ meaning_in ms n → numbers_of ms ≡ ns → Contains ns n → ⊥
+unknown ms ns n e are has = missing ms n e (subst (λ l. Contains l n) (sym are) has)

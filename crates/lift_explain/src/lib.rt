@@ -4,9 +4,9 @@
 mod texts;
 
 ghost use Rattle.std.specs.Prelude.{◌≡◌, ◌↔◌, Contains, IsSome, option_copied};
-ghost use Rattle.lift_explain.specs.Explained.{numbers, meaning_in};
+ghost use Rattle.lift_explain.specs.Explained.{configuration_numbers, meaning_in, numbers, run_numbers};
 
-use crate::texts::TEXTS;
+use crate::texts::{OF_CONFIGURATIONS, OF_RUNS};
 
 /// What a number means.
 #[derive(Clone, Copy)]
@@ -19,7 +19,24 @@ pub(crate) struct Meaning {
 pub fn explanation(number: u16) -> Option<&'static str>
     ensures { IsSome result ↔ Contains numbers number }
 {
-    Some(meaning_in(&TEXTS, number)?.text)
+    match of_configuration(number) {
+        Some(text) => Some(text),
+        None => of_run(number),
+    }
+}
+
+// What a fault of a configuration means.
+fn of_configuration(number: u16) -> Option<&'static str>
+    ensures { IsSome result ↔ Contains configuration_numbers number }
+{
+    Some(meaning_in(&OF_CONFIGURATIONS, number)?.text)
+}
+
+// What a refusal means, or a fault of a trace or of a file of calls.
+fn of_run(number: u16) -> Option<&'static str>
+    ensures { IsSome result ↔ Contains run_numbers number }
+{
+    Some(meaning_in(&OF_RUNS, number)?.text)
 }
 
 /// The first line of what it means: the number and its title.

@@ -2,7 +2,7 @@
 
 use crate::Meaning;
 
-pub(crate) const TEXTS: [Meaning; 46] = [
+pub(crate) const OF_CONFIGURATIONS: [Meaning; 32] = [
     Meaning {
         number: 1,
         text: "1: a byte that has no place in a text\n\nA byte outside 32 to 126 that is no tab, line feed, or carriage return directly before a line feed; or a byte that begins no token, such as `$`, `*`, `=` alone, or `-` without a digit behind it. Named is the line of the byte.\n\n    PROGRAM C\n    LD TRUE\n    ST OPEN $\n    END_PROGRAM\n\nrefused 1 at line 3\n\nRemove the byte; write comments in ASCII.\n\n    PROGRAM C\n    LD TRUE\n    ST OPEN\n    END_PROGRAM\n",
@@ -109,7 +109,7 @@ pub(crate) const TEXTS: [Meaning; 46] = [
     },
     Meaning {
         number: 40,
-        text: "40: a result that may leave its type\n\nThe range of a sum, a difference, a product, a quotient, an absolute value or a conversion doesn't lie in the type of the result.\n\n    PROGRAM C\n    VAR\n    V : INT;\n    END_VAR\n    LD V\n    ADD 1\n    ST V\n    END_PROGRAM\n\nrefused 40 at line 6\n\nV may be 32767. Declare a subrange, so that the sum fits, or hold the operand back with LIMIT before the sum.\n\n    PROGRAM C\n    VAR\n    V : INT (0..9); W : INT;\n    END_VAR\n    LD V\n    ADD 1\n    ST W\n    END_PROGRAM\n",
+        text: "40: a result that may leave its type\n\nThe range of a sum, a difference, a product, a quotient, an absolute value or a conversion doesn't lie in the type of the result.\n\nA difference of two times is refused too, such as NOW less a time that was stored: by their ranges it may be below 0, and a TIME isn't. To measure a time call a TON: its ET is how long its IN has been TRUE, up to PT.\n\n    PROGRAM C\n    VAR\n    V : INT;\n    END_VAR\n    LD V\n    ADD 1\n    ST V\n    END_PROGRAM\n\nrefused 40 at line 6\n\nV may be 32767. Declare a subrange, so that the sum fits, or hold the operand back with LIMIT before the sum.\n\n    PROGRAM C\n    VAR\n    V : INT (0..9); W : INT;\n    END_VAR\n    LD V\n    ADD 1\n    ST W\n    END_PROGRAM\n",
     },
     Meaning {
         number: 41,
@@ -131,9 +131,12 @@ pub(crate) const TEXTS: [Meaning; 46] = [
         number: 50,
         text: "50: a unit that costs too much\n\nA control path of the unit costs more than 1000000, as `LANGUAGE.md` counts under *The scan*, with the units that it calls. Named is the heading of the first such unit.\n\n    FUNCTION F : INT\n    VAR_INPUT A : INT; END_VAR\n    LD A             (* and 1997 more such lines, up to line 2000 *)\n    ST F\n    END_FUNCTION\n    PROGRAM C\n    LD 1\n    F                (* and 499 more such lines, up to line 2504 *)\n    END_PROGRAM\n\nrefused 50 at line 2003\n\nF costs 2000, and a call of it 2001; so C costs 1000502. Call less in a row: one scan can do a part of the work, and the next one the rest. With 499 calls C costs 998501, and the text is accepted.\n",
     },
+];
+
+pub(crate) const OF_RUNS: [Meaning; 19] = [
     Meaning {
         number: 60,
-        text: "60: a field out of range\n\nRefresh with another number of cars than CARS, a POS not from 1 to FLOORS, NOW over 2147483647, or RUNLIMIT over CARS.\n\n    LIFTTRACE 2\n    R 100 1 0 3 10110\n    S 1\n    C 1\n    E 3\n\nrefused 60 at line 2\n\nHand in fields in range. The group has 2 floors:\n\n    LIFTTRACE 2\n    R 100 1 0 2 11010\n    S 1\n    C 1\n    E 3\n",
+        text: "60: a field out of range\n\nRefresh with another number of cars than CARS, a POS not from 1 to FLOORS, NOW over 2147483647, or RUNLIMIT over CARS. In the state of a trace: a NOW, RUNLIMIT or CAR line with such a number.\n\n    LIFTTRACE 2\n    R 100 1 0 3 10110\n    S 1\n    C 1\n    E 3\n\nrefused 60 at line 2\n\nHand in fields in range. The group has 2 floors:\n\n    LIFTTRACE 2\n    R 100 1 0 2 11010\n    S 1\n    C 1\n    E 3\n",
     },
     Meaning {
         number: 61,
@@ -149,11 +152,11 @@ pub(crate) const TEXTS: [Meaning; 46] = [
     },
     Meaning {
         number: 64,
-        text: "64: no such task or floor\n\nA task that the group lacks, tested before 61 to 63; Press or Gather with a floor that is not from 1 to FLOORS.\n\n    LIFTTRACE 2\n    R 100 1 0 1 10110\n    S 2\n    C 2\n    E 3\n\nrefused 64 at line 3\n\nUse 0 for GROUP, k for CARk, and floors of the group. This one has CAR1 alone:\n\n    LIFTTRACE 2\n    R 100 1 0 1 10110\n    S 1\n    C 1\n    E 3\n",
+        text: "64: no such task or floor\n\nA task that the group lacks, tested before 61 to 63; Press or Gather with a floor that is not from 1 to FLOORS. In the state of a trace: a SLOT line with a floor or a car that the group hasn't.\n\n    LIFTTRACE 2\n    R 100 1 0 1 10110\n    S 2\n    C 2\n    E 3\n\nrefused 64 at line 3\n\nUse 0 for GROUP, k for CARk, and floors of the group. This one has CAR1 alone:\n\n    LIFTTRACE 2\n    R 100 1 0 1 10110\n    S 1\n    C 1\n    E 3\n",
     },
     Meaning {
         number: 65,
-        text: "65: a call to its own floor\n\nPress with the same floor twice.\n\n    LIFTTRACE 2\n    P 2 2\n    G 2\n    R 100 1 0 1 10110\n    E 3\n\nrefused 65 at line 2\n\nPress for another floor:\n\n    LIFTTRACE 2\n    P 2 1\n    G 2\n    R 100 1 0 1 10110\n    E 3\n",
+        text: "65: a call to its own floor\n\nPress with the same floor twice. In the state of a trace: a SLOT line with a call from a floor to itself.\n\n    LIFTTRACE 2\n    P 2 2\n    G 2\n    R 100 1 0 1 10110\n    E 3\n\nrefused 65 at line 2\n\nPress for another floor:\n\n    LIFTTRACE 2\n    P 2 1\n    G 2\n    R 100 1 0 1 10110\n    E 3\n",
     },
     Meaning {
         number: 70,
@@ -169,11 +172,11 @@ pub(crate) const TEXTS: [Meaning; 46] = [
     },
     Meaning {
         number: 80,
-        text: "80: a wrong line in a trace\n\nThe line is complete and has none of the forms of the trace's format, which `TRACE.md` shows. An R line has as many cars as CARS says, and has FIRE in format 2 alone. The number of the E line is that of the lines between the first one and it. Nothing may stand behind a right E line, not even a piece without a line feed. A trace of more than 67108864 bytes is 80 at line 1.\n\n    LIFTTRACE 2\n    R 100 1 1 10110\n    S 1\n    C 1\n    E 3\n\nrefused 80 at line 2\n\nThe R line is one of format 1. In format 2 FIRE stands behind RUNLIMIT:\n\n    LIFTTRACE 2\n    R 100 1 0 1 10110\n    S 1\n    C 1\n    E 3\n",
+        text: "80: a wrong line in a trace\n\nThe line is complete and has none of the forms of the trace's format, which `TRACE.md` shows. An R line has as many cars as CARS says, and has no FIRE in format 1. In format 3 a state stands between the first line and the events. Its lines have one order: one that isn't the line that has to come there, or that has another number than the next car or slot, is 80. The number of the E line is that of the lines of events. Nothing may stand behind a right E line, not even a piece without a line feed. A trace of more than 67108864 bytes is 80 at line 1.\n\n    LIFTTRACE 2\n    R 100 1 1 10110\n    S 1\n    C 1\n    E 3\n\nrefused 80 at line 2\n\nThe R line is one of format 1. In format 2 FIRE stands behind RUNLIMIT:\n\n    LIFTTRACE 2\n    R 100 1 0 1 10110\n    S 1\n    C 1\n    E 3\n",
     },
     Meaning {
         number: 81,
-        text: "81: a trace that ends too early\n\nThe text ends before its E line is complete. A line without its line feed isn't complete, whatever it says. Reported is the line where the text ends: 1 plus the number of its line feeds.\n\n    LIFTTRACE 2\n    R 100 1 0 1 10110\n    S 1\n    C 1\n\nrefused 81 at line 5\n\nIf a part of the trace was lost, copy the trace again. Otherwise end it with the E line and the number of the lines between:\n\n    LIFTTRACE 2\n    R 100 1 0 1 10110\n    S 1\n    C 1\n    E 3\n",
+        text: "81: a trace that ends too early\n\nThe text ends before its E line is complete, or in the state of a trace of format 3. A line without its line feed isn't complete, whatever it says. Reported is the line where the text ends: 1 plus the number of its line feeds.\n\n    LIFTTRACE 2\n    R 100 1 0 1 10110\n    S 1\n    C 1\n\nrefused 81 at line 5\n\nIf a part of the trace was lost, copy the trace again. A trace that was cut off is read up to its last whole line with --cut. Otherwise end it with the E line and the number of the lines between:\n\n    LIFTTRACE 2\n    R 100 1 0 1 10110\n    S 1\n    C 1\n    E 3\n",
     },
     Meaning {
         number: 82,
@@ -186,5 +189,25 @@ pub(crate) const TEXTS: [Meaning; 46] = [
     Meaning {
         number: 84,
         text: "84: a file of calls that is too long\n\nThe file has more than 100000 lines, or more than 4000000 bytes. Reported is the line at which it is too much: line 100001, or the one in which byte 4000001 stands. Bytes are counted before a line is read.\n\nA file that has `1 1 2` in each line, and nothing else:\n\n    1 1 2            (and 99999 more such lines, up to line 100000)\n    1 1 2            (line 100001)\n\nrefused 84 at line 100001\n\nGive the run fewer calls, or take lines out that say nothing. A run of 50000 rounds with two calls in each is at the limit.\n",
+    },
+    Meaning {
+        number: 85,
+        text: "85: the state is that of another configuration\n\nThe digits behind CONFIGURATION are not the SHA-256 of the text of FILE. Every byte of the text counts, comments too.\n\n    LIFTTRACE 3\n    CONFIGURATION 3f0c0a9d5b6c1c5f4e9a2a5f6b0c5a1d7e8f90a1b2c3d4e5f60718293a4b5c6d\n    NOW 300\n    RUNLIMIT 1\n    FIRE FALSE\n    CAR 1 1 10110 0 0\n    TICKETS 1\n    SLOT 1 WAITING 1 1 2\n    R 400 1 0 1 10110\n    S 1\n    C 1\n    E 3\n\nrefused 85 at line 2\n\nGive the command the text under which the state was written. These are the digits of the configuration above, with an empty program C:\n\n    LIFTTRACE 3\n    CONFIGURATION 1264bc52aefc6fc1b537aadf1988bf5a128409d3dbef3af44bb83ec2169af7a5\n    NOW 300\n    RUNLIMIT 1\n    FIRE FALSE\n    CAR 1 1 10110 0 0\n    TICKETS 1\n    SLOT 1 WAITING 1 1 2\n    R 400 1 0 1 10110\n    S 1\n    C 1\n    E 3\n",
+    },
+    Meaning {
+        number: 86,
+        text: "86: the outputs do not obey the interlock\n\nIn a state a car has a motor or an open command that the interlock forbids under its fields, RUNLIMIT and FIRE (`LANGUAGE.md`, *Interlock*). Reported is the line of the first such car, once all CAR lines are read.\n\n    LIFTTRACE 3\n    CONFIGURATION 1264bc52aefc6fc1b537aadf1988bf5a128409d3dbef3af44bb83ec2169af7a5\n    NOW 300\n    RUNLIMIT 1\n    FIRE FALSE\n    CAR 1 1 10100 1 0\n    TICKETS 1\n    SLOT 1 WAITING 1 1 2\n    R 400 1 0 1 10110\n    S 1\n    C 1\n    E 3\n\nrefused 86 at line 6\n\nThe motor runs while the door is not LOCKED. In a state that `serve` writes every output is still:\n\n    LIFTTRACE 3\n    CONFIGURATION 1264bc52aefc6fc1b537aadf1988bf5a128409d3dbef3af44bb83ec2169af7a5\n    NOW 300\n    RUNLIMIT 1\n    FIRE FALSE\n    CAR 1 1 10100 0 0\n    TICKETS 1\n    SLOT 1 WAITING 1 1 2\n    R 400 1 0 1 10110\n    S 1\n    C 1\n    E 3\n",
+    },
+    Meaning {
+        number: 87,
+        text: "87: no slot can have this ticket\n\nIn a state a SLOT line has the ticket 0, a ticket above that of the TICKETS line, or that of an earlier slot.\n\n    LIFTTRACE 3\n    CONFIGURATION 1264bc52aefc6fc1b537aadf1988bf5a128409d3dbef3af44bb83ec2169af7a5\n    NOW 300\n    RUNLIMIT 1\n    FIRE FALSE\n    CAR 1 1 10110 0 0\n    TICKETS 0\n    SLOT 1 WAITING 1 1 2\n    R 400 1 0 1 10110\n    S 1\n    C 1\n    E 3\n\nrefused 87 at line 8\n\nTICKETS is the last ticket that was given, so no call has a greater one:\n\n    LIFTTRACE 3\n    CONFIGURATION 1264bc52aefc6fc1b537aadf1988bf5a128409d3dbef3af44bb83ec2169af7a5\n    NOW 300\n    RUNLIMIT 1\n    FIRE FALSE\n    CAR 1 1 10110 0 0\n    TICKETS 1\n    SLOT 1 WAITING 1 1 2\n    R 400 1 0 1 10110\n    S 1\n    C 1\n    E 3\n",
+    },
+    Meaning {
+        number: 88,
+        text: "88: no line of this variable can stand here\n\nIn a state a VAR line names a variable that the configuration hasn't, or one whose line came already or comes out of order, or gives a variable its initial value. The globals come first, in the order of the text, then the variables of GROUP, and those of CAR1 and so on, each in the order of its program. A variable that has its initial value has no line.\n\n    LIFTTRACE 3\n    CONFIGURATION 1264bc52aefc6fc1b537aadf1988bf5a128409d3dbef3af44bb83ec2169af7a5\n    NOW 300\n    RUNLIMIT 1\n    FIRE FALSE\n    CAR 1 1 10110 0 0\n    TICKETS 1\n    SLOT 1 WAITING 1 1 2\n    VAR CAR1.V 2\n    R 400 1 0 1 10110\n    S 1\n    C 1\n    E 3\n\nrefused 88 at line 9\n\nThe program C has no variable V. `serve` writes no such line. Take it out:\n\n    LIFTTRACE 3\n    CONFIGURATION 1264bc52aefc6fc1b537aadf1988bf5a128409d3dbef3af44bb83ec2169af7a5\n    NOW 300\n    RUNLIMIT 1\n    FIRE FALSE\n    CAR 1 1 10110 0 0\n    TICKETS 1\n    SLOT 1 WAITING 1 1 2\n    R 400 1 0 1 10110\n    S 1\n    C 1\n    E 3\n",
+    },
+    Meaning {
+        number: 89,
+        text: "89: the value is not of the variable's declared set\n\nIn a state a VAR line gives a variable a value outside its declared range: a number outside its subrange or its type, or a word that is no value of the type. A BOOL has TRUE or FALSE, a TIME its milliseconds.\n\nA global of the configuration, and a line of the state:\n\n    MODE : INT (0..3);        (in VAR_GLOBAL)\n    VAR MODE 4                (line 9 of the trace)\n\nrefused 89 at line 9\n\nGive the variable a value of its range, 0 to 3, or leave the line out: then it has its initial value.\n",
     },
 ];

@@ -4,7 +4,7 @@ use crate::table::EXPLAIN;
 use clap::Command;
 use clap::error::ErrorKind;
 use lift_host::request::{
-    CALLS, CUT, FIRE, MOST_ROUNDS, Name, ROUNDS, Simulating, TRACE, Words, is_digits, is_option,
+    CALLS, CUT, FIRE, FROM, MOST_ROUNDS, Name, ROUNDS, Simulating, TRACE, is_digits, is_option,
     number_to,
 };
 use lift_host::serving::{SYNC, is_serve};
@@ -21,6 +21,9 @@ const ROUNDS_SHOWN: &str = "--rounds <A:B>";
 
 // The option `--trace`, as it is shown.
 const TRACE_SHOWN: &str = "--trace <TRACE>";
+
+// The option `--from`, as it is shown.
+const FROM_SHOWN: &str = "--from <OLD>";
 
 /// What is wrong with words that the parser takes.
 #[derive(Drop)]
@@ -53,6 +56,12 @@ pub struct Lone {
 // `--sync` without `--trace`.
 const SYNC_ALONE: Lone = Lone {
     option: SYNC,
+    beside: "'--trace <TRACE>'",
+};
+
+// `--from` without `--trace`.
+const FROM_ALONE: Lone = Lone {
+    option: FROM_SHOWN,
     beside: "'--trace <TRACE>'",
 };
 
@@ -318,65 +327,103 @@ fn misuse_at_trace(seen: Seen, words: &[String]) -> Misuse<'_> {
     }
 }
 
+// What was seen so far of the words behind `serve`.
+#[derive(Clone, Copy)]
+struct Served {
+    /// The option whose value is next, as it is shown.
+    needs_value: Option<&'static str>,
+    from: bool,
+    trace: bool,
+    sync: bool,
+}
+
+impl Served {
+    // The same, and a word more.
+    fn with(self, word: &str) -> Result<Served, Wrong> {
+        if let Some(option) = self.needs_value {
+            return self.with_value(option, word);
+        }
+        if word == FROM {
+            return self.with_from();
+        }
+        if word == TRACE {
+            return self.with_trace();
+        }
+        if word == SYNC {
+            return self.with_sync();
+        }
+        if is_option(word) {
+            return Err(Wrong::Unexpected);
+        }
+        Ok(self)
+    }
+
+    fn with_value(self, option: &'static str, word: &str) -> Result<Served, Wrong> {
+        if is_option(word) {
+            return Err(Wrong::NoValue(option));
+        }
+        Ok(Served {
+            needs_value: None,
+            ..self
+        })
+    }
+
+    fn with_from(self) -> Result<Served, Wrong> {
+        if self.from {
+            return Err(Wrong::Twice(FROM_SHOWN));
+        }
+        Ok(Served {
+            needs_value: Some(FROM_SHOWN),
+            from: true,
+            ..self
+        })
+    }
+
+    fn with_trace(self) -> Result<Served, Wrong> {
+        if self.trace {
+            return Err(Wrong::Twice(TRACE_SHOWN));
+        }
+        Ok(Served {
+            needs_value: Some(TRACE_SHOWN),
+            trace: true,
+            ..self
+        })
+    }
+
+    fn with_sync(self) -> Result<Served, Wrong> {
+        if self.sync {
+            return Err(Wrong::Twice(SYNC));
+        }
+        Ok(Served { sync: true, ..self })
+    }
+
+    // What is wrong with words, each of which may stand there.
+    fn misuse<'w>(self) -> Misuse<'w> {
+        match self.needs_value {
+            Some(option) => Misuse::NoValue(option),
+            None if self.trace => Misuse::Missing,
+            None if self.from => Misuse::Alone(FROM_ALONE),
+            None if self.sync => Misuse::Alone(SYNC_ALONE),
+            None => Misuse::Missing,
+        }
+    }
+}
+
 // What is wrong with words behind `serve`.
 fn misuse_of_serve(words: &[String]) -> Misuse<'_> {
-    let Some(place) = words.iter().position(|word| is_trace(word)) else {
-        return misuse_without_trace(words);
+    let mut served = Served {
+        needs_value: None,
+        from: false,
+        trace: false,
+        sync: false,
     };
-    let (front, rest) = words.split_at(place);
-    match rest {
-        [_, value, ..] if is_option(value) => Misuse::NoValue(TRACE_SHOWN),
-        [_, _, back @ ..] if back.iter().any(|word| is_trace(word)) => Misuse::Twice(TRACE_SHOWN),
-        [_, _, back @ ..] => misuse_beside_trace(Words::around(front, back)),
-        _ => Misuse::NoValue(TRACE_SHOWN),
+    for word in words {
+        match served.with(word) {
+            Ok(next) => served = next,
+            Err(wrong) => return wrong.misuse(word),
+        }
     }
-}
-
-// Whether a word is the option `--trace`.
-fn is_trace(word: &str) -> bool {
-    word == TRACE
-}
-
-// Whether a word is the flag `--sync`.
-fn is_sync(word: &str) -> bool {
-    word == SYNC
-}
-
-// The first word that begins with `-`, but is not `--sync`.
-fn first_but_sync(words: &[String]) -> Option<Misuse<'_>> {
-    let word = words.iter().find(|word| is_option(word) && !is_sync(word))?;
-    Some(Misuse::Unexpected(word))
-}
-
-// What is wrong with words behind `serve` that have no `--trace`.
-fn misuse_without_trace(words: &[String]) -> Misuse<'_> {
-    match first_but_sync(words) {
-        Some(misuse) => misuse,
-        None if words.iter().any(|word| is_sync(word)) => Misuse::Alone(SYNC_ALONE),
-        None => Misuse::Missing,
-    }
-}
-
-// What is wrong with the words beside `--trace` and its value.
-fn misuse_beside_trace(words: Words<'_>) -> Misuse<'_> {
-    if let Some(misuse) = first_but_sync(words.front).or_else(|| first_but_sync(words.back)) {
-        return misuse;
-    }
-    if has_sync_twice(words) {
-        return Misuse::Twice(SYNC);
-    }
-    Misuse::Missing
-}
-
-// Whether `--sync` stands twice among words.
-fn has_sync_twice(words: Words<'_>) -> bool {
-    words
-        .front
-        .iter()
-        .chain(words.back.iter())
-        .filter(|word| is_sync(word))
-        .nth(1)
-        .is_some()
+    served.misuse()
 }
 
 /// What the parser would say of the misuse.

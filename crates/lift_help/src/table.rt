@@ -2,8 +2,8 @@
 
 use clap::{Arg, ArgAction, Command};
 use lift_host::request::{
-    ALL, CALLS, CUT, FIRE, Following, JSON, LEFT, LIMITS, Name, ROUND, ROUNDS, SUMMARY, Showing,
-    Simulating, TOGETHER, TRACE, UNTIL, WARN,
+    ALL, CALLS, CUT, FIRE, FROM, Following, JSON, LEFT, LIMITS, Name, ROUND, ROUNDS, SUMMARY,
+    Showing, Simulating, TOGETHER, TRACE, UNTIL, WARN,
 };
 use lift_host::serving::SYNC;
 use std::alloc::{AllocError, Global};
@@ -180,6 +180,12 @@ const UNTIL_OPTION: Argument = Argument {
     help: "Shows nothing behind the first instruction of LINE",
 };
 
+const FROM_OPTION: Argument = Argument {
+    name: FROM,
+    standing: Standing::Behind("OLD"),
+    help: "With --trace: goes on where the trace OLD ends: its calls, cars and variables are there again, every output still; TRACE begins with that state",
+};
+
 const TRACE_OPTION: Argument = Argument {
     name: TRACE,
     standing: Standing::Behind("TRACE"),
@@ -289,7 +295,7 @@ static COMMANDS: [Row; 13] = [
     Row {
         name: Named::Serve,
         about: "Runs FILE behind lines: fields in, outputs back; docs/SERVE.md has the lines",
-        arguments: &[FILE_WORD, TRACE_OPTION, SYNC_FLAG],
+        arguments: &[FILE_WORD, FROM_OPTION, TRACE_OPTION, SYNC_FLAG],
     },
     Row {
         name: Named::Explain,

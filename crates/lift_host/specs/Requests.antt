@@ -309,14 +309,20 @@ cut_scan_word word =
     else if bytes_eq (take 8 word) (codes "--until=") then codes "--until" ∷ drop 8 word ∷ []
     else word ∷ []
 
--- a word, or for `--fire=ROUND`, `--trace=TRACE`, `--calls=CALLS`, `--rounds=A:B`, `--round=N` and `--until=LINE` two
+-- a word, or for the options of `serve` and of `scan` two
+abbrev pub cut_serve_word : List ℕ → List (List ℕ)
+cut_serve_word word =
+    if bytes_eq (take 8 word) (codes "--trace=") then codes "--trace" ∷ drop 8 word ∷ []
+    else if bytes_eq (take 7 word) (codes "--from=") then codes "--from" ∷ drop 7 word ∷ []
+    else cut_scan_word word
+
+-- a word, or for `--fire=ROUND`, `--calls=CALLS`, `--rounds=A:B`, `--trace=TRACE`, `--from=OLD`, `--round=N` and `--until=LINE` two
 abbrev pub cut_word : List ℕ → List (List ℕ)
 cut_word word =
     if bytes_eq (take 7 word) (codes "--fire=") then codes "--fire" ∷ drop 7 word ∷ []
-    else if bytes_eq (take 8 word) (codes "--trace=") then codes "--trace" ∷ drop 8 word ∷ []
     else if bytes_eq (take 8 word) (codes "--calls=") then codes "--calls" ∷ drop 8 word ∷ []
     else if bytes_eq (take 9 word) (codes "--rounds=") then codes "--rounds" ∷ drop 9 word ∷ []
-    else cut_scan_word word
+    else cut_serve_word word
 
 -- the words in place of a word: none for `--explain`, and none for a flag of the command
 abbrev pub plain_word : Option (List ℕ) → Option (List ℕ) → Option (List ℕ) → List ℕ → List (List ℕ)

@@ -1,7 +1,7 @@
 // What the words ask for.
 
 ghost use Rattle.std.specs.Prelude.{◌≡◌, ◌≤◌, ◌<◌, ◌∷◌, ◌++◌, ◌↔◌, [], ℕ, Bool, List, Option, Some, true, false, IfSome, IfOk, IsNone, IsTrue, MatchOption, OnOk, codes, bytes_eq, flat_map, length, map, option_map, slice_get, string_bytes};
-ghost use Rattle.lift_host.specs.Requests.{IsNumberTo, IsDigits, IsOption, AreNoOptions, LeaveOut, IsApart, IsOnlyApart, AreApart, AreOnlyApart, IsBehind, IsOnlyBehind, IsFlagApart, IsFile, IsFileBeside, IsFileWith, AreFiles, GiveRounds, GiveTrace, GiveDrawing, GiveFollowed, GiveScan, AreNames, Takes, TakesTrace, Asks, BeginsWithDigit, BeginWithName, NeedsName, AreNamesFirst, plain_words, plain_word, cut_word, cut_scan_word, flag_of, second_of, json_of, own_flag, own_second, own_json, asked_json, is_flag, explains, names_flag, flags_of, with_flags, command_of, name_of, word_of, words_of};
+ghost use Rattle.lift_host.specs.Requests.{IsNumberTo, IsDigits, IsOption, AreNoOptions, LeaveOut, IsApart, IsOnlyApart, AreApart, AreOnlyApart, IsBehind, IsOnlyBehind, IsFlagApart, IsFile, IsFileBeside, IsFileWith, AreFiles, GiveRounds, GiveTrace, GiveDrawing, GiveFollowed, GiveScan, AreNames, Takes, TakesTrace, Asks, BeginsWithDigit, BeginWithName, NeedsName, AreNamesFirst, plain_words, plain_word, cut_word, cut_scan_word, cut_serve_word, flag_of, second_of, json_of, own_flag, own_second, own_json, asked_json, is_flag, explains, names_flag, flags_of, with_flags, command_of, name_of, word_of, words_of};
 ghost use Rattle.lift_host.specs.declared.request.Name.{Name};
 ghost use Rattle.lift_host.specs.declared.request.Request.{Request};
 ghost use Rattle.lift_host.specs.declared.request.Rounds.{Rounds};
@@ -47,6 +47,12 @@ pub const TRACE: &str = "--trace";
 
 // The same option, where its value stands in one word with it.
 const TRACE_IS: &str = "--trace=";
+
+/// The option of `serve` whose value is the name of the trace that the group goes on from.
+pub const FROM: &str = "--from";
+
+// The same option, where its value stands in one word with it.
+const FROM_IS: &str = "--from=";
 
 /// The flag of `denials` that has it show all denials.
 pub const ALL: &str = "--all";
@@ -483,11 +489,11 @@ fn shown_given(rest: &[String]) -> Option<Shown<'_>>
     }
 }
 
-/// FILE, and whether an option stands beside it.
+// FILE, and whether an option stands beside it.
 #[derive(Clone, Copy)]
-pub(crate) struct FileWith<'w> {
-    pub(crate) file: &'w str,
-    pub(crate) has_option: bool,
+struct FileWith<'w> {
+    file: &'w str,
+    has_option: bool,
 }
 
 // FILE, where it is the one of two words beside which the option stands.
@@ -505,8 +511,8 @@ fn file_beside<'w>(option: &str, first: &'w str, second: &'w str) -> Option<&'w 
     None
 }
 
-/// FILE, where it is the one word or the option stands beside it.
-pub(crate) fn file_with<'w>(option: &str, words: Words<'w>) -> Option<FileWith<'w>>
+// FILE, where it is the one word or the option stands beside it.
+fn file_with<'w>(option: &str, words: Words<'w>) -> Option<FileWith<'w>>
     ensures some { IfSome result (λ found. IsFileWith option.now (words_of words.entry)
         found.file.now found.has_option) }
     ensures none { IsNone result → (file : List ℕ) (has_option : Bool)
@@ -914,16 +920,16 @@ fn from_value<'w>(option: &str, words: &'w [String]) -> Option<Behind<'w>>
     })
 }
 
-/// Words without an option and the value behind it, those before it and those behind, and that value.
+// Words without an option and the value behind it, those before it and those behind, and that value.
 #[derive(Clone, Copy)]
-pub(crate) struct WordsApart<'w> {
-    pub(crate) front: &'w [String],
-    pub(crate) back: &'w [String],
-    pub(crate) value: Option<&'w str>,
+struct WordsApart<'w> {
+    front: &'w [String],
+    back: &'w [String],
+    value: Option<&'w str>,
 }
 
-/// Words apart at the first place of an option, where a value stands behind it that begins with no `-`.
-pub(crate) fn apart<'w>(option: &str, words: &'w [String]) -> Option<WordsApart<'w>>
+// Words apart at the first place of an option, where a value stands behind it that begins with no `-`.
+fn apart<'w>(option: &str, words: &'w [String]) -> Option<WordsApart<'w>>
     ensures some { IfSome result (λ apart. IsApart option.now (map string_bytes words.now)
         (map string_bytes apart.front.now ++ map string_bytes apart.back.now)
         (option_map (λ value. value.now) apart.value)) }
@@ -953,8 +959,8 @@ pub(crate) fn apart<'w>(option: &str, words: &'w [String]) -> Option<WordsApart<
     })
 }
 
-// Whether two words are the same.
-fn is_same(word: &str, other: &str) -> bool
+/// Whether two words are the same.
+pub(crate) fn is_same(word: &str, other: &str) -> bool
     ensures { IsTrue result ↔ (word.now ≡ other.now) }
 {
     word == other
@@ -1050,8 +1056,8 @@ pub struct Flags {
 /// The words of a command line as they are read, and the flags that may stand anywhere among them.
 #[derive(Drop)]
 pub struct Plain {
-    /// The words without `--explain` and the flags of their command; for `--fire=ROUND`, `--calls=CALLS`, `--rounds=A:B` and `--trace=TRACE` stand
-    /// two words.
+    /// The words without `--explain` and the flags of their command; for `--fire=ROUND`, `--calls=CALLS`, `--rounds=A:B`, `--trace=TRACE` and
+    /// `--from=OLD` stand two words.
     pub words: Vec<String>,
     /// Whether `--explain` was among them.
     pub explains: bool,
@@ -1260,6 +1266,14 @@ fn trace_behind(word: &str) -> Option<&str>
     word.strip_prefix(TRACE_IS)
 }
 
+// The OLD of `--from=OLD`.
+fn old_behind(word: &str) -> Option<&str>
+    ensures some { IfSome result (λ old. word.now ≡ codes "--from=" ++ old.now) }
+    ensures none { IsNone result → (old : List ℕ) → word.now ≡ codes "--from=" ++ old → ⊥ }
+{
+    word.strip_prefix(FROM_IS)
+}
+
 // The CALLS of `--calls=CALLS`.
 fn calls_behind(word: &str) -> Option<&str>
     ensures some { IfSome result (λ calls. word.now ≡ codes "--calls=" ++ calls.now) }
@@ -1303,12 +1317,6 @@ fn value_within(word: &str) -> Option<Valued<'_>>
             value: round,
         });
     }
-    if let Some(trace) = trace_behind(word) {
-        return Some(Valued {
-            option: TRACE,
-            value: trace,
-        });
-    }
     if let Some(calls) = calls_behind(word) {
         return Some(Valued {
             option: CALLS,
@@ -1319,6 +1327,26 @@ fn value_within(word: &str) -> Option<Valued<'_>>
         return Some(Valued {
             option: ROUNDS,
             value: span,
+        });
+    }
+    of_serve_within(word)
+}
+
+// The same of an option of `serve` or of `scan`.
+fn of_serve_within(word: &str) -> Option<Valued<'_>>
+    ensures { MatchOption result (cut_serve_word word.now ≡ word.now ∷ [])
+        (λ valued. cut_serve_word word.now ≡ valued.option.now ∷ valued.value.now ∷ []) }
+{
+    if let Some(trace) = trace_behind(word) {
+        return Some(Valued {
+            option: TRACE,
+            value: trace,
+        });
+    }
+    if let Some(old) = old_behind(word) {
+        return Some(Valued {
+            option: FROM,
+            value: old,
         });
     }
     of_scan_within(word)

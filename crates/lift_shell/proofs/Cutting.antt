@@ -31,3 +31,10 @@ behind_the_end = refl
 -- with a wrong end, which stays
 pub wrong_end : completed (codes "LIFTTRACE 2\nS 1\nE 7\n") ≡ codes "LIFTTRACE 2\nS 1\nE 7\n"
 wrong_end = refl
+
+-- behind a state, and in it: its lines are none of events
+pub behind_a_state : completed (codes "LIFTTRACE 3\nNOW 100\nSLOT 1 FREE\nP 1 2\nG 1\nR") ≡ codes "LIFTTRACE 3\nNOW 100\nSLOT 1 FREE\nP 1 2\nG 1\nE " ++ decimal 2 ++ codes "\n"
+behind_a_state = refl
+
+pub in_a_state : completed (codes "LIFTTRACE 3\nNOW 100\nSLOT 1") ≡ codes "LIFTTRACE 3\nNOW 100\nE " ++ decimal 0 ++ codes "\n"
+in_a_state = refl

@@ -1,5 +1,6 @@
 -- A trace that was cut off, up to its last whole line (own rule).
 use Rattle.std.specs.Prelude.{ℕ, ◌+◌, ◌-◌, Bool, List, [], ◌∷◌, ◌++◌, ◌==◌, ◌||◌, if◌then◌else◌, length, take, drop, slice_index, count_by, codes, decimal}
+use Rattle.std.specs.List.{slice_split}
 
 abbrev pub is_feed : ℕ → Bool
 is_feed byte = byte == 10
@@ -21,13 +22,21 @@ last_line lines = drop (whole_length (take (length lines - 1) lines)) lines
 abbrev pub have_end : List ℕ → Bool
 have_end lines = length lines == 0 || slice_index (last_line lines) 0 == 69
 
--- the end of a trace with so many lines before it, of which the first is its head
+-- a line of an event: one letter and a space. A line of a state begins with a longer word
+abbrev pub is_event : List ℕ → Bool
+is_event line = slice_index line 1 == 32
+
+-- how many lines of events stand behind the first of whole lines
+abbrev pub event_count : List ℕ → ℕ
+event_count lines = count_by is_event (drop 1 (slice_split is_feed lines))
+
+-- the end of a trace with so many lines of events
 abbrev pub end_line : ℕ → List ℕ
-end_line lines = codes "E " ++ decimal (lines - 1) ++ codes "\n"
+end_line events = codes "E " ++ decimal events ++ codes "\n"
 
 -- whole lines, with an end
 abbrev pub ended : List ℕ → List ℕ
-ended lines = if have_end lines then lines else lines ++ end_line (count_by is_feed lines)
+ended lines = if have_end lines then lines else lines ++ end_line (event_count lines)
 
 -- a text up to its last whole line, with an end
 abbrev pub completed : List ℕ → List ℕ

@@ -1,7 +1,7 @@
 // A trace that was cut off.
 
-ghost use Rattle.std.specs.Prelude.{◌≡◌, ◌≤◌, ◌++◌, ◌==◌, length, count_by, slice_index, OnOk};
-ghost use Rattle.lift_shell.specs.Cuts.{completed, end_line, have_end, is_feed, last_line, whole_length};
+ghost use Rattle.std.specs.Prelude.{◌≡◌, ◌≤◌, ◌++◌, ◌==◌, length, slice_index, OnOk};
+ghost use Rattle.lift_shell.specs.Cuts.{completed, end_line, event_count, have_end, is_event, last_line, whole_length};
 
 use itoa::Buffer;
 use memchr::memrchr;
@@ -40,11 +40,22 @@ fn begins_with_e(line: &[u8]) -> bool
     matches!(line, [b'E', ..])
 }
 
-// How many lines there are.
-fn line_count(lines: &[u8]) -> usize
-    ensures { result ≡ count_by is_feed lines.now }
+// Whether a line is that of an event: one letter and a space.
+fn is_event(line: &[u8]) -> bool
+    ensures { result ≡ is_event line.now }
 {
-    lines.iter().filter(|byte| **byte == b'\n').count()
+    matches!(line, [_, b' ', ..])
+}
+
+// How many lines of events there are behind the first line.
+fn event_count(lines: &[u8]) -> usize
+    ensures { result ≡ event_count lines.now }
+{
+    lines
+        .split(|byte| *byte == b'\n')
+        .skip(1)
+        .filter(|line| is_event(line))
+        .count()
 }
 
 /// Takes a trace up to its last whole line, and puts its end behind it where it has none.
@@ -56,16 +67,16 @@ pub(crate) fn complete(text: &mut Vec<u8>) -> Result<(), AllocError>
     if have_end(text) {
         return Ok(());
     }
-    let lines = line_count(text);
-    put_end(text, lines)
+    let events = event_count(text);
+    put_end(text, events)
 }
 
-// The line at the end of a trace of so many lines.
-fn put_end(text: &mut Vec<u8>, lines: usize) -> Result<(), AllocError>
-    ensures { OnOk result (text.new.items ≡ text.old.items ++ end_line lines) }
+// The line at the end of a trace of so many lines of events.
+fn put_end(text: &mut Vec<u8>, events: usize) -> Result<(), AllocError>
+    ensures { OnOk result (text.new.items ≡ text.old.items ++ end_line events) }
 {
     let mut digits = Buffer::new();
     text.extend_from_slice(b"E ")?;
-    text.extend_from_slice(digits.format(lines.saturating_sub(1)).as_bytes())?;
+    text.extend_from_slice(digits.format(events).as_bytes())?;
     text.extend_from_slice(b"\n")
 }

@@ -1,13 +1,21 @@
-use Rattle.std.proofs.Common.{rules, refl}
-use Rattle.lift_explain.specs.Explained.{numbers}
-use Rattle.lift_explain.proofs.Table.{known, unknown}
+use Rattle.std.proofs.Common.{◌≡◌, Bool, false, true, inl, inr, refl}
+use Rattle.std.proofs.lemmas.List.Elements.{Contains-append_left, Contains-append_right, Contains-append_cases}
+use Rattle.lift_explain.specs.Explained.{configuration_numbers, numbers, run_numbers}
 use Rattle.lift_explain.proofs.explanation.Goals as goal
 
-pub returns-in_err-meaning_in : goal.returns-in_err-meaning_in
-unfolding numbers
-returns-in_err-meaning_in c =
-    (λ some. let none = c.from_residual.ensures in search (rules), λ has. absurd (unknown _ _ c.in_err-meaning_in.ensures refl has))
+never : ◌≡◌ {A = Bool} false true → ⊥
+never e = cc
 
-pub returns : goal.returns
+pub returns-in-Some : goal.returns-in-Some
 unfolding numbers
-returns c = (λ _. known _ _ _ c.in_ok-meaning_in.ensures refl, λ _. refl)
+returns-in-Some c = (λ _. Contains-append_left configuration_numbers run_numbers c.args.number (c.in-Some.ensures.0 refl), λ _. refl)
+
+pub returns-in-None : goal.returns-in-None
+unfolding numbers
+returns-in-None c = (
+  λ some. Contains-append_right configuration_numbers run_numbers c.args.number (c.of_run.ensures.0 some),
+  λ has. elim (Contains-append_cases configuration_numbers run_numbers c.args.number has) [
+    | inl front ↦ absurd (never (c.in-None.ensures.1 front))
+    | inr back ↦ c.of_run.ensures.1 back
+  ],
+)
