@@ -1,6 +1,6 @@
 mod Ends
 pub mod Pressed
-pub mod Counted
+pub mod Begun
 pub mod Drawn
 pub mod Followed
 pub mod Watching

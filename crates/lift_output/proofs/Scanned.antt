@@ -1,5 +1,5 @@
 -- A scan of a trace that was read, and words that ask for none.
-use Rattle.std.proofs.Common.{◌≡◌, ◌≢◌, ℕ, List, None, Ok, Err, inl, inr, sym, ap, ◌∙◌, subst, true, false}
+use Rattle.std.proofs.Common.{◌≡◌, ◌≢◌, ℕ, List, Ok, Err, inl, inr, sym, ap, ◌∙◌, subst, true, false}
 use Rattle.std.specs.Prelude.{string_bytes, is_some}
 use Rattle.il_machine.specs.Scanning.{Program}
 use Rattle.il_run.specs.Scan.{task_program}
@@ -14,11 +14,9 @@ use Rattle.lift_messages.specs.Outputs.{Outcome}
 use Rattle.lift_output.specs.Outcomes.{IsScanned, IsScanOutcome}
 use Rattle.lift_output.specs.Parts.{AreScanned, IsTraceUnread}
 use Rattle.lift_output.specs.Scans.{HasTask, HasRound, IsAsked, IsTaskWord, IsUnasked, IsUnaskedBy, IsBadNumber, round_word, until_word}
+use Rattle.lift_output.specs.Traces.{IsRead}
 use Rattle.lift_scan.specs.declared.chosen.Asked.{Asked}
-use Rattle.lift_spec.specs.declared.trace.TraceEvent.{TraceEvent}
-use Rattle.lift_spec.specs.Image.{sizes_of}
 use Rattle.lift_spec.specs.Snapshot.{has_task, task_name}
-use Rattle.lift_trace.specs.Reading.{Reads}
 use Rattle.lift_watch.specs.Names.{upper_case}
 
 -- a name of no task of the group is none of another
@@ -28,36 +26,36 @@ names_none p word task other named lacks is =
     let no : false ≡ true = sym lacks ∙ ap (λ (n : List ℕ). is_some (task_program p.config n)) same ∙ is.has in
     cc
 
-pub scanned_is : (traced : Traced) (p : Program) (asked : Asked) (source text : List ℕ) (events : List TraceEvent) (outcome : Outcome) → Reads (sizes_of p.config).cars text (Ok events) → IsAsked traced p asked
-    → AreScanned traced p asked source events outcome → IsScanned traced p source text outcome
-scanned_is traced p asked source text events (Ok output) reads of is = record { events = events; reads = reads; asked = asked; is = of; shown = is }
-scanned_is traced p asked source text events (Err (fault.Refused number line)) reads of is = (asked, of, inr (record { events = events; reads = reads; index = is.0; why = is.1; refused = is.2; numbered = is.3; lined = is.4 }))
-scanned_is traced p asked source text events (Err (fault.BadScan kind word)) reads of is = inr (record { events = events; reads = reads; asked = asked; is = of; none = is.0; word = is.1 })
-scanned_is traced p asked source text events (Err fault.NoMemory) reads of is = tt
-scanned_is traced p asked source text events (Err (fault.BadSpan word)) reads of is = absurd is
-scanned_is traced p asked source text events (Err (fault.BadName word)) reads of is = absurd is
-scanned_is traced p asked source text events (Err (fault.Misuse words)) reads of is = absurd is
-scanned_is traced p asked source text events (Err (fault.RefusedText number place)) reads of is = absurd is
-scanned_is traced p asked source text events (Err (fault.BadPress word)) reads of is = absurd is
-scanned_is traced p asked source text events (Err fault.TooManyPresses) reads of is = absurd is
-scanned_is traced p asked source text events (Err (fault.BadFire word)) reads of is = absurd is
-scanned_is traced p asked source text events (Err (fault.CannotRead cause)) reads of is = absurd is
-scanned_is traced p asked source text events (Err fault.CannotWrite) reads of is = absurd is
+module _ (traced : Traced) (p : Program) (asked : Asked) (source text : List ℕ) (of : IsAsked traced p asked) where
+  pub scanned_is : (read : IsRead p source text) (outcome : Outcome) → AreScanned traced p asked source read.from read.events read.lines outcome → IsScanned traced p source text outcome
+  scanned_is read (Ok output) is = record { read = read; asked = asked; is = of; shown = is }
+  scanned_is read (Err (fault.Refused number line)) is = (asked, of, inr (record { read = read; index = is.0; why = is.1; refused = is.2; numbered = is.3; lined = is.4 }))
+  scanned_is read (Err (fault.BadScan kind word)) is = inr (record { read = read; asked = asked; is = of; none = is.0; word = is.1 })
+  scanned_is read (Err fault.NoMemory) is = tt
+  scanned_is read (Err (fault.BadSpan word)) is = absurd is
+  scanned_is read (Err (fault.BadName word)) is = absurd is
+  scanned_is read (Err (fault.Misuse words)) is = absurd is
+  scanned_is read (Err (fault.RefusedText number place)) is = absurd is
+  scanned_is read (Err (fault.BadPress word)) is = absurd is
+  scanned_is read (Err fault.TooManyPresses) is = absurd is
+  scanned_is read (Err (fault.BadFire word)) is = absurd is
+  scanned_is read (Err (fault.CannotRead cause)) is = absurd is
+  scanned_is read (Err fault.CannotWrite) is = absurd is
 
--- a text that is no trace, behind words that ask for a scan
-pub unscanned_is : (traced : Traced) (p : Program) (asked : Asked) (source text : List ℕ) (why : Fault) → IsAsked traced p asked → IsTraceUnread (sizes_of p.config).cars text why → IsScanned traced p source text (Err why)
-unscanned_is traced p asked source text (fault.Refused number line) of is = (asked, of, inl is)
-unscanned_is traced p asked source text fault.NoMemory of is = tt
-unscanned_is traced p asked source text (fault.BadScan kind word) of is = absurd is
-unscanned_is traced p asked source text (fault.BadSpan word) of is = absurd is
-unscanned_is traced p asked source text (fault.BadName word) of is = absurd is
-unscanned_is traced p asked source text (fault.Misuse words) of is = absurd is
-unscanned_is traced p asked source text (fault.RefusedText number place) of is = absurd is
-unscanned_is traced p asked source text (fault.BadPress word) of is = absurd is
-unscanned_is traced p asked source text fault.TooManyPresses of is = absurd is
-unscanned_is traced p asked source text (fault.BadFire word) of is = absurd is
-unscanned_is traced p asked source text (fault.CannotRead cause) of is = absurd is
-unscanned_is traced p asked source text fault.CannotWrite of is = absurd is
+  -- a text that is no whole trace, behind words that ask for a scan
+  pub unscanned_is : (why : Fault) → IsTraceUnread p source text why → IsScanned traced p source text (Err why)
+  unscanned_is (fault.Refused number line) is = (asked, of, inl is)
+  unscanned_is fault.NoMemory is = tt
+  unscanned_is (fault.BadScan kind word) is = absurd is
+  unscanned_is (fault.BadSpan word) is = absurd is
+  unscanned_is (fault.BadName word) is = absurd is
+  unscanned_is (fault.Misuse words) is = absurd is
+  unscanned_is (fault.RefusedText number place) is = absurd is
+  unscanned_is (fault.BadPress word) is = absurd is
+  unscanned_is fault.TooManyPresses is = absurd is
+  unscanned_is (fault.BadFire word) is = absurd is
+  unscanned_is (fault.CannotRead cause) is = absurd is
+  unscanned_is fault.CannotWrite is = absurd is
 
 -- words that ask for no scan
 pub unasked_is : (traced : Traced) (p : Program) (source : List ℕ) (trace : Reading) (why : Fault) → IsUnasked traced p why → IsScanOutcome traced p source trace (Err why)

@@ -5,4 +5,5 @@ pub mod Outcomes
 pub mod Parts
 pub mod Spans
 pub mod Tellings
+pub mod Traces
 pub mod Scans

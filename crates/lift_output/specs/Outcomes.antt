@@ -37,6 +37,7 @@ use Rattle.lift_output.specs.Listing.{listing}
 use Rattle.lift_output.specs.Scans.{IsAsked, IsEarlyRefused, IsScanOf, IsUnasked, IsUnaskedBy, HasNoScan}
 use Rattle.lift_output.specs.Spans.{IsSpanWord, IsNoSpan}
 use Rattle.lift_output.specs.Tellings.{telling_of}
+use Rattle.lift_output.specs.Traces.{IsRead, IsLineRefused}
 use Rattle.lift_output.specs.declared.telling.Telling.{Telling}
 use Rattle.lift_output.specs.declared.telling.Telling.TheVariants.{Image, Picture, Calls, Denials, Values}
 use Rattle.lift_runs.specs.Driven.{IsSimulated, switches_in}
@@ -50,8 +51,6 @@ use Rattle.lift_spec.specs.declared.trace.TraceEvent.{TraceEvent}
 use Rattle.lift_spec.specs.EventFaults.{event_fault_number}
 use Rattle.lift_spec.specs.Image.{sizes_of}
 use Rattle.lift_spec.specs.World.{World, opening}
-use Rattle.lift_trace.specs.declared.fault.TraceFault.TheVariants.{BadLine, Truncated}
-use Rattle.lift_trace.specs.Reading.{Reads}
 use Rattle.lift_trace.specs.Written.{text_of_entries}
 use Rattle.il_reports.specs.Warnings.{warnings_text}
 use Rattle.il_reports.specs.Xref.{xref_text}
@@ -307,107 +306,98 @@ abbrev pub IsCallsText : Bool → Log → List ℕ → Type 0
 IsCallsText false log text = text ≡ lines_text log.journeys
 IsCallsText true log text = IsSummaryOf log.pressed log.journeys text
 
--- the text of the calls of a trace's events, from the opening of a configuration
-pub record IsTextOfCalls (c : Config) (summary : Bool) (events : List TraceEvent) (after : World) (text : List ℕ) : Type 0 where
+-- the text of the calls of a trace's events, from a world on
+pub record IsTextOfCalls (c : Config) (summary : Bool) (from : World) (events : List TraceEvent) (after : World) (text : List ℕ) : Type 0 where
   pub log : Log
-  pub known : IsLogOf c (opening c) events after log
+  pub known : IsLogOf c from events after log
   pub is : IsCallsText summary log text
 
--- the text of the values of names behind each round of a trace's events, from the opening of a configuration; the names are in upper case
-pub record IsTextOfValues (c : Config) (names : List (List ℕ)) (events : List TraceEvent) (after : World) (text : List ℕ) : Type 0 where
+-- the text of the values of names behind each round of a trace's events, from a world on; the names are in upper case
+pub record IsTextOfValues (c : Config) (names : List (List ℕ)) (from : World) (events : List TraceEvent) (after : World) (text : List ℕ) : Type 0 where
   pub watched : List Watched
-  pub known : AreWatched (opening c) names watched
+  pub known : AreWatched from names watched
   pub rows : List ℕ
-  pub are : AreRowsAlong watched c (opening c) events after rows
+  pub are : AreRowsAlong watched c from events after rows
   pub lines : text ≡ header_text names ++ rows
 
--- what is told of a trace's events and the world behind them: the image, some picture, the calls or a summary of them, what the interlock denied, or
--- values behind each round
-abbrev pub Says : Telling → Program → List TraceEvent → World → List ℕ → Type 0
-Says Image program events after text = text ≡ image_text program.config after
-Says (Picture span) program events after text = Unit {0}
-Says (Calls summary) program events after text = IsTextOfCalls program.config summary events after text
-Says (Denials all) program events after text = IsDeniedAlong all program.config (opening program.config) events after text
-Says (Values names) program events after text = IsTextOfValues program.config (map upper_case (words_of names)) events after text
+-- what is told of a trace's events, which lead from a world to the one behind them: the image, some picture, the calls or a summary of them, what the
+-- interlock denied, or values behind each round
+abbrev pub Says : Telling → Program → World → List TraceEvent → World → List ℕ → Type 0
+Says Image program from events after text = text ≡ image_text program.config after
+Says (Picture span) program from events after text = Unit {0}
+Says (Calls summary) program from events after text = IsTextOfCalls program.config summary from events after text
+Says (Denials all) program from events after text = IsDeniedAlong all program.config from events after text
+Says (Values names) program from events after text = IsTextOfValues program.config (map upper_case (words_of names)) from events after text
 
 -- the word behind `--rounds` says no rounds
 abbrev pub IsBadSpan : Telling → Fault → Type 0
 IsBadSpan (Picture span) why = IsNoSpan (option_map (λ word. word.now) span) why
 IsBadSpan _ why = ⊥
 
--- this name, in upper case, has no value as the program opens
-abbrev pub IsBadName : Telling → Program → List ℕ → Type 0
-IsBadName (Values names) program word = IsUnknown (opening program.config) (map upper_case (words_of names)) word
-IsBadName _ program word = ⊥
+-- this name, in upper case, has no value in the world from which a trace begins
+abbrev pub IsBadName : Telling → World → List ℕ → Type 0
+IsBadName (Values names) from word = IsUnknown from (map upper_case (words_of names)) word
+IsBadName _ from word = ⊥
 
--- a trace has events
-abbrev pub IsRead : Program → List ℕ → Type 0
-IsRead program trace = (events : List TraceEvent) × Reads (sizes_of program.config).cars trace (Ok events)
-
--- it is told so of a trace's events, from the opening of the program
-pub record IsSaidAfter (telling : Telling) (program : Program) (trace text : List ℕ) : Type 0 where
-  pub events : List TraceEvent
-  pub reads : Reads (sizes_of program.config).cars trace (Ok events)
+-- it is told so of a trace's events, from the world from which it begins
+pub record IsSaidAfter (telling : Telling) (program : Program) (source trace text : List ℕ) : Type 0 where
+  pub read : IsRead program source trace
   pub after : World
-  pub taken : TakesAll program.config (opening program.config) events after
-  pub is : Says telling program events after text
+  pub taken : TakesAll program.config read.from read.events after
+  pub is : Says telling program read.from read.events after text
 
--- an event of the trace is refused, with this number, at its line: the first event stands in line 2
-pub record IsEventRefused (program : Program) (trace : List ℕ) (number line : ℕ) : Type 0 where
-  pub events : List TraceEvent
-  pub reads : Reads (sizes_of program.config).cars trace (Ok events)
+-- names, in upper case, have values in the world from which a trace begins
+abbrev pub HaveValues : World → List (List ℕ) → Type 0
+HaveValues from names = (watched : List Watched) × AreWatched from names watched
+
+-- the words beside TRACE are good: the word behind `--rounds` says rounds, the names to watch have values in the world from which the trace begins
+abbrev pub HasGoodWords : Telling → World → Type 0
+HasGoodWords Image from = Unit {0}
+HasGoodWords (Picture span) from = (rounds : Span) × IsSpanWord (option_map (λ word. word.now) span) rounds
+HasGoodWords (Calls summary) from = Unit {0}
+HasGoodWords (Denials all) from = Unit {0}
+HasGoodWords (Values names) from = HaveValues from (map upper_case (words_of names))
+
+-- the words beside a trace are good, and an event of it is refused, with this number, at its line
+pub record IsEventRefused (telling : Telling) (program : Program) (source trace : List ℕ) (number line : ℕ) : Type 0 where
+  pub read : IsRead program source trace
+  pub good : HasGoodWords telling read.from
   pub index : ℕ
   pub why : EventFault
-  pub refused : IsRefusedAt program.config (opening program.config) events index why
+  pub refused : IsRefusedAt program.config read.from read.events index why
   pub numbered : number ≡ event_fault_number why
-  pub lined : line ≡ index + 2
-
--- a line of the trace is wrong, 80, or the text ends too early in it, 81
-abbrev pub IsLineRefused : Program → List ℕ → ℕ → ℕ → Type 0
-IsLineRefused program trace number line = ((number ≡ 80) × Reads (sizes_of program.config).cars trace (Err (BadLine line))) ⊎ ((number ≡ 81) × Reads (sizes_of program.config).cars trace (Err (Truncated line)))
-
--- names, in upper case, have values as the program opens
-abbrev pub HaveValues : Program → List (List ℕ) → Type 0
-HaveValues program names = (watched : List Watched) × AreWatched (opening program.config) names watched
-
--- the words beside TRACE are good: the word behind `--rounds` says rounds, the names to watch have values
-abbrev pub HasGoodWords : Telling → Program → Type 0
-HasGoodWords Image program = Unit {0}
-HasGoodWords (Picture span) program = (rounds : Span) × IsSpanWord (option_map (λ word. word.now) span) rounds
-HasGoodWords (Calls summary) program = Unit {0}
-HasGoodWords (Denials all) program = Unit {0}
-HasGoodWords (Values names) program = HaveValues program (map upper_case (words_of names))
+  pub lined : line ≡ read.lines + 1 + index
 
 -- a trace is refused: for a line of it, before the words beside it are judged, or behind them for an event
-abbrev pub IsTraceRefused : Telling → Program → List ℕ → ℕ → ℕ → Type 0
-IsTraceRefused telling program trace number line = IsLineRefused program trace number line ⊎ (HasGoodWords telling program × IsEventRefused program trace number line)
+abbrev pub IsTraceRefused : Telling → Program → List ℕ → List ℕ → ℕ → ℕ → Type 0
+IsTraceRefused telling program source trace number line = IsLineRefused program source trace number line ⊎ IsEventRefused telling program source trace number line
 
 -- A command over a trace tells what is along its events and behind them, or what is wrong with it, with the rounds to draw or the names to watch.
--- Memory may be missing.
-abbrev pub IsFollowed : Telling → Program → List ℕ → Outcome → Type 0
-IsFollowed telling program trace (Ok output) = IsSaidAfter telling program trace (bytes_of output)
-IsFollowed telling program trace (Err (fault.Refused number line)) = IsTraceRefused telling program trace number line
-IsFollowed telling program trace (Err (fault.BadSpan word)) = IsRead program trace × IsBadSpan telling (fault.BadSpan word)
-IsFollowed telling program trace (Err (fault.BadName word)) = IsRead program trace × IsBadName telling program (string_bytes word)
-IsFollowed telling program trace (Err fault.NoMemory) = Unit {0}
-IsFollowed telling program trace (Err _) = ⊥
+-- `source` is the text of the program. Memory may be missing.
+abbrev pub IsFollowed : Telling → Program → List ℕ → List ℕ → Outcome → Type 0
+IsFollowed telling program source trace (Ok output) = IsSaidAfter telling program source trace (bytes_of output)
+IsFollowed telling program source trace (Err (fault.Refused number line)) = IsTraceRefused telling program source trace number line
+IsFollowed telling program source trace (Err (fault.BadSpan word)) = IsRead program source trace × IsBadSpan telling (fault.BadSpan word)
+IsFollowed telling program source trace (Err (fault.BadName word)) = (read : IsRead program source trace) × IsBadName telling read.from (string_bytes word)
+IsFollowed telling program source trace (Err fault.NoMemory) = Unit {0}
+IsFollowed telling program source trace (Err _) = ⊥
 
 -- what was read of a trace is followed, or reading failed
-abbrev pub IsTraceOutcome : Telling → Program → Reading → Outcome → Type 0
-IsTraceOutcome telling program (Text text) outcome = IsFollowed telling program text.items outcome
-IsTraceOutcome telling program (Failed why) outcome = outcome ≡ Err (fault_of_reading why)
+abbrev pub IsTraceOutcome : Telling → Program → List ℕ → Reading → Outcome → Type 0
+IsTraceOutcome telling program source (Text text) outcome = IsFollowed telling program source text.items outcome
+IsTraceOutcome telling program source (Failed why) outcome = outcome ≡ Err (fault_of_reading why)
 
 -- SCANS
 
 -- The words ask for a scan, and the trace is refused: for a line of it, or for an event up to the start of that scan.
-abbrev pub IsScanRefused : Traced → Program → List ℕ → ℕ → ℕ → Type 0
-IsScanRefused traced program trace number line = (asked : Asked) × IsAsked traced program asked × (IsLineRefused program trace number line ⊎ IsEarlyRefused program asked trace number line)
+abbrev pub IsScanRefused : Traced → Program → List ℕ → List ℕ → ℕ → ℕ → Type 0
+IsScanRefused traced program source trace number line = (asked : Asked) × IsAsked traced program asked × (IsLineRefused program source trace number line ⊎ IsEarlyRefused program asked source trace number line)
 
 -- `scan` shows a scan of the trace, or says what is wrong with it or with the words. Memory may be missing.
 abbrev pub IsScanned : Traced → Program → List ℕ → List ℕ → Outcome → Type 0
 IsScanned traced program source trace (Ok output) = IsScanOf traced program source trace (bytes_of output)
-IsScanned traced program source trace (Err (fault.Refused number line)) = IsScanRefused traced program trace number line
-IsScanned traced program source trace (Err (fault.BadScan why word)) = IsUnaskedBy traced program why (string_bytes word) ⊎ HasNoScan traced program trace why (string_bytes word)
+IsScanned traced program source trace (Err (fault.Refused number line)) = IsScanRefused traced program source trace number line
+IsScanned traced program source trace (Err (fault.BadScan why word)) = IsUnaskedBy traced program why (string_bytes word) ⊎ HasNoScan traced program source trace why (string_bytes word)
 IsScanned traced program source trace (Err fault.NoMemory) = Unit {0}
 IsScanned traced program source trace (Err _) = ⊥
 
@@ -432,7 +422,7 @@ IsRoundsOutcome simulating.Watch program asked calls outcome = IsWatchOutcome pr
 -- what a command over a trace tells of the whole of it, or the scan that it shows of it
 abbrev pub IsToldOutcome : Option Telling → Traced → Program → List ℕ → Reading → Outcome → Type 0
 IsToldOutcome None traced program source trace outcome = IsScanOutcome traced program source trace outcome
-IsToldOutcome (Some telling) traced program source trace outcome = IsTraceOutcome telling program trace outcome
+IsToldOutcome (Some telling) traced program source trace outcome = IsTraceOutcome telling program source trace outcome
 
 -- A verified program of a text gives what its command prints, with what was read of its other file: the trace, or the file behind `--calls`. This is without
 -- `--json`.

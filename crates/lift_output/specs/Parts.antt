@@ -17,26 +17,17 @@ use Rattle.lift_scan.specs.declared.chosen.Asked.{Asked}
 use Rattle.lift_scan.specs.Chosen.{chosen}
 use Rattle.lift_scan.specs.Shown.{IsScanShown, IsRefusedInFront}
 use Rattle.lift_output.specs.Scans.{IsUncommittedBy}
+use Rattle.lift_output.specs.Traces.{IsLineRefused}
 use Rattle.lift_output.specs.declared.telling.Telling.{Telling}
 use Rattle.lift_messages.specs.Outputs.{Outcome, bytes_of}
 use Rattle.lift_spec.specs.declared.event.EventFault.{EventFault}
 use Rattle.lift_spec.specs.declared.trace.TraceEvent.{TraceEvent}
 use Rattle.lift_spec.specs.EventFaults.{event_fault_number}
 use Rattle.lift_spec.specs.World.{World, opening}
-use Rattle.lift_trace.specs.declared.fault.TraceFault.{TraceFault}
-use Rattle.lift_trace.specs.declared.fault.TraceFault.TheVariants.{BadLine, Truncated, Write, Memory}
-use Rattle.lift_trace.specs.Reading.{Reads}
 use Rattle.lift_host.specs.declared.calls.CallsFault.{CallsFault}
 use Rattle.lift_host.specs.declared.calls.CallsFault.TheVariants as calls
 use Rattle.lift_host.specs.CallsFile.{IsCallsFault}
 use Rattle.lift_spec.specs.declared.image.Sizes.{Sizes}
-
--- the fault of a trace that was read; reading writes nothing
-abbrev pub fault_of_trace : TraceFault → Fault
-fault_of_trace (BadLine line) = fault.Refused 80 line
-fault_of_trace (Truncated line) = fault.Refused 81 line
-fault_of_trace Write = fault.CannotWrite
-fault_of_trace Memory = fault.NoMemory
 
 -- the fault of a file of presses and settings
 abbrev pub fault_of_calls : CallsFault → Fault
@@ -51,36 +42,36 @@ IsBadText sizes rounds text (fault.Refused number line) =
 IsBadText sizes rounds text fault.NoMemory = Unit {0}
 IsBadText sizes rounds text _ = ⊥
 
--- a text is no trace
-abbrev pub IsTraceUnread : ℕ → List ℕ → Fault → Type 0
-IsTraceUnread cars text (fault.Refused number line) = ((number ≡ 80) × Reads cars text (Err (BadLine line))) ⊎ ((number ≡ 81) × Reads cars text (Err (Truncated line)))
-IsTraceUnread cars text fault.NoMemory = Unit {0}
-IsTraceUnread cars text _ = ⊥
+-- a text is no whole trace of a program, whose text is `source`
+abbrev pub IsTraceUnread : Program → List ℕ → List ℕ → Fault → Type 0
+IsTraceUnread program source trace (fault.Refused number line) = IsLineRefused program source trace number line
+IsTraceUnread program source trace fault.NoMemory = Unit {0}
+IsTraceUnread program source trace _ = ⊥
 
--- events are followed from the opening
-abbrev pub AreFollowed : Telling → Program → List TraceEvent → Outcome → Type 0
-AreFollowed telling program events (Ok output) = (after : World) × TakesAll program.config (opening program.config) events after × Says telling program events after (bytes_of output)
-AreFollowed telling program events (Err (fault.Refused number line)) = HasGoodWords telling program × (index : ℕ) × (why : EventFault) × IsRefusedAt program.config (opening program.config) events index why × (number ≡ event_fault_number why) × (line ≡ index + 2)
-AreFollowed telling program events (Err (fault.BadSpan word)) = IsBadSpan telling (fault.BadSpan word)
-AreFollowed telling program events (Err (fault.BadName word)) = IsBadName telling program (string_bytes word)
-AreFollowed telling program events (Err fault.NoMemory) = Unit {0}
-AreFollowed telling program events (Err _) = ⊥
+-- events are followed from a world on; so many lines stand before the first
+abbrev pub AreFollowed : Telling → Program → World → List TraceEvent → ℕ → Outcome → Type 0
+AreFollowed telling program from events lines (Ok output) = (after : World) × TakesAll program.config from events after × Says telling program from events after (bytes_of output)
+AreFollowed telling program from events lines (Err (fault.Refused number line)) = HasGoodWords telling from × (index : ℕ) × (why : EventFault) × IsRefusedAt program.config from events index why × (number ≡ event_fault_number why) × (line ≡ lines + 1 + index)
+AreFollowed telling program from events lines (Err (fault.BadSpan word)) = IsBadSpan telling (fault.BadSpan word)
+AreFollowed telling program from events lines (Err (fault.BadName word)) = IsBadName telling from (string_bytes word)
+AreFollowed telling program from events lines (Err fault.NoMemory) = Unit {0}
+AreFollowed telling program from events lines (Err _) = ⊥
 
--- a scan of events is shown, from the opening
-abbrev pub AreScanned : Traced → Program → Asked → List ℕ → List TraceEvent → Outcome → Type 0
-AreScanned traced program asked source events (Ok output) = IsScanShown program.config (opening program.config) asked events source (bytes_of output)
-AreScanned traced program asked source events (Err (fault.Refused number line)) = (index : ℕ) × (why : EventFault) × IsRefusedInFront program.config (opening program.config) asked events index why × (number ≡ event_fault_number why) × (line ≡ index + 2)
-AreScanned traced program asked source events (Err (fault.BadScan why word)) = (chosen asked events ≡ None) × IsUncommittedBy traced why (string_bytes word)
-AreScanned traced program asked source events (Err fault.NoMemory) = Unit {0}
-AreScanned traced program asked source events (Err _) = ⊥
+-- a scan of events is shown, from a world on; so many lines stand before the first
+abbrev pub AreScanned : Traced → Program → Asked → List ℕ → World → List TraceEvent → ℕ → Outcome → Type 0
+AreScanned traced program asked source from events lines (Ok output) = IsScanShown program.config from asked events source (bytes_of output)
+AreScanned traced program asked source from events lines (Err (fault.Refused number line)) = (index : ℕ) × (why : EventFault) × IsRefusedInFront program.config from asked events index why × (number ≡ event_fault_number why) × (line ≡ lines + 1 + index)
+AreScanned traced program asked source from events lines (Err (fault.BadScan why word)) = (chosen asked events ≡ None) × IsUncommittedBy traced why (string_bytes word)
+AreScanned traced program asked source from events lines (Err fault.NoMemory) = Unit {0}
+AreScanned traced program asked source from events lines (Err _) = ⊥
 
--- the values of names along events are told from the opening, or one of the names has no value
-abbrev pub AreValued : List (List ℕ) → Program → List TraceEvent → Outcome → Type 0
-AreValued names program events (Ok output) = (after : World) × TakesAll program.config (opening program.config) events after × IsTextOfValues program.config names events after (bytes_of output)
-AreValued names program events (Err (fault.Refused number line)) = HaveValues program names × (index : ℕ) × (why : EventFault) × IsRefusedAt program.config (opening program.config) events index why × (number ≡ event_fault_number why) × (line ≡ index + 2)
-AreValued names program events (Err (fault.BadName word)) = IsUnknown (opening program.config) names (string_bytes word)
-AreValued names program events (Err fault.NoMemory) = Unit {0}
-AreValued names program events (Err _) = ⊥
+-- the values of names along events are told from a world on, or one of the names has no value; so many lines stand before the first event
+abbrev pub AreValued : List (List ℕ) → Program → World → List TraceEvent → ℕ → Outcome → Type 0
+AreValued names program from events lines (Ok output) = (after : World) × TakesAll program.config from events after × IsTextOfValues program.config names from events after (bytes_of output)
+AreValued names program from events lines (Err (fault.Refused number line)) = HaveValues from names × (index : ℕ) × (why : EventFault) × IsRefusedAt program.config from events index why × (number ≡ event_fault_number why) × (line ≡ lines + 1 + index)
+AreValued names program from events lines (Err (fault.BadName word)) = IsUnknown from names (string_bytes word)
+AreValued names program from events lines (Err fault.NoMemory) = Unit {0}
+AreValued names program from events lines (Err _) = ⊥
 
 -- names are watched in so many rounds from the opening, or one of them has no value
 abbrev pub IsWatched : Config → List (List ℕ) → List Press → List Setting → ℕ → Outcome → Type 0

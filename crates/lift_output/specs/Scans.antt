@@ -1,5 +1,5 @@
 -- What `scan` shows (own rules).
-use Rattle.std.specs.Prelude.{◌≡◌, ◌≤◌, ℕ, ◌+◌, true, List, [], ◌∷◌, Option, Some, None, Ok, Err, option_map, string_bytes}
+use Rattle.std.specs.Prelude.{◌≡◌, ◌≤◌, ℕ, ◌+◌, true, List, [], ◌∷◌, Option, Some, None, option_map, string_bytes}
 use Rattle.il_machine.specs.Scanning.{Program}
 use Rattle.lift_host.specs.declared.request.Traced.{Traced}
 use Rattle.lift_host.specs.declared.status.Fault.{Fault}
@@ -7,18 +7,14 @@ use Rattle.lift_host.specs.declared.status.Fault.TheVariants as fault
 use Rattle.lift_host.specs.declared.status.ScanFault.{ScanFault}
 use Rattle.lift_host.specs.declared.status.ScanFault.TheVariants.{Task, Round, Line, Uncommitted, UncommittedInRound}
 use Rattle.lift_host.specs.Requests.{IsNumberTo, words_of}
-use Rattle.lift_messages.specs.Outputs.{Outcome, bytes_of}
 use Rattle.lift_scan.specs.declared.chosen.Asked.{Asked}
 use Rattle.lift_scan.specs.Chosen.{chosen}
 use Rattle.lift_scan.specs.Shown.{IsScanShown, IsRefusedInFront}
 use Rattle.lift_spec.specs.declared.event.EventFault.{EventFault}
-use Rattle.lift_spec.specs.declared.trace.TraceEvent.{TraceEvent}
 use Rattle.lift_spec.specs.EventFaults.{event_fault_number}
-use Rattle.lift_spec.specs.Image.{sizes_of}
 use Rattle.lift_spec.specs.declared.image.TheConstants.{MOST_CARS}
 use Rattle.lift_spec.specs.Snapshot.{has_task, task_name}
-use Rattle.lift_spec.specs.World.{opening}
-use Rattle.lift_trace.specs.Reading.{Reads}
+use Rattle.lift_output.specs.Traces.{IsRead}
 use Rattle.lift_watch.specs.Names.{upper_case}
 
 -- the first of the words
@@ -97,28 +93,25 @@ IsUncommittedBy traced Uncommitted named = (round_word traced ≡ None) × (name
 IsUncommittedBy traced UncommittedInRound named = round_word traced ≡ Some named
 
 -- the trace commits no such scan
-pub record HasNoScan (traced : Traced) (program : Program) (trace : List ℕ) (why : ScanFault) (named : List ℕ) : Type 0 where
-  pub events : List TraceEvent
-  pub reads : Reads (sizes_of program.config).cars trace (Ok events)
+pub record HasNoScan (traced : Traced) (program : Program) (source trace : List ℕ) (why : ScanFault) (named : List ℕ) : Type 0 where
+  pub read : IsRead program source trace
   pub asked : Asked
   pub is : IsAsked traced program asked
-  pub none : chosen asked events ≡ None
+  pub none : chosen asked read.events ≡ None
   pub word : IsUncommittedBy traced why named
 
--- an event of the trace is refused, with this number, at its line, where the first event stands in line 2; it is the start of the scan that is asked for, or stands in front of it
-pub record IsEarlyRefused (program : Program) (asked : Asked) (trace : List ℕ) (number line : ℕ) : Type 0 where
-  pub events : List TraceEvent
-  pub reads : Reads (sizes_of program.config).cars trace (Ok events)
+-- an event of the trace is refused, with this number, at its line; it is the start of the scan that is asked for, or stands in front of it
+pub record IsEarlyRefused (program : Program) (asked : Asked) (source trace : List ℕ) (number line : ℕ) : Type 0 where
+  pub read : IsRead program source trace
   pub index : ℕ
   pub why : EventFault
-  pub refused : IsRefusedInFront program.config (opening program.config) asked events index why
+  pub refused : IsRefusedInFront program.config read.from asked read.events index why
   pub numbered : number ≡ event_fault_number why
-  pub lined : line ≡ index + 2
+  pub lined : line ≡ read.lines + 1 + index
 
--- the scan of the trace that the words ask for, from the opening of the program, with lines of its text
+-- the scan of the trace that the words ask for, from the world from which the trace begins, with lines of the program's text
 pub record IsScanOf (traced : Traced) (program : Program) (source trace text : List ℕ) : Type 0 where
-  pub events : List TraceEvent
-  pub reads : Reads (sizes_of program.config).cars trace (Ok events)
+  pub read : IsRead program source trace
   pub asked : Asked
   pub is : IsAsked traced program asked
-  pub shown : IsScanShown program.config (opening program.config) asked events source text
+  pub shown : IsScanShown program.config read.from asked read.events source text

@@ -1,12 +1,13 @@
 // What a request prints over a verified configuration.
 
-ghost use Rattle.std.specs.Prelude.{◌≡◌, ◌≢◌, ◌≤◌, ◌+◌, ◌++◌, ℕ, All, Option, None, option_map, length, Ok, Err, IfOk, IfErr, OnOk, map, string_bytes};
+ghost use Rattle.std.specs.Prelude.{◌≡◌, ◌≢◌, ◌≤◌, ◌+◌, ◌++◌, All, Option, None, option_map, length, Ok, Err, IfOk, IfErr, OnOk, map, string_bytes};
 ghost use Rattle.lift_spec.specs.Image.{sizes_of};
 ghost use Rattle.lift_spec.specs.World.{opening};
-ghost use Rattle.lift_trace.specs.Reading.{Reads, greatest_trace};
+ghost use Rattle.lift_state.specs.Beginnings.{BeginsTrace};
+ghost use Rattle.lift_trace.specs.Reading.{greatest_trace};
 ghost use Rattle.lift_output.specs.Outcomes.{IsCheckOutcome, check_shown, IsShowOutcome, HasWarnings, asked_warnings, AreWarned, AreRoundsWarned, left_line, told_left, IsFire, IsNoFire, calls_word, fire_settings, AreOfFile, AreOfReading, HasBadCalls, IsBadReading, AreDriven, IsUndriven, IsSimOutcome, IsRunOutcome, IsDenialsOutcome, IsWatchOutcome, IsRoundsOutcome, IsCallsText, IsFollowed, IsTraceOutcome, IsToldOutcome, IsProgramOutcome};
 ghost use Rattle.lift_output.specs.Tellings.{telling_of};
-ghost use Rattle.lift_output.specs.Parts.{fault_of_trace, fault_of_calls, IsTraceUnread, IsBadText, AreFollowed, AreValued, IsWatched};
+ghost use Rattle.lift_output.specs.Parts.{fault_of_calls, IsTraceUnread, IsBadText, AreFollowed, AreValued, IsWatched};
 ghost use Rattle.lift_runs.specs.Driven.{ArePressed, AreSettings, switches_in};
 ghost use Rattle.lift_host.specs.CallsFile.{AreCallsOf};
 ghost use Rattle.lift_host.specs.Requests.{command_of, words_of};
@@ -46,8 +47,7 @@ use lift_runs::replay::{Refused, replay};
 use lift_runs::sim::{Drive, simulate, simulate_before, simulate_on};
 use lift_spec::Sizes;
 use lift_spec::trace::TraceEvent;
-use lift_trace::fault::TraceFault;
-use lift_trace::read::read_trace;
+use lift_state::begin::{Beginning, begin};
 use lift_watch::calls::call_log;
 use lift_watch::denials::Denials;
 use lift_watch::following::{denied_along, rows_along};
@@ -62,8 +62,8 @@ use std::alloc::{AllocError, Global};
 use std::sync::Wait;
 use std::thread::Threads;
 
-/// What a request that isn't `run` prints over the verified configuration of a text, with what was read of its trace or its file behind `--calls`,
-/// or why it prints nothing. `--json` changes nothing here.
+/// What a request that isn't `run` prints over the verified configuration of a text, `source`, with what was read of its trace or its file behind
+/// `--calls`, or why it prints nothing. A trace of another text is refused, 85, where it has a state (own rule). `--json` changes nothing here.
 pub fn outcome(
     alloc: Global,
     request: Request<'_>,
@@ -101,7 +101,7 @@ fn told_outcome(
     ensures warned { HasWarnings None result }
 {
     match Telling::of(command, traced) {
-        Some(telling) => trace_outcome(alloc, verified, telling, trace),
+        Some(telling) => trace_outcome(alloc, verified, telling, source, trace),
         None => scan_outcome(alloc, verified, traced, source, trace),
     }
 }
@@ -541,129 +541,155 @@ pub fn ran<R: Threads + Wait + Sync>(
     }
 }
 
-// What is wrong with a trace that was read.
-fn fault_of(fault: TraceFault) -> Fault
-    requires { fault ≢ TraceFault.Write }
-    ensures { result ≡ fault_of_trace fault }
+// A whole trace: the world from which its events lead, and how many lines stand before the first of them.
+pub(crate) struct Whole {
+    pub world: World,
+    pub events: Vec<TraceEvent>,
+    pub lines: u32,
+}
+
+// The whole trace of a text. One that is cut off is refused.
+pub(crate) fn whole_of(
+    alloc: Global,
+    verified: Verified,
+    source: &[u8],
+    text: &[u8],
+) -> Result<Whole, Fault>
+    ensures begins { IfOk result (λ whole. BeginsTrace verified.config source.now text.now
+        whole.world.world whole.events.items whole.lines None) }
+    ensures same { IfOk result (λ whole. whole.world.program ≡ verified) }
+    ensures few { IfOk result (λ whole. whole.lines + length whole.events.items
+        ≤ greatest_trace) }
+    ensures err { IfErr result (IsTraceUnread verified source.now text.now) }
 {
-    match fault {
-        TraceFault::BadLine { line } => refused(LineFault::BadLine, line),
-        TraceFault::Truncated { line } => refused(LineFault::Truncated, line),
-        TraceFault::Write => unreachable!(),
-        TraceFault::Memory => Fault::NoMemory,
+    let Beginning {
+        world,
+        events,
+        lines,
+        cut,
+    } = begin(alloc, verified, source, text)?;
+    match cut {
+        None => Ok(Whole {
+            world,
+            events,
+            lines,
+        }),
+        Some(line) => {
+            world.release();
+            Err(refused(LineFault::Truncated, line))
+        }
     }
 }
 
-// The events of a trace's text.
-pub(crate) fn events_of(alloc: Global, text: &[u8], cars: u8) -> Result<Vec<TraceEvent>, Fault>
-    ensures ok { IfOk result (λ events. Reads cars text.now (Ok events.items)) }
-    ensures err { IfErr result (IsTraceUnread cars text.now) }
-{
-    match read_trace(alloc, text, cars) {
-        Ok(events) => Ok(events),
-        Err(fault) => Err(fault_of(fault)),
-    }
-}
-
-// What is told of events, in a world that opens.
+// What is told of events, from a world on. So many lines stand before the first of them.
 fn told_of(
     alloc: Global,
     world: &mut World,
     telling: Telling<'_>,
     events: &[TraceEvent],
+    lines: u32,
 ) -> Result<Output, Fault>
-    requires opening { world.old.world ≡ opening world.old.program.config }
-    requires few { length events.now ≤ greatest_trace }
-    ensures is { AreFollowed telling.entry world.old.program events.now result }
+    requires few { lines + length events.now ≤ greatest_trace }
+    ensures is { AreFollowed telling.entry world.old.program world.old.world events.now lines
+        result }
     ensures warned { HasWarnings None result }
 {
     match telling {
-        Telling::Image => image_after(alloc, world, events),
-        Telling::Picture(span) => picture_of(alloc, world, events, span),
-        Telling::Calls(summary) => calls_of(alloc, world, events, summary),
-        Telling::Denials(all) => denials_along(alloc, world, events, all),
-        Telling::Values(names) => values_along(alloc, world, events, names),
+        Telling::Image => image_after(alloc, world, events, lines),
+        Telling::Picture(span) => picture_of(alloc, world, events, lines, span),
+        Telling::Calls(summary) => calls_of(alloc, world, events, lines, summary),
+        Telling::Denials(all) => denials_along(alloc, world, events, lines, all),
+        Telling::Values(names) => values_along(alloc, world, events, lines, names),
     }
 }
 
-// The image of a world that opens, behind events.
-fn image_after(alloc: Global, world: &mut World, events: &[TraceEvent]) -> Result<Output, Fault>
-    requires opening { world.old.world ≡ opening world.old.program.config }
-    requires few { length events.now ≤ greatest_trace }
-    ensures is { AreFollowed Telling.Image world.old.program events.now result }
+// The image behind events.
+fn image_after(
+    alloc: Global,
+    world: &mut World,
+    events: &[TraceEvent],
+    lines: u32,
+) -> Result<Output, Fault>
+    requires few { lines + length events.now ≤ greatest_trace }
+    ensures is { AreFollowed Telling.Image world.old.program world.old.world events.now lines
+        result }
     ensures warned { HasWarnings None result }
 {
     match replay(world, events) {
         Ok(()) => Ok(Output::Text(image_text(alloc, world)?)),
-        Err(refused) => Err(fault_of_event(refused)),
+        Err(refused) => Err(fault_of_event(refused, lines)),
     }
 }
 
-// The picture of the rounds of events that a word says, in a world that opens.
+// The picture of the rounds of events that a word says.
 fn picture_of(
     alloc: Global,
     world: &mut World,
     events: &[TraceEvent],
+    lines: u32,
     span: Option<&str>,
 ) -> Result<Output, Fault>
-    requires opening { world.old.world ≡ opening world.old.program.config }
-    requires few { length events.now ≤ greatest_trace }
-    ensures is { AreFollowed (Telling.Picture span.entry) world.old.program events.now result }
+    requires few { lines + length events.now ≤ greatest_trace }
+    ensures is { AreFollowed (Telling.Picture span.entry) world.old.program world.old.world
+        events.now lines result }
     ensures warned { HasWarnings None result }
 {
     let span = span_of(alloc, span)?;
     match drawing(alloc, world, events, span) {
         Ok(picture) => Ok(Output::Text(picture)),
-        Err(Stop::Refused(refused)) => Err(fault_of_event(refused)),
+        Err(Stop::Refused(refused)) => Err(fault_of_event(refused, lines)),
         Err(Stop::Memory) => Err(Fault::NoMemory),
     }
 }
 
-// What the interlock denied along events, in a world that opens.
+// What the interlock denied along events.
 fn denials_along(
     alloc: Global,
     world: &mut World,
     events: &[TraceEvent],
+    lines: u32,
     all: bool,
 ) -> Result<Output, Fault>
-    requires opening { world.old.world ≡ opening world.old.program.config }
-    requires few { length events.now ≤ greatest_trace }
-    ensures is { AreFollowed (Telling.Denials all) world.old.program events.now result }
+    requires few { lines + length events.now ≤ greatest_trace }
+    ensures is { AreFollowed (Telling.Denials all) world.old.program world.old.world events.now
+        lines result }
     ensures warned { HasWarnings None result }
 {
     match denied_along(alloc, world, events, all) {
         Ok(text) => Ok(Output::Text(text)),
-        Err(along::Stop::Refused(refused)) => Err(fault_of_event(refused)),
+        Err(along::Stop::Refused(refused)) => Err(fault_of_event(refused, lines)),
         Err(along::Stop::Memory) => Err(Fault::NoMemory),
     }
 }
 
-// The values of names, in upper case, behind each round of events, in a world that opens.
+// The values of names, in upper case, behind each round of events.
 fn values_along(
     alloc: Global,
     world: &mut World,
     events: &[TraceEvent],
+    lines: u32,
     names: Words<'_>,
 ) -> Result<Output, Fault>
-    requires opening { world.old.world ≡ opening world.old.program.config }
-    requires few { length events.now ≤ greatest_trace }
-    ensures is { AreFollowed (Telling.Values names.entry) world.old.program events.now result }
+    requires few { lines + length events.now ≤ greatest_trace }
+    ensures is { AreFollowed (Telling.Values names.entry) world.old.program world.old.world
+        events.now lines result }
     ensures warned { HasWarnings None result }
 {
     let names = upper_names(alloc, names)?;
-    values_of(alloc, world, events, &names)
+    values_of(alloc, world, events, lines, &names)
 }
 
-// The values of names behind each round of events, in a world that opens.
+// The values of names behind each round of events.
 fn values_of(
     alloc: Global,
     world: &mut World,
     events: &[TraceEvent],
+    lines: u32,
     names: &[String],
 ) -> Result<Output, Fault>
-    requires opening { world.old.world ≡ opening world.old.program.config }
-    requires few { length events.now ≤ greatest_trace }
-    ensures is { AreValued (map string_bytes names.now) world.old.program events.now result }
+    requires few { lines + length events.now ≤ greatest_trace }
+    ensures is { AreValued (map string_bytes names.now) world.old.program world.old.world
+        events.now lines result }
     ensures warned { HasWarnings None result }
 {
     let Watch {
@@ -673,26 +699,27 @@ fn values_of(
     } = Watch::of(alloc, world, names)?;
     match rows_along(world, events, watched.as_slice(), &mut text) {
         Ok(()) => Ok(Output::Text(text)),
-        Err(along::Stop::Refused(refused)) => Err(fault_of_event(refused)),
+        Err(along::Stop::Refused(refused)) => Err(fault_of_event(refused, lines)),
         Err(along::Stop::Memory) => Err(Fault::NoMemory),
     }
 }
 
-// The calls of events in a world that opens: a line of each, or a summary.
+// The calls of events: a line of each, or a summary.
 fn calls_of(
     alloc: Global,
     world: &mut World,
     events: &[TraceEvent],
+    lines: u32,
     summary: bool,
 ) -> Result<Output, Fault>
-    requires opening { world.old.world ≡ opening world.old.program.config }
-    requires few { length events.now ≤ greatest_trace }
-    ensures is { AreFollowed (Telling.Calls summary) world.old.program events.now result }
+    requires few { lines + length events.now ≤ greatest_trace }
+    ensures is { AreFollowed (Telling.Calls summary) world.old.program world.old.world events.now
+        lines result }
     ensures warned { HasWarnings None result }
 {
     match call_log(alloc, world, events) {
         Ok(log) => Ok(Output::Text(calls_text(alloc, &log, summary)?)),
-        Err(along::Stop::Refused(refused)) => Err(fault_of_event(refused)),
+        Err(along::Stop::Refused(refused)) => Err(fault_of_event(refused, lines)),
         Err(along::Stop::Memory) => Err(Fault::NoMemory),
     }
 }
@@ -709,14 +736,15 @@ fn calls_text(alloc: Global, log: &Log, summary: bool) -> Result<String, AllocEr
     }
 }
 
-// The fault of an event that was refused. The first event of a trace stands in line 2.
-pub(crate) fn fault_of_event(refused: Refused) -> Fault
-    requires few { refused.index ≤ greatest_trace }
-    ensures { result ≡ Fault.Refused (event_fault_number refused.fault) (refused.index + 2) }
+// The fault of an event that was refused, where so many lines stand before the first event.
+pub(crate) fn fault_of_event(refused: Refused, lines: u32) -> Fault
+    requires few { lines + refused.index ≤ greatest_trace }
+    ensures { result
+        ≡ Fault.Refused (event_fault_number refused.fault) (lines + 1 + refused.index) }
 {
     Fault::Refused {
         number: u16::from(refused.fault.number()),
-        line: refused.index as u32 + 2,
+        line: lines + 1 + refused.index as u32,
     }
 }
 
@@ -725,32 +753,29 @@ fn followed_text(
     alloc: Global,
     verified: Verified,
     telling: Telling<'_>,
+    source: &[u8],
     text: &[u8],
 ) -> Result<Output, Fault>
-    ensures is { IsFollowed telling.entry verified text.now result }
+    ensures is { IsFollowed telling.entry verified source.now text.now result }
     ensures warned { HasWarnings None result }
 {
-    match events_of(alloc, text, verified.sizes().cars) {
-        Ok(events) => followed_events(alloc, verified, telling, &events),
-        Err(fault) => {
-            verified.release();
-            Err(fault)
-        }
-    }
+    let whole = whole_of(alloc, verified, source, text)?;
+    followed_events(alloc, whole, telling)
 }
 
-fn followed_events(
-    alloc: Global,
-    verified: Verified,
-    telling: Telling<'_>,
-    events: &[TraceEvent],
-) -> Result<Output, Fault>
-    requires few { length events.now ≤ greatest_trace }
-    ensures is { AreFollowed telling.entry verified events.now result }
+// What is told of a whole trace.
+fn followed_events(alloc: Global, whole: Whole, telling: Telling<'_>) -> Result<Output, Fault>
+    requires few { whole.lines + length whole.events.items ≤ greatest_trace }
+    ensures is { AreFollowed telling.entry whole.world.program whole.world.world whole.events.items
+        whole.lines result }
     ensures warned { HasWarnings None result }
 {
-    let mut world = World::new(alloc, verified)?;
-    let output = told_of(alloc, &mut world, telling, events);
+    let Whole {
+        mut world,
+        events,
+        lines,
+    } = whole;
+    let output = told_of(alloc, &mut world, telling, &events, lines);
     world.release();
     output
 }
@@ -759,14 +784,15 @@ fn trace_outcome(
     alloc: Global,
     verified: Verified,
     telling: Telling<'_>,
+    source: &[u8],
     trace: &Reading,
 ) -> Result<Output, Fault>
-    ensures is { IsTraceOutcome telling.entry verified trace.now result }
+    ensures is { IsTraceOutcome telling.entry verified source.now trace.now result }
     ensures unwritten { result ≢ Err Fault.CannotWrite }
     ensures warned { HasWarnings None result }
 {
     match trace {
-        Reading::Text(text) => followed_text(alloc, verified, telling, text),
+        Reading::Text(text) => followed_text(alloc, verified, telling, source, text),
         Reading::Failed(why) => {
             verified.release();
             Err((*why).into())

@@ -1,29 +1,26 @@
 // What `scan` prints.
 
-ghost use Rattle.std.specs.Prelude.{◌≡◌, ◌≢◌, ◌≤◌, ℕ, Some, None, Err, IfOk, IfErr, length, option_map, string_bytes};
+ghost use Rattle.std.specs.Prelude.{◌≡◌, ◌≢◌, ◌≤◌, ◌+◌, ℕ, Some, None, Err, IfOk, IfErr, length, option_map, string_bytes};
 ghost use Rattle.lift_host.specs.Requests.{words_of};
-ghost use Rattle.lift_spec.specs.Image.{sizes_of};
 ghost use Rattle.lift_trace.specs.Reading.{greatest_trace};
 ghost use Rattle.lift_output.specs.Outcomes.{HasWarnings, IsScanned, IsScanOutcome};
 ghost use Rattle.lift_output.specs.Parts.{AreScanned};
 ghost use Rattle.lift_output.specs.Scans.{first_word, IsTaskWord, IsNumberWord, IsAsked, IsUnasked, IsUncommittedBy, IsBadNumber};
 
-use crate::outcome::{events_of, fault_of_event};
+use crate::outcome::{Whole, fault_of_event, whole_of};
 use il_machine::Verified;
 use lift_host::files::Reading;
 use lift_host::request::{Traced, Words, number_to};
 use lift_host::status::{Fault, ScanFault};
 use lift_messages::output::Output;
 use lift_scan::{Asked, ScanStop, scan_text};
-use lift_spec::trace::TraceEvent;
 use lift_watch::names::task_of;
-use lift_world::World;
 use std::alloc::{AllocError, Global};
 
 // The greatest round and the greatest line that a word says.
 const MOST: u16 = 65_535;
 
-/// What `scan` prints over the verified configuration of a text, with what was read of its trace, or why it prints nothing.
+/// What `scan` prints over the verified configuration of a text, `source`, with what was read of its trace, or why it prints nothing.
 pub fn scan_outcome(
     alloc: Global,
     verified: Verified,
@@ -136,34 +133,33 @@ fn scanned_text(
     ensures is { IsScanned traced.entry verified source.now text.now result }
     ensures warned { HasWarnings None result }
 {
-    match events_of(alloc, text, verified.sizes().cars) {
-        Ok(events) => scanned_events(alloc, verified, traced, asked, source, &events),
-        Err(fault) => {
-            verified.release();
-            Err(fault)
-        }
-    }
+    let whole = whole_of(alloc, verified, source, text)?;
+    scanned_events(alloc, whole, traced, asked, source)
 }
 
-// The scan of a trace's events.
+// The scan of a whole trace.
 fn scanned_events(
     alloc: Global,
-    verified: Verified,
+    whole: Whole,
     traced: Traced<'_>,
     asked: Asked,
     source: &[u8],
-    events: &[TraceEvent],
 ) -> Result<Output, Fault>
-    requires few { length events.now ≤ greatest_trace }
-    ensures is { AreScanned traced.entry verified asked source.now events.now result }
+    requires few { whole.lines + length whole.events.items ≤ greatest_trace }
+    ensures is { AreScanned traced.entry whole.world.program asked source.now whole.world.world
+        whole.events.items whole.lines result }
     ensures warned { HasWarnings None result }
 {
-    let mut world = World::new(alloc, verified)?;
-    let shown = scan_text(alloc, &mut world, events, asked, source);
+    let Whole {
+        mut world,
+        events,
+        lines,
+    } = whole;
+    let shown = scan_text(alloc, &mut world, &events, asked, source);
     world.release();
     match shown {
         Ok(text) => Ok(Output::Text(text)),
-        Err(ScanStop::Refused(refused)) => Err(fault_of_event(refused)),
+        Err(ScanStop::Refused(refused)) => Err(fault_of_event(refused, lines)),
         Err(ScanStop::NoScan) => {
             let (why, word) = uncommitted(alloc, traced)?;
             Err(Fault::BadScan(why, word))

@@ -101,7 +101,8 @@ abbrev pub kept_text : Values → Text → Text → List Argument → Text → L
 kept_text values path instance arguments word =
     if list_any (is_output_of word) arguments then [] else there_text values (member_path (under path instance) word)
 
--- the outputs of a standard block that a call doesn't hand on, as it leaves them (2.5.2.3); those of another are shown where its body ends
+-- Where a call enters no body: the outputs of standard blocks (2.5.2.3) that its instance has and the call doesn't hand on, as it leaves them. What goes out of a
+-- body that is entered is shown where it ends.
 abbrev pub outputs_text : Values → Text → Text → Bool → List Argument → List ℕ
 outputs_text values path instance true arguments = []
 outputs_text values path instance false arguments =

@@ -62,11 +62,12 @@ result_text (Some c) = value_text (Some c.value)
 abbrev pub named_text : Values → Text → List ℕ
 named_text values path = codes ", " ++ (path ++ (codes " " ++ value_text (get values path)))
 
--- the same where the path has a value, and nothing where it has none
+-- a path and this value, if it has one, and nothing if it has none
 abbrev pub there_by : Text → Option Value → List ℕ
 there_by path None = []
 there_by path (Some value) = codes ", " ++ (path ++ (codes " " ++ value_text (Some value)))
 
+-- a path and its value among these, if it has one
 abbrev pub there_text : Values → Text → List ℕ
 there_text values path = there_by path (get values path)
 

@@ -362,7 +362,7 @@ fn put_first_arguments(
     put_outputs(alloc, text, view, path, instance, arguments)
 }
 
-// The outputs of a standard block that a call doesn't hand on (IEC 61131-3:2003, 2.5.2.3).
+// Where a call enters no body: the outputs of standard blocks (IEC 61131-3:2003, 2.5.2.3) that its instance has and the call doesn't hand on.
 fn put_outputs(
     alloc: Global,
     text: &mut String,

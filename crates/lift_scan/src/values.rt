@@ -1,6 +1,6 @@
 // Values, and the paths under which a scan has them.
 
-ghost use Rattle.std.specs.Prelude.{IfOk, OnOk, string_bytes};
+ghost use Rattle.std.specs.Prelude.{◌≡◌, IfOk, OnOk, string_bytes};
 ghost use Rattle.base_texts.specs.Puts.{Puts};
 ghost use Rattle.il_run.specs.Meaning as meaning;
 ghost use Rattle.lift_scan.specs.Stands.{value_text, result_text, named_text, there_by, there_text, indexed_text, element_text, reference_text};
@@ -56,6 +56,17 @@ pub fn put_variable(
     put_named(text, view, path.as_str())
 }
 
+// The path of an input or output of an instance of the body at a path.
+fn member_path(alloc: Global, path: &str, instance: &str, word: &str) -> Result<String, AllocError>
+    ensures { IfOk result (λ member. string_bytes member
+        ≡ meaning.member_path (meaning.under path.now instance.now) word.now) }
+{
+    let mut member = under(String::from_str(alloc, path)?, instance)?;
+    member.push_str(".")?;
+    member.push_str(word)?;
+    Ok(member)
+}
+
 /// An input or output of an instance of the body at a path, and its value.
 pub fn put_member(
     alloc: Global,
@@ -69,9 +80,7 @@ pub fn put_member(
         (named_text view.now.state.values
         (meaning.member_path (meaning.under path.now instance.now) word.now))) }
 {
-    let mut path = under(String::from_str(alloc, path)?, instance)?;
-    path.push_str(".")?;
-    path.push_str(word)?;
+    let path = member_path(alloc, path, instance, word)?;
     put_named(text, view, path.as_str())
 }
 
@@ -88,9 +97,7 @@ pub fn put_member_there(
         (there_text view.now.state.values
         (meaning.member_path (meaning.under path.now instance.now) word.now))) }
 {
-    let mut path = under(String::from_str(alloc, path)?, instance)?;
-    path.push_str(".")?;
-    path.push_str(word)?;
+    let path = member_path(alloc, path, instance, word)?;
     put_there(text, path.as_str(), view.value(path.as_str()))
 }
 

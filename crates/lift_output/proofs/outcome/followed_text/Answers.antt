@@ -1,18 +1,17 @@
-use Rattle.std.proofs.Common.{◌≤◌, List, length, subst, sym, Ok}
-use Rattle.lift_spec.specs.declared.image.Sizes.{Sizes}
-use Rattle.lift_spec.specs.declared.trace.TraceEvent.{TraceEvent}
-use Rattle.lift_spec.specs.Image.{sizes_of}
-use Rattle.lift_trace.specs.Reading.{Reads, greatest_trace}
-use Rattle.lift_output.proofs.Counted.{few_events}
-use Rattle.lift_output.proofs.Followed.{followed_is}
+use Rattle.std.proofs.Common.{rules, subst}
+use Rattle.il_machine.specs.Scanning.{Program}
+use Rattle.lift_output.specs.Parts.{AreFollowed}
+use Rattle.lift_output.proofs.Followed.{followed_is, unread_is}
 use Rattle.lift_output.proofs.outcome.followed_text.Goals as goal
 
-pub followed_events-requires : goal.followed_events-requires
-followed_events-requires c = record {
-  few = subst (λ (l : List TraceEvent). length l ≤ greatest_trace) (sym c.deref.ensures.value) (few_events c.sizes.result.cars c.args.text.now c.in-Ok.events.items c.in-Ok.ensures.ok);
-}
+pub returns-in_err-whole-clause-is : goal.returns-in_err-whole-clause-is
+returns-in_err-whole-clause-is c =
+    let e = c.from_residual.ensures in
+    let h = unread_is c.args.telling c.args.verified c.args.source.now c.args.text.now c.in_err-whole.field-0.0 c.in_err-whole.ensures.err in
+    search (rules, e, h)
 
-pub returns-in-Ok-clause-is : goal.returns-in-Ok-clause-is
-returns-in-Ok-clause-is c =
-    followed_is c.args.telling c.args.verified c.args.text.now c.deref.result.now c.followed_events.result
-    (subst (λ (l : List TraceEvent). Reads (sizes_of c.args.verified.config).cars c.args.text.now (Ok l)) (sym c.deref.ensures.value) (subst (λ (s : Sizes). Reads s.cars c.args.text.now (Ok c.in-Ok.events.items)) c.sizes.ensures c.in-Ok.ensures.ok)) c.followed_events.ensures.is
+pub returns-clause-is : goal.returns-clause-is
+returns-clause-is c =
+    let b = c.in_ok-whole.whole in
+    followed_is c.args.telling c.args.verified c.args.source.now c.args.text.now (record { from = b.world.world; events = b.events.items; lines = b.lines; begins = c.in_ok-whole.ensures.begins }) c.followed_events.result
+    (subst (λ (p : Program). AreFollowed c.args.telling p b.world.world b.events.items b.lines c.followed_events.result) c.in_ok-whole.ensures.same c.followed_events.ensures.is)

@@ -1,27 +1,18 @@
-use Rattle.std.proofs.Common.{List, ℕ, map, subst, sym, ap, ◌∙◌, ◌++◌, string_bytes}
+use Rattle.std.proofs.Common.{List, ℕ, subst, ap, ◌∙◌, ◌++◌}
 use Rattle.lift_runs.proofs.Stepping.{steps_take}
-use Rattle.lift_spec.specs.World.{World, opening}
 use Rattle.lift_watch.specs.declared.names.Watched.{Watched}
 use Rattle.lift_watch.specs.Following.{AreRowsAlong}
-use Rattle.lift_watch.specs.Values.{AreWatched}
 use Rattle.lift_output.proofs.outcome.values_of.Goals as goal
 
 pub returns-in-Ok-clause-is : goal.returns-in-Ok-clause-is
 returns-in-Ok-clause-is c =
-    let config = c.args.world.now.program.config in
+    let world = c.args.world.now in
     let after = c.rows_along.new.world.world in
     let told = c.in-Ok.ensures.rows in
-    let along : AreRowsAlong c.in_ok-watched.field-0.watched config (opening config) c.args.events.now after told.0 =
-    subst (λ (w : World). AreRowsAlong c.in_ok-watched.field-0.watched config w c.args.events.now after told.0) c.requires.opening
-    (subst (λ (l : List Watched). AreRowsAlong l config c.args.world.now.world c.args.events.now after told.0) c.as_slice.ensures told.2)
+    let along : AreRowsAlong c.in_ok-watched.field-0.watched world.program.config world.world c.args.events.now after told.0 =
+    subst (λ (l : List Watched). AreRowsAlong l world.program.config world.world c.args.events.now after told.0) c.as_slice.ensures told.2
     in (
       after,
-      steps_take config (opening config) after c.args.events.now along.steps along.are,
-      record {
-        watched = c.in_ok-watched.field-0.watched;
-        known = subst (λ (w : World). AreWatched w (map string_bytes c.args.names.now) c.in_ok-watched.field-0.watched) c.requires.opening c.in_ok-watched.ensures.known;
-        rows = told.0;
-        are = along;
-        lines = told.1 ∙ ap (λ (l : List ℕ). l ++ told.0) c.in_ok-watched.ensures.header;
-      },
+      steps_take world.program.config world.world after c.args.events.now along.steps along.are,
+      record { watched = c.in_ok-watched.field-0.watched; known = c.in_ok-watched.ensures.known; rows = told.0; are = along; lines = told.1 ∙ ap (λ (l : List ℕ). l ++ told.0) c.in_ok-watched.ensures.header },
     )
