@@ -1,3 +1,5 @@
 pub mod Answering
 pub mod Running
 pub mod Tracing
+pub mod Telling
+pub mod Beginning

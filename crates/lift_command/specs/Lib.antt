@@ -2,3 +2,4 @@ pub mod Programs
 pub mod Loaded
 pub mod Runs
 pub mod Servings
+pub mod Origins

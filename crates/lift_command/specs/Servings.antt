@@ -1,5 +1,5 @@
 -- What `serve` gives (own rules).
-use Rattle.std.specs.Prelude.{◌≡◌, ◌++◌, ℕ, nat_lt, Bool, true, List, [], Option, Some, None, Ok, Err, if◌then◌else◌}
+use Rattle.std.specs.Prelude.{◌≡◌, ◌++◌, ℕ, nat_lt, Bool, true, List, [], Option, Some, None, Ok, Err, string_bytes, if◌then◌else◌}
 use Rattle.std.specs.Io.KnownBytes.{Appends, Consumes}
 use Rattle.std.specs.declared.io.traits.Read.{Ghosts as Read}
 use Rattle.il_spec.specs.declared.fault.Refusal.{Refusal}
@@ -14,6 +14,7 @@ use Rattle.lift_host.specs.declared.status.Fault.{Fault}
 use Rattle.lift_host.specs.declared.status.Fault.TheVariants.{Misuse, RefusedText, Refused, BadPress, TooManyPresses, BadFire, BadSpan, BadScan, BadName, CannotRead, CannotWrite, NoMemory}
 use Rattle.lift_host.specs.declared.status.Status.{Status}
 use Rattle.lift_host.specs.declared.status.Status.TheVariants as with_status
+use Rattle.lift_host.specs.Servings.{continued_name}
 use Rattle.lift_host.specs.Messages.{fault_of, fault_of_reading, message_of, status_of}
 use Rattle.lift_shell.specs.Runs.{Held, stream, written, IsExplained, IsUnreadBelow, most_bytes}
 use Rattle.lift_host.specs.Writes.{AppendsFront, Writes}
@@ -31,7 +32,9 @@ use Rattle.lift_serve.specs.declared.server.ServeFault.{ServeFault}
 use Rattle.lift_serve.specs.declared.server.ServeFault.TheVariants as fault
 use Rattle.lift_serve.specs.Ending.{IsEnded, IsHalted}
 use Rattle.lift_serve.specs.Serving.{AtStop, at_stop}
+use Rattle.lift_command.specs.declared.origin.Prepared.{Prepared}
 use Rattle.lift_command.specs.Loaded.{IsLoaded}
+use Rattle.lift_command.specs.Origins.{IsNoOrigin, IsPrepared}
 
 -- HOW IT ENDS
 
@@ -127,10 +130,6 @@ Takes s = Consumes s.input s.left
 abbrev pub Tells : Streams → List ℕ → Type 0
 Tells s = Writes s.err.before s.err.after s.err.failed
 
--- nothing is
-abbrev pub IsSilent : Streams → Type 0
-IsSilent s = s.err.after ≡ s.err.before
-
 -- nothing is taken of the input, no trace is made, and no line is written
 pub record NothingServed (s : Streams) : Type 0 where
   pub untraced : IsUntouched s.trace
@@ -144,12 +143,28 @@ IsCreated (Some tracing) t created = IsMade tracing.name.now tracing.sync t crea
 
 -- WHAT IT GIVES
 
--- Of a configuration: its trace was wanted and could not be created; or its lines were answered and traced, to the end or up to a stop. The stop's fault is told.
-pub data IsLoadedAnswer (c : Config) (tracing : Option Tracing) (s : Streams) (status : Status) : Type 0 where
-  uncreated : (wanted : Tracing) → tracing ≡ Some wanted → s.trace_failed ≡ true → NothingServed s → Tells s (message_of CannotWrite) → status ≡ with_status.CannotWrite → IsLoadedAnswer c tracing s status
-  ended : (created : Option (List ℕ)) → IsCreated tracing s.trace created → IsEnded c (Takes s) (Appends s.out.before s.out.after) (Appends created s.trace.after) → IsSilent s → status ≡ with_status.Done → IsLoadedAnswer c tracing s status
-  halted : (created : Option (List ℕ)) → IsCreated tracing s.trace created → (halt : Halt) → IsHalted c (stop_of s) (Takes s) s.out.before s.out.after (Appends created s.trace.after) (AppendsFront created s.trace.after) halt → Tells s (message_of (fault_of_halt halt)) → status ≡ status_of (fault_of_halt halt)
-      → IsLoadedAnswer c tracing s status
+-- these are told on the standard error, one behind the other
+pub record TellsBoth (s : Streams) (first second : List ℕ) : Type 0 where
+  pub between : Option (List ℕ)
+  pub failed : Bool
+  pub one : Writes s.err.before between failed first
+  pub other : Writes between s.err.after s.err.failed second
+
+-- Of a group that is ready: its trace was wanted and could not be created; or its lines were answered and traced, to the end or up to a stop. It is told how many events were dropped,
+-- and the stop's fault.
+pub data IsPreparedAnswer (p : Prepared) (tracing : Option Tracing) (s : Streams) (status : Status) : Type 0 where
+  uncreated : (wanted : Tracing) → tracing ≡ Some wanted → s.trace_failed ≡ true → NothingServed s → TellsBoth s (string_bytes p.told) (message_of CannotWrite) → status ≡ with_status.CannotWrite → IsPreparedAnswer p tracing s status
+  ended : (created : Option (List ℕ)) → IsCreated tracing s.trace created
+      → IsEnded p.world.program.config p.world.world (string_bytes p.head.text) p.head.events (Takes s) (Appends s.out.before s.out.after) (Appends created s.trace.after)
+      → Tells s (string_bytes p.told) → status ≡ with_status.Done → IsPreparedAnswer p tracing s status
+  halted : (created : Option (List ℕ)) → IsCreated tracing s.trace created → (halt : Halt)
+      → IsHalted p.world.program.config p.world.world (string_bytes p.head.text) p.head.events (stop_of s) (Takes s) s.out.before s.out.after (Appends created s.trace.after) (AppendsFront created s.trace.after) halt
+      → TellsBoth s (string_bytes p.told) (message_of (fault_of_halt halt)) → status ≡ status_of (fault_of_halt halt) → IsPreparedAnswer p tracing s status
+
+-- Of a configuration whose text is the source: there is nowhere to begin, and its fault is told; or its group is ready, at its opening or where a trace ends, and serves.
+pub data IsLoadedAnswer (reads : List ℕ → ℕ → List ℕ → Type 0) (fails : List ℕ → ℕ → ReadFault → Type 0) (c : Config) (source : List ℕ) (tracing : Option Tracing) (s : Streams) (status : Status) : Type 0 where
+  nowhere : (why : Fault) → IsNoOrigin reads fails c source (continued_name tracing) why → NothingServed s → Tells s (message_of why) → status ≡ status_of why → IsLoadedAnswer reads fails c source tracing s status
+  somewhere : (p : Prepared) → p.world.program.config ≡ c → IsPrepared reads c source (continued_name tracing) p → IsPreparedAnswer p tracing s status → IsLoadedAnswer reads fails c source tracing s status
 
 -- below a refusal of FILE its place, its line, and what is told of it
 abbrev pub IsRefusalBelow : List ℕ → List ℕ → Fault → List ℕ → Type 0
@@ -183,11 +198,11 @@ abbrev pub IsUnreadAnswer : Bool → List ℕ → ReadFault → (List ℕ → Ty
 IsUnreadAnswer wanted name why = IsFaultTold wanted (IsUnreadBelow name why) (fault_of_reading why)
 
 -- of what was read of FILE: it is refused, no line was taken or written and no trace was made, or it is served
-pub data IsTextAnswer (wanted : Bool) (serving : Serving) (text : List ℕ) (s : Streams) (status : Status) : Type 0 where
-  refused : (why : Refusal) → IsLoaded text (Err why) → IsRefusedAnswer wanted serving.file.now text (fault_of why) (Tells s) status → NothingServed s → IsTextAnswer wanted serving text s status
-  accepted : (program : Program) → IsLoaded text (Ok program) → IsLoadedAnswer program.config serving.trace s status → IsTextAnswer wanted serving text s status
+pub data IsTextAnswer (reads : List ℕ → ℕ → List ℕ → Type 0) (fails : List ℕ → ℕ → ReadFault → Type 0) (wanted : Bool) (serving : Serving) (text : List ℕ) (s : Streams) (status : Status) : Type 0 where
+  refused : (why : Refusal) → IsLoaded text (Err why) → IsRefusedAnswer wanted serving.file.now text (fault_of why) (Tells s) status → NothingServed s → IsTextAnswer reads fails wanted serving text s status
+  accepted : (program : Program) → IsLoaded text (Ok program) → IsLoadedAnswer reads fails program.config text serving.trace s status → IsTextAnswer reads fails wanted serving text s status
 
 -- FILE can't be read, no line was taken or written and no trace was made, or it is read
 pub data IsServeAnswer (reads : List ℕ → ℕ → List ℕ → Type 0) (fails : List ℕ → ℕ → ReadFault → Type 0) (wanted : Bool) (serving : Serving) (s : Streams) (status : Status) : Type 0 where
   unread : (why : ReadFault) → fails serving.file.now most_bytes why → IsUnreadAnswer wanted serving.file.now why (Tells s) status → NothingServed s → IsServeAnswer reads fails wanted serving s status
-  read : (text : List ℕ) → reads serving.file.now most_bytes text → IsTextAnswer wanted serving text s status → IsServeAnswer reads fails wanted serving s status
+  read : (text : List ℕ) → reads serving.file.now most_bytes text → IsTextAnswer reads fails wanted serving text s status → IsServeAnswer reads fails wanted serving s status

@@ -4,5 +4,6 @@
 mod disk_trace;
 mod liftplc;
 pub mod memory_trace;
+mod origin;
 pub mod program;
 pub mod serving;

@@ -1,23 +1,26 @@
 // `serve`: a configuration behind lines.
 
-ghost use Rattle.std.specs.Prelude.{◌≡◌, ◌++◌, Some, None, true, IfOk, OnOk, OnErr};
+ghost use Rattle.std.specs.Prelude.{◌≡◌, ◌++◌, Some, None, true, option_map, IfOk, OnOk, OnErr};
 ghost use Rattle.lift_host.specs.Messages.{message_of, status_of, line_fault_number};
 ghost use Rattle.lift_host.specs.declared.status.Fault.TheVariants.{Refused as RefusedLine};
+ghost use Rattle.lift_journal.specs.Closed.{IsClosed};
 ghost use Rattle.lift_shell.specs.Runs.{IsExplained};
+ghost use Rattle.lift_host.specs.Servings.{continued_name};
 ghost use Rattle.lift_host.specs.Writes.{Writes};
 ghost use Rattle.lift_host.specs.declared.serving.Tracing.{Tracing as TracingOf};
-ghost use Rattle.lift_command.specs.Servings.{IsNew, IsUntouched, held_trace, between, IsServeAnswer, IsTextAnswer, IsLoadedAnswer, IsRefusalBelow, IsRefusedAnswer, IsUnreadAnswer, fault_of_halt, fault_of_input, fault_of_line, fault_of_stop, fault_of_wrong, shown_line};
+ghost use Rattle.lift_command.specs.Servings.{IsNew, IsUntouched, held_trace, between, IsServeAnswer, IsTextAnswer, IsLoadedAnswer, IsPreparedAnswer, IsRefusalBelow, IsRefusedAnswer, IsUnreadAnswer, fault_of_halt, fault_of_input, fault_of_line, fault_of_stop, fault_of_wrong, shown_line};
 
 use crate::liftplc::loaded;
+use crate::origin::{Prepared, prepare};
 use il_machine::Verified;
 use il_reasons::reason;
 use lift_host::files::{Cause, ReadFault, TextFiles};
 use lift_host::serving::{Serving, Tracing};
-use lift_host::sink::{Sink, SinkFault};
+use lift_host::sink::{Sink, SinkFault, put_all};
 use lift_host::status::{Fault, LineFault, Status};
 use lift_messages::place::text_below;
 use lift_messages::show::tell;
-use lift_serve::group::{Halt, serve_group};
+use lift_serve::group::{Halt, Head, serve_group};
 use lift_serve::input::Came;
 use lift_serve::said::WrongLine;
 use lift_serve::serve::Stop;
@@ -56,7 +59,9 @@ pub fn serve<F: TextFiles, T: TraceSink, I: Read, O: Sink, E: Sink>(
         err.old err.new) result }
 {
     match files.read(alloc, serving.file, MOST_BYTES) {
-        Ok(text) => serve_text(alloc, serving, &text, explains, trace, input, out, err),
+        Ok(text) => serve_text(
+            alloc, serving, &text, explains, files, trace, input, out, err,
+        ),
         Err(why) => tell_unread(alloc, serving.file, why, explains, err),
     }
 }
@@ -87,22 +92,33 @@ fn tell_explained<E: Sink>(explained: &Explained, err: &mut E) -> Status
 }
 
 // Serves what was read of FILE, or says why it is refused.
-fn serve_text<T: TraceSink, I: Read, O: Sink, E: Sink>(
+fn serve_text<F: TextFiles, T: TraceSink, I: Read, O: Sink, E: Sink>(
     alloc: Global,
     serving: Serving<'_>,
     text: &[u8],
     explains: bool,
+    files: &F,
     trace: &mut T,
     input: &mut I,
     out: &mut O,
     err: &mut E,
 ) -> Status
-    ensures { IsTextAnswer explains serving.entry text.now
-        (between T.Sink I.Read O.Sink E.Sink trace.old trace.new input.old input.new out.old out.new
-        err.old err.new) result }
+    ensures { IsTextAnswer (F.gives files.now) (F.fails files.now) explains serving.entry
+        text.now (between T.Sink I.Read O.Sink E.Sink trace.old trace.new input.old input.new
+        out.old out.new err.old err.new) result }
 {
     match loaded(alloc, text) {
-        Ok(verified) => serve_loaded(alloc, verified, serving.trace, trace, input, out, err),
+        Ok(verified) => serve_loaded(
+            alloc,
+            verified,
+            text,
+            serving.trace,
+            files,
+            trace,
+            input,
+            out,
+            err,
+        ),
         Err(refusal) => tell_refused(alloc, serving.file, text, refusal.into(), explains, err),
     }
 }
@@ -161,32 +177,70 @@ fn refusal_below(
     }
 }
 
-// Serves a configuration, once its trace is created, if one is wanted.
-fn serve_loaded<T: TraceSink, I: Read, O: Sink, E: Sink>(
+// The name of the trace from which a group goes on, where it does.
+fn from_of(tracing: Option<Tracing<'_>>) -> Option<&str>
+    ensures { option_map (λ name. name.now) result ≡ continued_name tracing.entry }
+{
+    tracing?.from
+}
+
+// Serves a configuration, from its opening or from where a trace ends.
+fn serve_loaded<F: TextFiles, T: TraceSink, I: Read, O: Sink, E: Sink>(
     alloc: Global,
     verified: Verified,
+    source: &[u8],
+    tracing: Option<Tracing<'_>>,
+    files: &F,
+    trace: &mut T,
+    input: &mut I,
+    out: &mut O,
+    err: &mut E,
+) -> Status
+    ensures { IsLoadedAnswer (F.gives files.now) (F.fails files.now) verified.config source.now
+        tracing.entry (between T.Sink I.Read O.Sink E.Sink trace.old trace.new input.old input.new
+        out.old out.new err.old err.new) result }
+{
+    match prepare(alloc, verified, source, from_of(tracing), files) {
+        Ok(prepared) => serve_prepared(alloc, prepared, tracing, trace, input, out, err),
+        Err(fault) => end_with(&fault, err),
+    }
+}
+
+// Tells a fault, and ends with its status.
+fn end_with<E: Sink>(fault: &Fault, err: &mut E) -> Status
+    ensures told { Writes (E.contents err.old) (E.contents err.new) (E.has_failed err.new)
+        (message_of fault.now) }
+    ensures ends { result ≡ status_of fault.now }
+{
+    tell(fault, b"", err);
+    fault.status()
+}
+
+// Serves a group, once its trace is created, if one is wanted.
+fn serve_prepared<T: TraceSink, I: Read, O: Sink, E: Sink>(
+    alloc: Global,
+    prepared: Prepared,
     tracing: Option<Tracing<'_>>,
     trace: &mut T,
     input: &mut I,
     out: &mut O,
     err: &mut E,
 ) -> Status
-    ensures { IsLoadedAnswer verified.config tracing.entry
-        (between T.Sink I.Read O.Sink E.Sink trace.old trace.new input.old input.new out.old out.new
-        err.old err.new) result }
+    requires { IsClosed prepared.world.world }
+    ensures { IsPreparedAnswer prepared tracing.entry (between T.Sink I.Read O.Sink E.Sink
+        trace.old trace.new input.old input.new out.old out.new err.old err.new) result }
 {
+    let Prepared { world, head, told } = prepared;
+    let _told = put_all(err, told.as_bytes());
     if create(tracing, trace).is_err() {
-        verified.release();
-        tell(&Fault::CannotWrite, b"", err);
-        return Status::CannotWrite;
+        world.release();
+        return end_with(&Fault::CannotWrite, err);
     }
-    match serve_group(alloc, verified, input, out, trace) {
+    let events = head.events;
+    let text = head.text.as_bytes();
+    match serve_group(alloc, world, Head { text, events }, input, out, trace) {
         Ok(()) => Status::Done,
-        Err(halt) => {
-            let fault = fault_of_halt(halt);
-            tell(&fault, b"", err);
-            fault.status()
-        }
+        Err(halt) => end_with(&fault_of_halt(halt), err),
     }
 }
 

@@ -1,4 +1,4 @@
--- The stop, and presses.
+-- Presses.
 use Rattle.std.proofs.Common.{◌≡◌, ℕ, List, Bool, true, false, ◌==◌, Ok, Err, refl, ap, ◌∙◌, subst}
 use Rattle.std.specs.Prelude.{slice_get, is_some, ◌&&◌}
 use Rattle.il_spec.specs.declared.tree.Config.{Config}
@@ -7,9 +7,8 @@ use Rattle.lift_spec.specs.declared.event.Event.TheVariants.{Press}
 use Rattle.lift_spec.specs.Hands.{has_call}
 use Rattle.lift_spec.specs.Image.{sizes_of, is_floor}
 use Rattle.lift_spec.specs.Replies.{Reply}
-use Rattle.lift_spec.specs.World.{World, Next, flat, happens, presses, presses_floors, presses_new, opening, opening_group}
+use Rattle.lift_spec.specs.World.{World, Next, flat, happens, presses, presses_floors, presses_new}
 use Rattle.lift_journal.specs.Closed.{IsClosed}
-use Rattle.lift_serve.specs.Answers.{outputs_line, stop_line}
 
 abbrev SameScans : World → Next → Type 0
 SameScans w (Err halt) = Unit {0}
@@ -36,13 +35,3 @@ pub press_closes : (c : Config) (w v : World) (call : Call) (r : Reply) → happ
 press_closes c w v call r is closed j =
     let same : v.scans ≡ w.scans = subst (SameScans w) is (press_same c w call) in
     ap (λ ss. is_some (flat (slice_get ss j))) same ∙ closed j
-
--- THE STOP
-
-opens : (c : Config) → (opening c).group.image.outputs ≡ (opening_group c).image.outputs
-unfolding opening
-opens c = refl
-
--- the outputs as the group opens are the stop
-pub stop_is : (c : Config) (w : World) (text : List ℕ) → w ≡ opening c → text ≡ outputs_line w.group.image.outputs → text ≡ stop_line c
-stop_is c w text opened is = is ∙ ap (λ (x : World). outputs_line x.group.image.outputs) opened ∙ ap outputs_line (opens c)

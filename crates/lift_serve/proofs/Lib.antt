@@ -6,3 +6,5 @@ pub mod Lines
 pub mod Replaying
 pub mod Ending
 pub mod Few
+pub mod Whole
+pub mod Refilling

@@ -1,5 +1,5 @@
 -- What is traced of a line leads to the same world.
-use Rattle.std.proofs.Common.{◌≡◌, ℕ, ◌+◌, length, length-append, append-nil, add-zero, zero-add, arith, Bool, true, false, List, [], ◌∷◌, ◌++◌, map, flat_map, if◌then◌else◌, Result, Ok, Err, refl, sym, ap, ◌∙◌, subst}
+use Rattle.std.proofs.Common.{◌≡◌, ℕ, ◌+◌, length, length-append, append-nil, add-zero, arith, Bool, true, false, List, [], ◌∷◌, ◌++◌, map, flat_map, if◌then◌else◌, Result, Ok, Err, refl, sym, ap, ◌∙◌, subst}
 use Rattle.std.specs.Prelude.{◌&&◌, not, ◌==◌}
 use Rattle.il_spec.specs.declared.tree.Config.{Config}
 use Rattle.lift_spec.specs.declared.calls.Call.{Call}
@@ -14,7 +14,7 @@ use Rattle.lift_spec.specs.declared.image.Fields.{Fields}
 use Rattle.lift_spec.specs.World.{World, Halt, Next, happens, run, and_then, presses, presses_floors, presses_new}
 use Rattle.lift_run_laws.proofs.Following.{follow, before}
 use Rattle.lift_trace.specs.declared.format.Format.TheVariants.{Two}
-use Rattle.lift_trace.specs.Text.{last_line, line_of, text_of, text_of_lines}
+use Rattle.lift_trace.specs.Text.{last_line, line_of, text_of_lines}
 use Rattle.lift_trace.specs.Writing.{events_text}
 use Rattle.lift_trace.proofs.Texts.{text_append}
 use Rattle.lift_trace.proofs.Writes.{events_append}
@@ -27,7 +27,7 @@ use Rattle.lift_serve.specs.declared.said.Said.{Said}
 use Rattle.lift_serve.specs.declared.said.Said.TheVariants.{Round, Press, End}
 use Rattle.lift_serve.specs.Saying.{events_of, scan_events, is_call}
 use Rattle.lift_serve.specs.Answers.{Acts}
-use Rattle.lift_serve.specs.Ending.{head}
+use Rattle.lift_serve.specs.Ending.{behind_head}
 use Rattle.lift_serve.specs.Serving.{IsServed, Serves, is_end, traced_text}
 
 -- THE FIRST OF SOME EVENTS
@@ -50,19 +50,19 @@ cut_first c w v e es replies (Ok n) first is accepted =
     let parts = cut_rest c w n.0 v e es n.1 replies (run c n.0 [] es) first refl (sym (follow c n.0 (n.1 ∷ []) es) ∙ is) accepted in
     (n.0, parts.0, parts.1)
 
-cut : (c : Config) (w v : World) (e : Event) (es : List Event) → Happen c w (e ∷ es) v → (m : World) × Happen c w (e ∷ []) m × Happen c m es v
+pub cut : (c : Config) (w v : World) (e : Event) (es : List Event) → Happen c w (e ∷ es) v → (m : World) × Happen c w (e ∷ []) m × Happen c m es v
 cut c w v e es all = cut_first c w v e es all.replies (happens c w e) refl all.runs all.accepted
 
-none_left : (c : Config) (w v : World) → Happen c w [] v → w ≡ v
+pub none_left : (c : Config) (w v : World) → Happen c w [] v → w ≡ v
 none_left c w v all = let both : Ok (w, []) ≡ Ok (v, all.replies) = all.runs in let pair : (w, []) ≡ (v, all.replies) = cc in ap (λ (x : World × List Reply). x.0) pair
 
 -- WHAT IS TAKEN
 
-joined : (c : Config) (xs ys : List TraceEvent) (w m v : World) → TakesAll c w xs m → TakesAll c m ys v → TakesAll c w (xs ++ ys) v
+pub joined : (c : Config) (xs ys : List TraceEvent) (w m v : World) → TakesAll c w xs m → TakesAll c m ys v → TakesAll c w (xs ++ ys) v
 joined c [] ys w m v same rest = subst (λ x. TakesAll c x ys v) (sym same) rest
 joined c (x ∷ xs) ys w m v (u, first, more) rest = (u, first, joined c xs ys u m v more rest)
 
-gathers_taken : (c : Config) (floors : List ℕ) (w v : World) → Happen c w (map event.Gather floors) v → TakesAll c w (map traced.Gather floors) v
+pub gathers_taken : (c : Config) (floors : List ℕ) (w v : World) → Happen c w (map event.Gather floors) v → TakesAll c w (map traced.Gather floors) v
 gathers_taken c [] w v all = none_left c w v all
 gathers_taken c (floor ∷ floors) w v all =
     let parts = cut c w v (event.Gather floor) (map event.Gather floors) all in
@@ -155,17 +155,17 @@ serves_taken c (line ∷ lines) w v count next text events (said, m, k, first, o
       joined c here more.0 w m v (acts_taken c said w m first hears.acts) more.3,
     )
 
--- the same of all lines up to the end: behind the head it is the trace of those events
-pub served_taken : (c : Config) (w v : World) (next : ℕ) (Taken Out Trace : List ℕ → Type 0) → (s : IsServed c w 0 v next Taken Out Trace) → (es : List TraceEvent) × TakesAll c w es v × (head ++ (s.events ++ s.ends) ≡ text_of Two es)
-served_taken c w v next Taken Out Trace s =
-    let before = serves_taken c s.lines w s.behind 0 s.many s.text s.events s.serves in
+-- the same of all lines up to the end: it is what stands behind the head of the trace of those events
+pub served_taken : (c : Config) (w : World) (count : ℕ) (v : World) (next : ℕ) (Taken Out Trace : List ℕ → Type 0) → (s : IsServed c w count v next Taken Out Trace) → (es : List TraceEvent) × TakesAll c w es v × (s.events ++ s.ends ≡ behind_head count es)
+served_taken c w count v next Taken Out Trace s =
+    let before = serves_taken c s.lines w s.behind count s.many s.text s.events s.serves in
     let es = before.0 in
-    let many : s.many ≡ length es = before.2 ∙ zero-add (length es) in
-    let last : s.ends ≡ last_line (length es) ++ 10 ∷ [] = s.hears.traced ∙ ap (λ n. last_line n ++ 10 ∷ []) many in
-    let ends : events_text es ++ (last_line (length es) ++ 10 ∷ []) ≡ text_of_lines (map (line_of Two) es ++ last_line (length es) ∷ []) =
-    ap (λ l. events_text es ++ l) (sym (append-nil (last_line (length es) ++ 10 ∷ []))) ∙ sym (text_append (map (line_of Two) es) (last_line (length es) ∷ []))
+    let many : s.many ≡ count + length es = before.2 in
+    let last : s.ends ≡ last_line (count + length es) ++ 10 ∷ [] = s.hears.traced ∙ ap (λ n. last_line n ++ 10 ∷ []) many in
+    let ends : events_text es ++ (last_line (count + length es) ++ 10 ∷ []) ≡ text_of_lines (map (line_of Two) es ++ last_line (count + length es) ∷ []) =
+    ap (λ l. events_text es ++ l) (sym (append-nil (last_line (count + length es) ++ 10 ∷ []))) ∙ sym (text_append (map (line_of Two) es) (last_line (count + length es) ∷ []))
     in (
       es,
       subst (λ x. TakesAll c w es x) s.hears.acts.0 before.3,
-      ap (λ l. head ++ l) (ap (λ l. l ++ s.ends) before.1 ∙ ap (λ l. events_text es ++ l) last ∙ ends),
+      ap (λ l. l ++ s.ends) before.1 ∙ ap (λ l. events_text es ++ l) last ∙ ends,
     )

@@ -61,11 +61,11 @@ abbrev pub Stops : {R O T : Type 0} → Read R → Sink O → Sink T → Server 
 Stops reader out trace before r s o p t u stopped =
     IsStopped (config_of before) (world_of before) before.count (at_stop (reader.remaining s) (out.has_failed p) (trace.has_failed u)) (IsRead reader r s) (IsPut out o p) (IsPutFront out o p) (IsPut trace t u) (IsPutFront trace t u) stopped.stop stopped.line
 
--- a group comes to its end
-abbrev pub EndsGroup : {R O T : Type 0} → Read R → Sink O → Sink T → Config → R → R → O → O → T → T → Type 0
-EndsGroup reader out trace c r s o p t u = IsEnded c (IsRead reader r s) (IsPut out o p) (IsPut trace t u)
+-- a group comes to its end, from this world, with this head of its trace, in which so many events stand
+abbrev pub EndsFrom : {R O T : Type 0} → Read R → Sink O → Sink T → Config → World → List ℕ → ℕ → R → R → O → O → T → T → Type 0
+EndsFrom reader out trace c w head before r s o p t u = IsEnded c w head before (IsRead reader r s) (IsPut out o p) (IsPut trace t u)
 
 -- a group halts before
-abbrev pub HaltsGroup : {R O T : Type 0} → Read R → Sink O → Sink T → Config → R → R → O → O → T → T → Halt → Type 0
-HaltsGroup reader out trace c r s o p t u =
-    IsHalted c (at_stop (reader.remaining s) (out.has_failed p) (trace.has_failed u)) (IsRead reader r s) (out.contents o) (out.contents p) (IsPut trace t u) (IsPutFront trace t u)
+abbrev pub HaltsFrom : {R O T : Type 0} → Read R → Sink O → Sink T → Config → World → List ℕ → ℕ → R → R → O → O → T → T → Halt → Type 0
+HaltsFrom reader out trace c w head before r s o p t u =
+    IsHalted c w head before (at_stop (reader.remaining s) (out.has_failed p) (trace.has_failed u)) (IsRead reader r s) (out.contents o) (out.contents p) (IsPut trace t u) (IsPutFront trace t u)

@@ -4,3 +4,5 @@ pub mod Answers
 pub mod Coming
 pub mod Ending
 pub mod Between
+pub mod Going
+pub mod Waiting

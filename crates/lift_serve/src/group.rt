@@ -1,13 +1,14 @@
-// A group from its opening to the end of its lines.
+// A group from where it begins to the end of its lines.
 
 ghost use Rattle.std.specs.Prelude.{◌≡◌, None, OnOk, IfErr};
+ghost use Rattle.lift_journal.specs.Closed.{IsClosed};
 ghost use Rattle.lift_serve.specs.Ending.{Ends, IsHaltWritten};
-ghost use Rattle.lift_serve.specs.Between.{EndsGroup, HaltsGroup};
+ghost use Rattle.lift_serve.specs.Between.{EndsFrom, HaltsFrom};
 
 use crate::serve::{Stop, Stopped, serve};
 use crate::server::{ServeFault, Server};
-use il_machine::Verified;
 use lift_host::sink::{Sink, put_all};
+use lift_world::World;
 use std::alloc::Global;
 use std::io::Read;
 use thiserror::Error;
@@ -25,28 +26,40 @@ pub enum Halt {
     Stop(Stopped),
 }
 
-/// Serves a group from its opening to the end of its lines. Where it stops before, the stop is the last line that is written.
+/// The head of a trace, and how many events stand in it.
+#[derive(Clone, Copy)]
+pub struct Head<'h> {
+    pub text: &'h [u8],
+    pub events: u64,
+}
+
+/// Serves a group from a world between scans to the end of its lines, with this head of its trace. Where it stops before, the stop is the last
+/// line that is written.
 pub fn serve_group<R: Read, O: Sink, T: Sink>(
     alloc: Global,
-    verified: Verified,
+    world: World,
+    head: Head<'_>,
     reader: &mut R,
     out: &mut O,
     trace: &mut T,
 ) -> Result<(), Halt>
-    ensures ended { OnOk result (EndsGroup R.Read O.Sink T.Sink verified.config reader.old reader.new
-        out.old out.new trace.old trace.new) }
-    ensures halted { IfErr result (HaltsGroup R.Read O.Sink T.Sink verified.config reader.old
-        reader.new out.old out.new trace.old trace.new) }
+    requires { IsClosed world.world }
+    ensures ended { OnOk result (EndsFrom R.Read O.Sink T.Sink world.program.config world.world
+        head.entry.text.now head.entry.events reader.old reader.new out.old out.new trace.old
+        trace.new) }
+    ensures halted { IfErr result (HaltsFrom R.Read O.Sink T.Sink world.program.config world.world
+        head.entry.text.now head.entry.events reader.old reader.new out.old out.new trace.old
+        trace.new) }
     ensures silent { T.contents trace.old ≡ None → T.contents trace.new ≡ None }
     ensures made { T.made trace.new ≡ T.made trace.old }
 {
-    let Ok(mut server) = Server::new(alloc, verified) else {
+    let Ok(mut server) = Server::of(alloc, world, head.events) else {
         return Err(Halt::Memory);
     };
     let Ok(mut line) = Vec::with_capacity(alloc, 128) else {
         return Err(Halt::Memory);
     };
-    if put_all(trace, b"LIFTTRACE 2\n").is_err() {
+    if put_all(trace, head.text).is_err() {
         put_stop(server.stop.as_bytes(), out);
         return Err(Halt::Head);
     }

@@ -3,8 +3,10 @@
 
 pub mod act;
 pub mod answer;
+pub mod going;
 pub mod group;
 pub mod input;
 pub mod said;
 pub mod serve;
 pub mod server;
+pub mod waiting;

@@ -3,9 +3,9 @@
 ghost use Rattle.std.specs.Prelude.{◌≡◌, ◌≢◌, ◌≤◌, ◌⊎◌, ◌++◌, ◌+◌, ◌∷◌, [], ℕ, List, Bool, true, length, OnOk, OnErr, IfOk, IfErr, None, string_bytes, map, flat_map};
 ghost use Rattle.std.specs.Io.KnownBytes.{Appends};
 ghost use Rattle.base_texts.specs.Puts.{Puts};
-ghost use Rattle.lift_spec.specs.World.{opening};
 ghost use Rattle.lift_spec.specs.declared.trace.TraceEvent.TheVariants.{Gather};
-ghost use Rattle.lift_spec.specs.Image.{sizes_of, FieldsInRange, Obeys};
+ghost use Rattle.lift_spec.specs.Image.{sizes_of, FieldsInRange, Obeys, opening_image};
+ghost use Rattle.lift_journal.specs.Closed.{IsClosed};
 ghost use Rattle.lift_trace.specs.Text.{last_line};
 ghost use Rattle.lift_trace.specs.Writing.{events_text};
 ghost use Rattle.lift_journal.specs.Rounds.{TakesAll, counting_from};
@@ -18,12 +18,11 @@ ghost use Rattle.lift_serve.specs.declared.said.Said.{Said as SaidOf};
 use crate::act::act;
 use crate::answer::put_outputs;
 use crate::said::{Said, WrongLine, is_call, read_said};
-use il_machine::Verified;
-use il_spec::fault::Refusal;
+use il_machine::opening_image;
 use itoa::Buffer;
 use lift_host::sink::{Sink, put_all};
 use lift_runs::kept::Rounds;
-use lift_spec::Sizes;
+use lift_spec::{MOST_CARS, Sizes};
 use lift_world::World;
 use std::alloc::{AllocError, Global};
 use thiserror::Error;
@@ -85,7 +84,7 @@ fn gathers_text(alloc: Global, floors: u8) -> Result<String, AllocError>
 }
 
 #[tactic(auto, unfolding(lift_trace::specs::Text::line_of))]
-fn put_gather(text: &mut String, floor: u8) -> Result<(), AllocError>
+pub(crate) fn put_gather(text: &mut String, floor: u8) -> Result<(), AllocError>
     ensures { OnOk result (Puts text.old text.new (events_text (Gather floor ∷ []))) }
 {
     writeln!(text, "G {}", floor)
@@ -160,18 +159,17 @@ fn put_said(
 }
 
 impl Server {
-    /// A group that opens.
-    pub fn new(alloc: Global, verified: Verified) -> Result<Server, Refusal>
+    /// A group that goes on from a world between scans, of which so many events are traced.
+    pub fn of(alloc: Global, world: World, count: u64) -> Result<Server, AllocError>
+        requires { IsClosed world.world }
         ensures server { IfOk result IsServer }
-        ensures opening { IfOk result (λ s. (s.rounds.world.program ≡ verified)
-            × (s.rounds.world.world ≡ opening verified.config) × (s.count ≡ 0)) }
+        ensures begins { IfOk result (λ s. (s.rounds.world ≡ world) × (s.count ≡ count)) }
     {
-        let world = World::new(alloc, verified)?;
         let rounds = Rounds::of(world);
         let _config = rounds.world.verified().config();
         let gathers = gathers_text(alloc, rounds.world.sizes().floors)?;
         let scans = scans_text(alloc, rounds.tasks.as_slice())?;
-        let stop = stop_of(alloc, &rounds.world)?;
+        let stop = stop_of(alloc, rounds.world.sizes())?;
         Ok(Server {
             rounds,
             gathers,
@@ -179,7 +177,7 @@ impl Server {
             stop,
             answer: String::with_capacity(alloc, 8192)?,
             traced: Vec::with_capacity(alloc, 4096)?,
-            count: 0,
+            count,
         })
     }
 
@@ -315,13 +313,14 @@ impl Server {
     }
 }
 
-// The outputs of a world, as a line.
-fn stop_of(alloc: Global, world: &World) -> Result<String, AllocError>
+// The stop of a group of these sizes, as a line.
+fn stop_of(alloc: Global, sizes: Sizes) -> Result<String, AllocError>
+    requires { sizes.cars ≤ MOST_CARS }
     ensures line { IfOk result (λ text. string_bytes text
-        ≡ outputs_line world.now.world.group.image.outputs) }
+        ≡ outputs_line (opening_image sizes).outputs) }
     ensures short { IfOk result (λ text. length (string_bytes text) ≤ greatest_answer) }
 {
-    let outputs = &world.image().outputs;
+    let outputs = &opening_image(sizes).outputs;
     let _cars = outputs.len();
     let mut text = String::new(alloc);
     put_outputs(&mut text, outputs.as_slice())?;

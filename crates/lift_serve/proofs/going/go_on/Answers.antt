@@ -1,0 +1,39 @@
+use Rattle.std.proofs.Common.{◌≡◌, sym, ap, ◌∙◌, subst, arith, List, take}
+use Rattle.std.specs.Prelude.{is_some}
+use Rattle.il_machine.specs.Scanning.{Program, IsRunnable}
+use Rattle.lift_spec.specs.declared.trace.TraceEvent.{TraceEvent}
+use Rattle.lift_spec.specs.World.{World, scan_at}
+use Rattle.lift_journal.specs.Closed.{IsClosed}
+use Rattle.lift_journal.specs.Rounds.{TakesAll}
+use Rattle.lift_runs.proofs.Taking.{none_open}
+use Rattle.lift_serve.specs.Going.{whole_events, last_task}
+use Rattle.lift_serve.proofs.Whole.{whole_closes_in}
+use Rattle.lift_serve.proofs.going.go_on.Goals as goal
+
+pub rest-requires : goal.rest-requires
+rest-requires c =
+    let config = c.args.world.now.program.config in
+    let whole = c.whole_events-whole.ensures.whole ∙ ap (λ n. whole_events n c.args.events.now) c.last_task.ensures in
+    let taken = subst (λ n. TakesAll config c.args.world.now.world (take n c.args.events.now) c.replay.new.world.world) whole c.in_ok-replay.ensures.taken in
+    let closed = whole_closes_in config (subst (λ (p : Program). IsRunnable p.config) c.verified.ensures c.config-config.ensures.runnable) (last_task config) c.args.world.now.world c.replay.new.world.world c.args.events.now c.image-image.ensures.reached c.requires taken in
+    record { closed = λ t. none_open c.replay.new.world.world t closed }
+
+pub returns-clause-goes_on : goal.returns-clause-goes_on
+returns-clause-goes_on c =
+    let config = c.args.world.now.program.config in
+    let whole = c.whole_events-whole.ensures.whole ∙ ap (λ n. whole_events n c.args.events.now) c.last_task.ensures in
+    let within = c.whole_events-whole.ensures.within in
+    record {
+      behind = c.replay.new.world.world;
+      taken = subst (λ n. TakesAll config c.args.world.now.world (take n c.args.events.now) c.replay.new.world.world) whole c.in_ok-replay.ensures.taken;
+      rests = c.rest.ensures.world;
+      others = omega (arith, whole, within);
+    }
+
+pub returns-clause-closed : goal.returns-clause-closed
+returns-clause-closed c =
+    let config = c.args.world.now.program.config in
+    let whole = c.whole_events-whole.ensures.whole ∙ ap (λ n. whole_events n c.args.events.now) c.last_task.ensures in
+    let taken = subst (λ n. TakesAll config c.args.world.now.world (take n c.args.events.now) c.replay.new.world.world) whole c.in_ok-replay.ensures.taken in
+    let closed = whole_closes_in config (subst (λ (p : Program). IsRunnable p.config) c.verified.ensures c.config-config.ensures.runnable) (last_task config) c.args.world.now.world c.replay.new.world.world c.args.events.now c.image-image.ensures.reached c.requires taken in
+    λ j. ap (λ (w : World). is_some (scan_at w j)) c.rest.ensures.world ∙ closed j
