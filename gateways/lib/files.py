@@ -21,17 +21,22 @@ def named(name: str, number: int) -> str:
 
 def greatest(name: str) -> int:
     """The greatest number of a file that is there under this name, or 0."""
+    return max((number for number, _ in there(name)), default=0)
+
+
+def there(name: str) -> list[tuple[int, str]]:
+    """What is there under this name: the number and the path of each."""
     folder, last = os.path.split(name)
     if last.count("%") > 1:
         raise NoFile(f"{name}: more than one % in a name")
     if "%" not in last:
-        return 0
+        return []
     before, _, after = map(re.escape, last.partition("%"))
     try:
         found = [re.fullmatch(f"{before}([0-9]{{{DIGITS},18}}){after}", it) for it in os.listdir(folder or ".")]
     except OSError as why:
         raise NoFile(f"cannot read the folder {folder or '.'}: {why.strerror}") from why
-    return max((int(it[1]) for it in found if it), default=0)
+    return [(int(it[1]), os.path.join(folder, it[0])) for it in found if it]
 
 
 def must_be_new(name: str):
