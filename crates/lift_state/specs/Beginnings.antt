@@ -1,5 +1,5 @@
 -- How a trace begins: what it is read as, and why it isn't (own rules).
-use Rattle.std.specs.Prelude.{◌≡◌, ℕ, ◌+◌, ◌-◌, ◌≤◌, List, ◌∷◌, ◌++◌, length, option_map, Option, Err}
+use Rattle.std.specs.Prelude.{◌≡◌, ◌≢◌, ℕ, ◌+◌, ◌-◌, ◌≤◌, List, [], ◌∷◌, ◌++◌, length, option_map, Option, Err}
 use Rattle.il_spec.specs.declared.tree.Config.{Config}
 use Rattle.lift_host.specs.declared.status.Fault.{Fault}
 use Rattle.lift_host.specs.declared.status.Fault.TheVariants.{Refused, NoMemory}
@@ -9,6 +9,7 @@ use Rattle.lift_spec.specs.World.{World, opening}
 use Rattle.lift_trace.specs.declared.fault.TraceFault.{TraceFault}
 use Rattle.lift_trace.specs.declared.fault.TraceFault.TheVariants.{BadLine, Truncated, Write, Memory}
 use Rattle.lift_trace.specs.declared.format.Format.TheVariants.{Two}
+use Rattle.lift_trace.specs.Fronts.{RefusesFront}
 use Rattle.lift_trace.specs.Reading.{Reads, ReadsFront, greatest_trace}
 use Rattle.lift_trace.specs.Text.{first_line as trace_line}
 use Rattle.lift_world.specs.Setting.{resting}
@@ -28,9 +29,9 @@ events_text rest = trace_line Two ++ (10 ∷ rest)
 abbrev pub line_behind : ℕ → ℕ → ℕ
 line_behind lines line = line + (lines - 1)
 
--- a text doesn't begin with the line `LIFTTRACE 3`, or is too long for a trace (own rule)
+-- a text is too long for a trace, doesn't begin with the line `LIFTTRACE 3`, or has nothing behind it (own rule)
 abbrev pub HasNoState : List ℕ → Type 0
-HasNoState text = (state : List ℕ) → text ≡ first_line ++ (10 ∷ state) → length text ≤ greatest_trace → ⊥
+HasNoState text = (state : List ℕ) → text ≡ first_line ++ (10 ∷ state) → state ≢ [] → length text ≤ greatest_trace → ⊥
 
 -- WHAT A TRACE IS READ AS
 
@@ -54,16 +55,16 @@ IsNumbered Memory number line = ⊥
 
 -- A text is refused with a number at a line (own rule).
 pub data IsRefusedAt (c : Config) (source text : List ℕ) (number line : ℕ) : Type 0 where
-  -- it is no trace of format 1 or 2: 80 at its first wrong line, or at line 1 of a text that is too long; 81 where it ends too early
-  no_trace : HasNoState text → (why : TraceFault) → Reads (sizes_of c).cars text (Err why) → IsNumbered why number line → IsRefusedAt c source text number line
+  -- it is no trace of format 1 or 2, and no front of one: 80 at its first wrong line, or at line 1 of a text that is too long; 81 at line 1 of a text without a line feed
+  no_trace : HasNoState text → (why : TraceFault) → RefusesFront (sizes_of c).cars text why → IsNumbered why number line → IsRefusedAt c source text number line
   -- the state of format 3 is none: the number of its first wrong line
   no_state :
-      (state : List ℕ) → (wrong : Wrong) → text ≡ first_line ++ (10 ∷ state) → length text ≤ greatest_trace → IsNoState c (sha256 source) state wrong → number ≡ state_fault_number wrong.fault → line ≡ wrong.line
+      (state : List ℕ) → (wrong : Wrong) → text ≡ first_line ++ (10 ∷ state) → state ≢ [] → length text ≤ greatest_trace → IsNoState c (sha256 source) state wrong → number ≡ state_fault_number wrong.fault → line ≡ wrong.line
       → IsRefusedAt c source text number line
-  -- behind the state there are no lines of events: the number is that of a text of format 2
+  -- behind the state there is a line that is wrong in a text of format 2: 80
   no_events :
       (state : List ℕ) → (begun : Begun) → text ≡ first_line ++ (10 ∷ state) → length text ≤ greatest_trace → IsState c (sha256 source) state begun
-      → (why : TraceFault) → (place : ℕ) → Reads (sizes_of c).cars (events_text begun.rest) (Err why) → IsNumbered why number place → line ≡ line_behind begun.lines place → IsRefusedAt c source text number line
+      → (place : ℕ) → Reads (sizes_of c).cars (events_text begun.rest) (Err (BadLine place)) → number ≡ 80 → line ≡ line_behind begun.lines place → IsRefusedAt c source text number line
 
 -- Why a trace isn't read; out of memory says nothing of the text, and no other fault comes (own rule).
 abbrev pub IsUnbegun : Config → List ℕ → List ℕ → Fault → Type 0

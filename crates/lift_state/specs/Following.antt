@@ -1,5 +1,5 @@
 -- Parts of a trace's beginning, as it is read (own rules).
-use Rattle.std.specs.Prelude.{◌≡◌, ℕ, ◌+◌, ◌≤◌, List, ◌∷◌, ◌++◌, length, Err}
+use Rattle.std.specs.Prelude.{◌≡◌, ◌≢◌, ℕ, ◌+◌, ◌≤◌, List, [], ◌∷◌, ◌++◌, length, Err}
 use Rattle.lift_host.specs.declared.status.Fault.{Fault}
 use Rattle.lift_host.specs.declared.status.Fault.TheVariants.{Refused, CannotWrite, NoMemory}
 use Rattle.lift_trace.specs.declared.fault.TraceFault.{TraceFault}
@@ -7,13 +7,14 @@ use Rattle.lift_trace.specs.declared.fault.TraceFault.TheVariants.{BadLine, Trun
 use Rattle.lift_trace.specs.Reading.{Reads, greatest_trace}
 use Rattle.lift_state.specs.declared.fault.StateError.{StateError}
 use Rattle.lift_state.specs.declared.fault.StateError.TheVariants as error
-use Rattle.lift_state.specs.Beginnings.{events_text, line_behind, IsNumbered}
+use Rattle.lift_state.specs.Beginnings.{events_text, line_behind}
 use Rattle.lift_state.specs.Faults.{state_fault_number}
 use Rattle.lift_state.specs.Text.{first_line}
 
--- a text that isn't too long is the first line of format 3, and then this (own rule)
+-- a text that isn't too long is the first line of format 3, and then this, which is something (own rule)
 pub record IsStateOf (text state : List ℕ) : Type 0 where
   pub whole : text ≡ first_line ++ (10 ∷ state)
+  pub some : state ≢ []
   pub small : length text ≤ greatest_trace
 
 -- the line of a fault of a trace; 0 where it has none (own rule)
@@ -43,6 +44,6 @@ error_fault error.Memory = NoMemory
 -- why there are no events in what is behind so many lines (own rule)
 abbrev pub IsEventless : ℕ → ℕ → List ℕ → Fault → Type 0
 IsEventless cars lines rest (Refused number line) =
-    (why : TraceFault) × (place : ℕ) × Reads cars (events_text rest) (Err why) × IsNumbered why number place × (line ≡ line_behind lines place)
+    (place : ℕ) × Reads cars (events_text rest) (Err (BadLine place)) × (number ≡ 80) × (line ≡ line_behind lines place)
 IsEventless cars lines rest NoMemory = Unit {0}
 IsEventless cars lines rest _ = ⊥

@@ -5,12 +5,11 @@ use Rattle.lift_spec.specs.declared.image.Image.{Image}
 use Rattle.lift_spec.specs.Calls.{Calls}
 use Rattle.lift_spec.specs.Image.{sizes_of}
 use Rattle.lift_spec.specs.World.{Group, TaskState}
-use Rattle.lift_state.specs.declared.fault.StateFault.TheVariants.{NoVariable}
 use Rattle.lift_state.specs.declared.fault.StateError.{StateError}
 use Rattle.lift_state.specs.declared.fault.StateError.TheVariants.{Unread, Memory}
 use Rattle.lift_state.specs.declared.fault.Wrong.{Wrong}
-use Rattle.lift_state.specs.Heads.{TakesHead, RefusesHead, variables_at}
-use Rattle.lift_state.specs.Variables.{Reached, reached, Left, left, TakesGlobals, RefusesGlobals, TakesTasks, RefusesTasks, IsLeftOver}
+use Rattle.lift_state.specs.Heads.{IsAt, TakesHead, RefusesHead, variables_at}
+use Rattle.lift_state.specs.Variables.{Reached, reached, Left, left, TakesGlobals, RefusesGlobals, TakesTasks, RefusesTasks, TakesEnd, RefusesEnd}
 
 -- A group that was read, the text behind its state, and how many lines stand before that, with the first line of the text (own rule).
 pub record Begun : Type 0 where
@@ -18,20 +17,15 @@ pub record Begun : Type 0 where
   pub rest : List ℕ
   pub lines : ℕ
 
--- The text, from the line CONFIGURATION on, is the state of a group, so many lines, and then a rest that doesn't begin with a further line of it (own rule).
+-- The text, from the line CONFIGURATION on, is the state of a group, up to its last line, which has this number, and then a rest (own rule).
 pub record IsState (c : Config) (digest text : List ℕ) (begun : Begun) : Type 0 where
   pub behind_head : List ℕ
   pub behind_globals : Left
   pub head : TakesHead (sizes_of c) digest text begun.group.image begun.group.calls behind_head
   pub globals : TakesGlobals c behind_head (variables_at (sizes_of c)) (reached begun.group.globals behind_globals.rest behind_globals.line)
-  pub tasks : TakesTasks c 0 (suc (sizes_of c).cars) behind_globals begun.group.tasks (left begun.rest (suc begun.lines))
-  pub ends : IsLeftOver begun.rest → ⊥
-
--- 88: behind a state there is a further line of a variable (own rule)
-pub record HasLeftOver (text : List ℕ) (line : ℕ) (wrong : Wrong) : Type 0 where
-  pub over : IsLeftOver text
-  pub is : wrong.fault ≡ NoVariable
-  pub place : wrong.line ≡ line
+  pub last : List ℕ
+  pub tasks : TakesTasks c 0 (suc (sizes_of c).cars) behind_globals begun.group.tasks (left last begun.lines)
+  pub ends : TakesEnd last begun.rest
 
 -- Why the text is no state: the first line that isn't taken, with its fault (own rule).
 abbrev pub IsNoState : Config → List ℕ → List ℕ → Wrong → Type 0
@@ -42,7 +36,7 @@ IsNoState c digest text wrong =
     × TakesGlobals c behind (variables_at (sizes_of c)) globals × RefusesTasks c 0 (suc (sizes_of c).cars) (left globals.rest globals.line) wrong)
     ⊎ ((image : Image) × (calls : Calls) × (behind : List ℕ) × (globals : Reached) × (tasks : List (Option TaskState)) × (to : Left)
     × TakesHead (sizes_of c) digest text image calls behind × TakesGlobals c behind (variables_at (sizes_of c)) globals
-    × TakesTasks c 0 (suc (sizes_of c).cars) (left globals.rest globals.line) tasks to × HasLeftOver to.rest to.line wrong)))
+    × TakesTasks c 0 (suc (sizes_of c).cars) (left globals.rest globals.line) tasks to × IsAt to.line (RefusesEnd to.rest) wrong)))
 
 -- What reading a text gives, from its line CONFIGURATION on: a group, or a fault at a line (own rule).
 abbrev pub ReadsState : Config → List ℕ → List ℕ → Result Begun Wrong → Type 0

@@ -15,11 +15,11 @@ use Rattle.il_layout.specs.declared.flat.Cell.{Cell}
 use Rattle.il_layout.specs.Program.{own_cells, global_cells}
 use Rattle.lift_spec.specs.Snapshot.{program_of}
 use Rattle.lift_spec.specs.World.{TaskState}
-use Rattle.lift_trace.specs.Reading.{Without}
+use Rattle.lift_trace.specs.Reading.{Without, IsOneLine}
 use Rattle.lift_state.specs.declared.fault.StateFault.{StateFault}
-use Rattle.lift_state.specs.declared.fault.StateFault.TheVariants.{NoVariable, OutsideRange}
+use Rattle.lift_state.specs.declared.fault.StateFault.TheVariants.{BadLine, Truncated, NoVariable, OutsideRange}
 use Rattle.lift_state.specs.declared.fault.Wrong.{Wrong}
-use Rattle.lift_state.specs.Text.{value_text, variable_line, global_path, task_path}
+use Rattle.lift_state.specs.Text.{value_text, variable_line, global_path, task_path, end_line}
 use Rattle.lift_state.specs.Lines.{IsNext, Takes}
 use Rattle.lift_state.specs.Heads.{IsAt}
 
@@ -151,7 +151,11 @@ RefusesTasks c t (suc count) from wrong =
     RefusesTask c t (program_of c t) from wrong
     ⊎ ((task : Option TaskState) × (between : Left) × TakesTask c t (program_of c t) from task between × RefusesTasks c (t + 1) count between wrong)
 
--- WHAT IS LEFT OVER
+-- THE END
+
+-- a text begins with the last line of a state, and this is behind it (own rule)
+abbrev pub TakesEnd : List ℕ → List ℕ → Type 0
+TakesEnd text rest = text ≡ end_line ++ (10 ∷ rest)
 
 -- The next line is one of a variable, though there is no cell for it: it is unknown, doubled, or out of order (own rule).
 pub record IsLeftOver (text : List ℕ) : Type 0 where
@@ -160,3 +164,16 @@ pub record IsLeftOver (text : List ℕ) : Type 0 where
   pub behind : List ℕ
   pub next : IsNext text line rest
   pub spelled : line ≡ codes "VAR " ++ behind
+
+-- The next line is neither the last of a state nor one of a variable (own rule).
+pub record IsOtherLine (text : List ℕ) : Type 0 where
+  pub line : List ℕ
+  pub rest : List ℕ
+  pub next : IsNext text line rest
+  pub no_end : line ≡ end_line → ⊥
+  pub no_variable : (behind : List ℕ) → line ≡ codes "VAR " ++ behind → ⊥
+
+-- Why the next line doesn't end a state: it is one of a variable, 88; it is another one, 80; or the text ends in it, 81 (own rule).
+abbrev pub RefusesEnd : List ℕ → StateFault → Type 0
+RefusesEnd text fault =
+    ((fault ≡ NoVariable) × IsLeftOver text) ⊎ (((fault ≡ BadLine) × IsOtherLine text) ⊎ ((fault ≡ Truncated) × IsOneLine text))

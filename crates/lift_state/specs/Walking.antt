@@ -8,8 +8,9 @@ use Rattle.lift_state.specs.declared.fault.Wrong.{Wrong}
 use Rattle.lift_state.specs.declared.read.Behind.{Behind}
 use Rattle.lift_state.specs.declared.read.Begun.{Begun as BegunIn}
 use Rattle.lift_state.specs.Holding.{with_globals}
-use Rattle.lift_state.specs.Variables.{Reached, reached, Left, left, TakesGlobals, RefusesGlobals, TakesTask, TakesTasks, RefusesTasks, IsLeftOver}
-use Rattle.lift_state.specs.Reading.{Begun, HasLeftOver}
+use Rattle.lift_state.specs.Variables.{Reached, reached, Left, left, TakesGlobals, RefusesGlobals, TakesTask, TakesTasks, RefusesTasks, TakesEnd, RefusesEnd}
+use Rattle.lift_state.specs.Heads.{IsAt}
+use Rattle.lift_state.specs.Reading.{Begun}
 
 -- what is behind some lines (own rule)
 abbrev pub left_of : Behind → Left
@@ -39,13 +40,14 @@ pub record ReadsTasks (c : Config) (before : Group) (from : Behind) (after : Gro
   pub takes : TakesTasks c 0 (suc (sizes_of c).cars) (left_of from) after.tasks (left_of to)
   pub others : after ≡ with_tasks before after.tasks
 
--- all variables are read, and no line of one is left over (own rule)
+-- all variables are read, and the last line behind them (own rule)
 pub record ReadsVariables (c : Config) (before : Group) (from : Behind) (after : Group) (to : Behind) : Type 0 where
   pub between : Left
   pub globals : TakesGlobals c from.rest.now from.line (reached after.globals between.rest between.line)
-  pub tasks : TakesTasks c 0 (suc (sizes_of c).cars) between after.tasks (left_of to)
+  pub last : List ℕ
+  pub tasks : TakesTasks c 0 (suc (sizes_of c).cars) between after.tasks (left last to.line)
   pub others : after ≡ with_tasks (with_globals before after.globals) after.tasks
-  pub ends : IsLeftOver to.rest.now → ⊥
+  pub ends : TakesEnd last to.rest.now
 
 -- why they aren't (own rule)
 abbrev pub RefusesAll : Config → List ℕ → ℕ → Wrong → Type 0
@@ -53,7 +55,7 @@ RefusesAll c text line wrong =
     RefusesGlobals c text line wrong
     ⊎ (((globals : Reached) × TakesGlobals c text line globals × RefusesTasks c 0 (suc (sizes_of c).cars) (left globals.rest globals.line) wrong)
     ⊎ ((globals : Reached) × (tasks : List (Option TaskState)) × (to : Left) × TakesGlobals c text line globals
-    × TakesTasks c 0 (suc (sizes_of c).cars) (left globals.rest globals.line) tasks to × HasLeftOver to.rest to.line wrong))
+    × TakesTasks c 0 (suc (sizes_of c).cars) (left globals.rest globals.line) tasks to × IsAt to.line (RefusesEnd to.rest) wrong))
 
 -- a group that was read, as the definitions see it (own rule)
 abbrev pub begun_of : BegunIn → Begun

@@ -34,7 +34,7 @@ pub struct Beginning {
     pub cut: Option<u32>,
 }
 
-// The state in a text of format 3, and what is behind it; none where the text is of another format, or too long.
+// The state in a text of format 3, and what is behind it; none where the text is of another format, too long, or nothing but its first line.
 fn state_of(text: &[u8]) -> Option<&[u8]>
     ensures found { IfSome result (λ state. IsStateOf text.now state.now) }
     ensures none { IfNone result (HasNoState text.now) }
@@ -42,7 +42,8 @@ fn state_of(text: &[u8]) -> Option<&[u8]>
     if text.len() > GREATEST_TRACE {
         return None;
     }
-    behind(b"LIFTTRACE 3\n", text)
+    let state = behind(b"LIFTTRACE 3\n", text)?;
+    if state.is_empty() { None } else { Some(state) }
 }
 
 // A line of a file that is refused.

@@ -1,6 +1,6 @@
 // A state, written.
 
-ghost use Rattle.std.specs.Prelude.{◌≡◌, ◌<◌, ◌≤◌, ◌/◌, ◌%◌, ◌∷◌, [], suc, codes, length, OnOk};
+ghost use Rattle.std.specs.Prelude.{◌≡◌, ◌<◌, ◌≤◌, ◌/◌, ◌%◌, ◌∷◌, ◌++◌, [], suc, codes, length, OnOk};
 ghost use Rattle.base_texts.specs.Puts.{Puts};
 ghost use Rattle.il_run.specs.Scan.{opening_globals};
 ghost use Rattle.lift_spec.specs.Image.{sizes_of};
@@ -8,7 +8,7 @@ ghost use Rattle.lift_spec.specs.Snapshot.{program_of};
 ghost use Rattle.lift_spec.specs.World.{task_at};
 ghost use Rattle.il_machine.specs.Scanning.{HasTask};
 ghost use Rattle.lift_trace.specs.Text.{flag, flags, car_part};
-ghost use Rattle.lift_state.specs.Text.{hex_digit, hex_byte, hex_text, configuration_line, truth_text, number_line, fields_lines, motor_text, outputs_part, car_line, cars_lines, slot_part, slot_line, slots_lines, value_text, variable_line, changed_line, globals_lines, task_lines, tasks_lines, state_text};
+ghost use Rattle.lift_state.specs.Text.{hex_digit, hex_byte, hex_text, configuration_line, truth_text, number_line, fields_lines, motor_text, outputs_part, car_line, cars_lines, slot_part, slot_line, slots_lines, value_text, variable_line, changed_line, globals_lines, task_lines, tasks_lines, end_line, state_text};
 ghost use Rattle.lift_state.specs.Parts.{IsOwner, path_by};
 ghost use Rattle.lift_state.specs.Writing.{PutsLines};
 
@@ -34,7 +34,7 @@ pub fn put_state(text: &mut String, world: &World, digest: &[u8; 32]) -> Result<
     put_tickets(text, world.last_ticket())?;
     put_slots(text, world.slots().as_slice())?;
     put_globals(text, world)?;
-    put_tasks(text, world)
+    put_last_lines(text, world)
 }
 
 // A lower-case hexadecimal digit.
@@ -325,4 +325,14 @@ fn put_tasks(text: &mut String, world: &World) -> Result<(), AllocError>
         put_if_there(text, world, task)?;
     }
     Ok(())
+}
+
+// Puts the variables of all tasks, and the last line.
+fn put_last_lines(text: &mut String, world: &World) -> Result<(), AllocError>
+    ensures { OnOk result (PutsLines text.old text.new
+        (tasks_lines world.now.program.config world.now.world.group 0
+        (suc (sizes_of world.now.program.config).cars) ++ end_line ∷ [])) }
+{
+    put_tasks(text, world)?;
+    text.push_str("EVENTS\n")
 }

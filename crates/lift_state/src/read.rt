@@ -12,12 +12,12 @@ ghost use Rattle.lift_state.specs.Parts.{IsSplit};
 ghost use Rattle.lift_state.specs.Walking.{begun_of, ReadsGlobals, ReadsTask, ReadsTasks, ReadsVariables, RefusesAll};
 ghost use Rattle.lift_state.specs.Reading.{IsState, Explains};
 
-use crate::fault::{StateError, StateFault, Wrong};
+use crate::fault::{StateError, Wrong};
 use crate::head::take_head;
 use crate::lines::next_line;
 use crate::setting::{set_global, set_head, set_variable};
 use crate::values::first_value;
-use crate::variables::{is_left_over, take_variable};
+use crate::variables::{take_end, take_variable};
 use il_machine::Verified;
 use lift_world::Core;
 use std::alloc::Global;
@@ -179,7 +179,7 @@ fn take_tasks<'a>(
     Ok(to)
 }
 
-// The variables of a group, of which the head is set. The lines behind them are none of a variable.
+// The variables of a group, of which the head is set, and the last line behind them.
 fn take_variables<'a>(
     core: &mut Core,
     verified: &Verified,
@@ -197,14 +197,11 @@ fn take_variables<'a>(
         from.entry.line wrong) }
 {
     let to = take_globals(core, verified, from)?;
-    let to = take_tasks(core, verified, to)?;
-    if is_left_over(to.rest, split(to.rest)) {
-        return Err(Wrong {
-            fault: StateFault::NoVariable,
-            line: to.line,
-        });
+    let Behind { rest: last, line } = take_tasks(core, verified, to)?;
+    match take_end(last) {
+        Ok(rest) => Ok(Behind { rest, line }),
+        Err(fault) => Err(Wrong { fault, line }),
     }
-    Ok(to)
 }
 
 /// The group whose state a text is, from its line CONFIGURATION on. The digest is the SHA-256 of the bytes of the
@@ -231,6 +228,6 @@ pub fn read_state<'a>(
     Ok(Begun {
         core,
         rest: to.rest,
-        lines: to.line - 1,
+        lines: to.line,
     })
 }

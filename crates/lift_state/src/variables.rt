@@ -3,10 +3,10 @@
 ghost use Rattle.std.specs.Prelude.{◌≡◌, ◌↔◌, ℕ, List, IsTrue, Option, Some, MatchOption, IfSome, IfNone, IfOk, IfErr};
 ghost use Rattle.lift_trace.specs.Reading.{Without};
 ghost use Rattle.lift_state.specs.Parts.{IsSplit, IsOwner, owner_prefix, path_by};
-ghost use Rattle.lift_state.specs.Variables.{IsOfVariable, IsAbsent, TakesVariable, RefusesVariable, IsLeftOver};
+ghost use Rattle.lift_state.specs.Variables.{IsOfVariable, IsAbsent, TakesVariable, RefusesVariable, TakesEnd, RefusesEnd};
 
 use crate::fault::StateFault;
-use crate::lines::behind;
+use crate::lines::{behind, next_line};
 use crate::values::{is_same, value_of};
 use il_machine::{Cell, Value};
 use lift_spec::MOST_CARS;
@@ -96,13 +96,17 @@ pub fn take_variable<'a>(
     Ok(Some((value, rest)))
 }
 
-/// Whether the next line is one of a variable.
-pub fn is_left_over(text: &[u8], next: Option<(&[u8], &[u8])>) -> bool
-    requires { IsSplit text.now next }
-    ensures { IsTrue result ↔ IsLeftOver text.now }
+/// What is behind the last line of a state, with which a text begins.
+pub fn take_end(text: &[u8]) -> Result<&[u8], StateFault>
+    ensures found { IfOk result (λ rest. TakesEnd text.now rest.now) }
+    ensures wrong { IfErr result (λ fault. RefusesEnd text.now fault) }
 {
-    match next {
-        Some((line, _)) => behind(b"VAR ", line).is_some(),
-        None => false,
+    let (line, rest) = next_line(text)?;
+    if line == b"EVENTS".as_slice() {
+        return Ok(rest);
+    }
+    match behind(b"VAR ", line) {
+        Some(_) => Err(StateFault::NoVariable),
+        None => Err(StateFault::BadLine),
     }
 }

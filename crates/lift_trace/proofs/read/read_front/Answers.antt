@@ -1,9 +1,9 @@
-use Rattle.std.proofs.Common.{arith}
-use Rattle.lift_trace.proofs.Traces.{front_behind, reads_nothing, reads_no_format}
+use Rattle.std.proofs.Common.{arith, refl}
+use Rattle.lift_trace.proofs.Traces.{front_behind, reads_no_format}
 use Rattle.lift_trace.proofs.read.read_front.Goals as goal
 
 pub returns-in_default : goal.returns-in_default
-returns-in_default c = reads_nothing c.args.cars c.args.text.now (omega arith) c.in_default.ensures.none
+returns-in_default c = (omega arith, c.in_default.ensures.none, refl)
 
 pub returns-in-None : goal.returns-in-None
 returns-in-None c = reads_no_format c.args.cars c.args.text.now c.in-Some.first.now c.in-Some.rest.now (omega arith) c.in-Some.ensures.found.0 c.in-Some.ensures.found.1 c.in-None.ensures.none
