@@ -18,7 +18,8 @@ use Rattle.lift_trace.specs.declared.fault.TraceFault.{TraceFault}
 use Rattle.lift_trace.specs.declared.fault.TraceFault.TheVariants.{BadLine, Truncated, Write, Memory}
 use Rattle.lift_trace.specs.declared.format.Format.{Format}
 use Rattle.lift_trace.specs.declared.format.Format.TheVariants.{One, Two}
-use Rattle.lift_trace.specs.Reading.{Splits, Reads, ReadsFront, greatest_trace}
+use Rattle.lift_trace.specs.Fronts.{RefusesFront}
+use Rattle.lift_trace.specs.Reading.{IsOneLine, Splits, Reads, ReadsFront, greatest_trace}
 use Rattle.lift_trace.specs.Text.{first_line as trace_line, last_line, line_of, text_of, text_of_lines, IsTraceIn}
 use Rattle.lift_world.specs.Setting.{resting}
 use Rattle.lift_state.specs.declared.fault.StateError.{StateError}
@@ -86,7 +87,7 @@ splits_fit text lines piece s =
     omega (arith, fits, long)
 
 -- a fault is in a line of the text, or in the one behind them
-pub fault_fits : (cars : ℕ) (text : List ℕ) (why : TraceFault) → Reads cars text (Err why) → fault_line why ≤ length text + 1
+pub fault_fits : (cars : ℕ) (text : List ℕ) (why : TraceFault) → RefusesFront cars text why → fault_line why ≤ length text + 1
 fault_fits cars text (BadLine line) h =
     elim h [
       | inl long ↦ let at : line ≡ 1 = long.1 in omega (arith, at)
@@ -97,15 +98,12 @@ fault_fits cars text (BadLine line) h =
             | inr over ↦ let at : line ≡ length bad.1.lines + 1 = over.2 in omega (arith, fits, at)
           ]
     ]
-fault_fits cars text (Truncated line) h =
-    let fits : length h.1.lines ≤ length text = splits_fit text h.1.lines h.1.piece h.1.splits in
-    let at : line ≡ length h.1.lines + 1 = h.1.place in
-    omega (arith, fits, at)
+fault_fits cars text (Truncated line) h = let at : line ≡ 1 = h.2 in omega (arith, at)
 fault_fits cars text Write h = absurd h
 fault_fits cars text Memory h = omega arith
 
 -- reading writes nothing
-pub read_only : (cars : ℕ) (text : List ℕ) (why : TraceFault) → Reads cars text (Err why) → why ≢ Write
+pub read_only : (cars : ℕ) (text : List ℕ) (why : TraceFault) → RefusesFront cars text why → why ≢ Write
 read_only cars text (BadLine line) h e = cc
 read_only cars text (Truncated line) h e = cc
 read_only cars text Write h e = h
@@ -129,7 +127,7 @@ cut_fits cars lines rest events (Some line) some room h =
     let at : line ≡ length events + 2 = h.1 in
     omega (arith, few, at, some)
 
-pub fault_behind_fits : (cars lines : ℕ) (rest : List ℕ) (why : TraceFault) → lines + length rest + 11 ≤ greatest_trace → Reads cars (events_text rest) (Err why) → fault_line why + (lines - 1) < 2 ^ 32
+pub fault_behind_fits : (cars lines : ℕ) (rest : List ℕ) (why : TraceFault) → lines + length rest + 11 ≤ greatest_trace → RefusesFront cars (events_text rest) why → fault_line why + (lines - 1) < 2 ^ 32
 fault_behind_fits cars lines rest why room h =
     let fit : fault_line why ≤ length (events_text rest) + 1 = fault_fits cars (events_text rest) why h in
     let long = events_long rest in
@@ -176,23 +174,28 @@ rests_by c runs g w is reached =
 -- WHY A TRACE ISN'T READ
 
 -- a text of format 1 or 2
-pub unread : (c : Config) (source text : List ℕ) (why : TraceFault) (fault : Fault) → HasNoState text → Reads (sizes_of c).cars text (Err why) → fault ≡ fault_behind 0 why → IsUnbegun c source text fault
+pub unread : (c : Config) (source text : List ℕ) (why : TraceFault) (fault : Fault) → HasNoState text → RefusesFront (sizes_of c).cars text why → fault ≡ fault_behind 0 why → IsUnbegun c source text fault
 unread c source text (BadLine line) fault none h is = subst (IsUnbegun c source text) (sym is) (no_trace none (BadLine line) h (refl, let e : line + 0 ≡ line = omega arith in e))
 unread c source text (Truncated line) fault none h is = subst (IsUnbegun c source text) (sym is) (no_trace none (Truncated line) h (refl, let e : line + 0 ≡ line = omega arith in e))
 unread c source text Write fault none h is = absurd h
 unread c source text Memory fault none h is = subst (IsUnbegun c source text) (sym is) tt
 
+-- a text with a line feed has a whole line
+no_one_line : (line rest : List ℕ) → IsOneLine (line ++ (10 ∷ rest)) → ⊥
+no_one_line [] rest one = one.0 refl
+no_one_line (byte ∷ line) rest one = no_one_line line rest one.1
+
 -- lines behind a state
-pub eventless : (cars lines : ℕ) (rest : List ℕ) (why : TraceFault) (fault : Fault) → Reads cars (events_text rest) (Err why) → fault ≡ fault_behind (lines - 1) why → IsEventless cars lines rest fault
-eventless cars lines rest (BadLine place) fault h is = subst (IsEventless cars lines rest) (sym is) (BadLine place, place, h, (refl, refl), refl)
-eventless cars lines rest (Truncated place) fault h is = subst (IsEventless cars lines rest) (sym is) (Truncated place, place, h, (refl, refl), refl)
+pub eventless : (cars lines : ℕ) (rest : List ℕ) (why : TraceFault) (fault : Fault) → RefusesFront cars (events_text rest) why → fault ≡ fault_behind (lines - 1) why → IsEventless cars lines rest fault
+eventless cars lines rest (BadLine place) fault h is = subst (IsEventless cars lines rest) (sym is) (place, h, refl, refl)
+eventless cars lines rest (Truncated place) fault h is = absurd (no_one_line (trace_line Two) rest h.1)
 eventless cars lines rest Write fault h is = absurd h
 eventless cars lines rest Memory fault h is = subst (IsEventless cars lines rest) (sym is) tt
 
 module _ (c : Config) (source text state : List ℕ) (of : IsStateOf text state) where
   -- no state
   pub stateless : (error : StateError) (fault : Fault) → Explains c (sha256 source) state error → fault ≡ error_fault error → IsUnbegun c source text fault
-  stateless (error.Unread wrong) fault h is = subst (IsUnbegun c source text) (sym is) (no_state state wrong of.whole of.small h refl refl)
+  stateless (error.Unread wrong) fault h is = subst (IsUnbegun c source text) (sym is) (no_state state wrong of.whole of.some of.small h refl refl)
   stateless error.Memory fault h is = subst (IsUnbegun c source text) (sym is) tt
 
   text_long : length text ≡ 12 + length state
@@ -226,7 +229,7 @@ module _ (c : Config) (source text state : List ℕ) (of : IsStateOf text state)
     follows w events lines cut world count read = goes_on state begun of.whole of.small is world count read.0 read.1 read.2
 
     pub no_events_there : (fault : Fault) → IsEventless (sizes_of c).cars begun.lines begun.rest fault → IsUnbegun c source text fault
-    no_events_there (status.Refused number line) h = no_events state begun of.whole of.small is h.0 h.1 h.2 h.3 h.4
+    no_events_there (status.Refused number line) h = no_events state begun of.whole of.small is h.0 h.1 h.2 h.3
     no_events_there status.NoMemory h = tt
     no_events_there (status.Misuse words) h = absurd h
     no_events_there (status.RefusedText number place) h = absurd h

@@ -27,7 +27,7 @@ use Rattle.lift_state.specs.Heads.{TakesHead, variables_at}
 use Rattle.lift_state.specs.Holding.{with_head, with_globals}
 use Rattle.lift_state.specs.Reading.{IsState, IsNoState}
 use Rattle.lift_state.specs.Text.{global_path, task_path}
-use Rattle.lift_state.specs.Variables.{Left, Reached, reached, at_rest, TakesVariables, TakesGlobals, TakesTask, TakesTasks}
+use Rattle.lift_state.specs.Variables.{Left, left, Reached, reached, at_rest, TakesVariables, TakesGlobals, TakesTask, TakesTasks}
 use Rattle.lift_state.specs.Walking.{left_of, with_task, with_tasks, ReadsTask, ReadsTasks, ReadsVariables, RefusesAll}
 use Rattle.lift_state.proofs.Walks.{at_place, first_is, globals_apart, own_once, own_view_is, set_own, get_set, get_behind, set_behind, no_task_taken, no_opening}
 
@@ -169,14 +169,14 @@ tasks_later c a (suc n) from to tasks h =
 pub all_later : (c : Config) (before after : Group) (from to : Behind) → ReadsVariables c before from after to → from.line ≤ to.line
 all_later c before after from to h =
     let one : from.line ≤ h.between.line = variables_later global_path (opening_globals c) (global_cells c) (reached (opening_globals c) from.rest.now from.line) (reached after.globals h.between.rest h.between.line) h.globals in
-    let others : h.between.line ≤ to.line = tasks_later c 0 (suc (sizes_of c).cars) h.between (left_of to) after.tasks h.tasks in
+    let others : h.between.line ≤ to.line = tasks_later c 0 (suc (sizes_of c).cars) h.between (left h.last to.line) after.tasks h.tasks in
     omega (arith, one, others)
 
 -- a head and all variables are a state
 pub state_read :
-    (c : Config) (digest text : List ℕ) (image : Image) (calls : Calls) (opened before after : Group) (from to : Behind) (lines : ℕ) → TakesHead (sizes_of c) digest text image calls from.rest.now → from.line ≡ variables_at (sizes_of c)
-    → before ≡ with_head opened image calls → ReadsVariables c before from after to → to.line ≡ suc lines → IsState c digest text (record { group = after; rest = to.rest.now; lines = lines })
-state_read c digest text image calls opened before after from to lines head line set reads count =
+    (c : Config) (digest text : List ℕ) (image : Image) (calls : Calls) (opened before after : Group) (from to : Behind) → TakesHead (sizes_of c) digest text image calls from.rest.now → from.line ≡ variables_at (sizes_of c)
+    → before ≡ with_head opened image calls → ReadsVariables c before from after to → IsState c digest text (record { group = after; rest = to.rest.now; lines = to.line })
+state_read c digest text image calls opened before after from to head line set reads =
     let others : after ≡ with_tasks (with_globals (with_head opened image calls) after.globals) after.tasks = reads.others ∙ ap (λ (b : Group). with_tasks (with_globals b after.globals) after.tasks) set in
     let image_is : after.image ≡ image = ap (λ (y : Group). y.image) others in
     let calls_are : after.calls ≡ calls = ap (λ (y : Group). y.calls) others in
@@ -187,7 +187,8 @@ state_read c digest text image calls opened before after from to lines head line
           subst (λ (i : Image). TakesHead (sizes_of c) digest text i after.calls from.rest.now) (sym image_is)
           (subst (λ (k : Calls). TakesHead (sizes_of c) digest text image k from.rest.now) (sym calls_are) head);
       globals = subst (λ n. TakesGlobals c from.rest.now n (reached after.globals reads.between.rest reads.between.line)) line reads.globals;
-      tasks = subst (λ n. TakesTasks c 0 (suc (sizes_of c).cars) reads.between after.tasks (record { rest = to.rest.now; line = n })) count reads.tasks;
+      last = reads.last;
+      tasks = reads.tasks;
       ends = reads.ends;
     }
 

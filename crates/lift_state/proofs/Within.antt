@@ -1,5 +1,5 @@
 -- How many lines a text can have: where its state ends, and where it is wrong.
-use Rattle.std.proofs.Common.{◌≡◌, inl, inr, ℕ, zero, suc, ◌+◌, ◌<◌, ◌≤◌, List, [], ◌∷◌, ◌++◌, length, ap, arith, Some, None, Option}
+use Rattle.std.proofs.Common.{◌≡◌, inl, inr, ℕ, zero, suc, ◌+◌, ◌<◌, ◌≤◌, List, [], ◌∷◌, ◌++◌, length, length-append, ap, ◌∙◌, arith, Some, None, Option}
 use Rattle.il_spec.specs.declared.tree.Config.{Config}
 use Rattle.il_spec.specs.declared.tree.Unit.{Unit as ProgramUnit}
 use Rattle.il_table.specs.NameMap.{Text, insert}
@@ -22,8 +22,8 @@ use Rattle.lift_spec.specs.Snapshot.{program_of}
 use Rattle.lift_spec.specs.World.{TaskState}
 use Rattle.lift_state.specs.declared.fault.Wrong.{Wrong}
 use Rattle.lift_state.specs.Heads.{RefusesTimes, TakesCars, RefusesCars, TakesImage, Disobeys, RefusesImage, TakesSlots, TakesCalls, RefusesCalls, TakesHead, RefusesHead, variables_at}
-use Rattle.lift_state.specs.Reading.{Begun, IsState, HasLeftOver, IsNoState}
-use Rattle.lift_state.specs.Text.{global_path, task_path}
+use Rattle.lift_state.specs.Reading.{Begun, IsState, IsNoState}
+use Rattle.lift_state.specs.Text.{global_path, task_path, end_line}
 use Rattle.lift_state.specs.Variables.{Reached, reached, Left, left, TakesVariables, RefusesVariables, TakesGlobals, TakesTask, RefusesTask, TakesTasks, RefusesTasks}
 use Rattle.lift_state.proofs.Again.{next_shorter}
 use Rattle.lift_state.proofs.Readings.{variables_later, tasks_later}
@@ -104,10 +104,11 @@ state_within c digest text b h =
     let head : 5 + (sizes_of c).cars + (sizes_of c).slots + length h.behind_head ≤ length text = head_shorter (sizes_of c) digest text b.group.image b.group.calls h.behind_head h.head in
     let globals : h.behind_globals.line + length h.behind_globals.rest ≤ 7 + (sizes_of c).cars + (sizes_of c).slots + length h.behind_head =
     globals_shorter c h.behind_head (variables_at (sizes_of c)) (reached b.group.globals h.behind_globals.rest h.behind_globals.line) h.globals in
-    let tasks : suc b.lines + length b.rest ≤ h.behind_globals.line + length h.behind_globals.rest = tasks_shorter c 0 (suc (sizes_of c).cars) h.behind_globals b.group.tasks (left b.rest (suc b.lines)) h.tasks in
+    let tasks : b.lines + length h.last ≤ h.behind_globals.line + length h.behind_globals.rest = tasks_shorter c 0 (suc (sizes_of c).cars) h.behind_globals b.group.tasks (left h.last b.lines) h.tasks in
+    let ends : length h.last ≡ 6 + length (10 ∷ b.rest) = ap length h.ends ∙ length-append end_line (10 ∷ b.rest) in
     let later : variables_at (sizes_of c) ≤ h.behind_globals.line = variables_later global_path (opening_globals c) (global_cells c) (reached (opening_globals c) h.behind_head (variables_at (sizes_of c))) (reached b.group.globals h.behind_globals.rest h.behind_globals.line) h.globals in
-    let last : h.behind_globals.line ≤ suc b.lines = tasks_later c 0 (suc (sizes_of c).cars) h.behind_globals (left b.rest (suc b.lines)) b.group.tasks h.tasks in
-    (omega (arith, later, last), omega (arith, head, globals, tasks))
+    let last : h.behind_globals.line ≤ b.lines = tasks_later c 0 (suc (sizes_of c).cars) h.behind_globals (left h.last b.lines) b.group.tasks h.tasks in
+    (omega (arith, later, last), omega (arith, head, globals, tasks, ends))
 
 -- WHAT IS REFUSED
 
@@ -225,9 +226,6 @@ module _ (c : Config) (digest text : List ℕ) where
       let here : globals.line + length globals.rest ≤ first + length behind = globals_shorter c behind first globals g in
       omega (arith, before, here)
 
-  left_over : (to : Left) (most : ℕ) (wrong : Wrong) → to.line + length to.rest ≤ most → HasLeftOver to.rest to.line wrong → wrong.line ≤ most
-  left_over to most wrong low h = let place : wrong.line ≡ to.line = h.place in omega (arith, place, low)
-
   -- the first wrong line of a text is one of its lines, or one that would have to come
   pub wrong_within : (wrong : Wrong) → IsNoState c digest text wrong → wrong.line ≤ first + length text
   wrong_within wrong h =
@@ -240,7 +238,7 @@ module _ (c : Config) (digest text : List ℕ) where
             | inr z ↦
                 let before : z.3.line + length z.3.rest ≤ first + length text = from_globals z.0 z.1 z.2 z.3 z.6 z.7 in
                 let here : z.5.line + length z.5.rest ≤ z.3.line + length z.3.rest = tasks_shorter c 0 (suc (sizes_of c).cars) (left z.3.rest z.3.line) z.4 z.5 z.8 in
-                left_over z.5 (first + length text) wrong (omega (arith, before, here)) z.9
+                at_line z.5.line (first + length text) wrong z.9.0 (omega (arith, before, here))
           ]
         ]
       ]

@@ -24,7 +24,7 @@ use Rattle.lift_trace.proofs.Numbers.{digits_of_decimal}
 use Rattle.lift_state.specs.Text.{variable_line, same_truth, same_value}
 use Rattle.lift_state.specs.Lines.{IsNext}
 use Rattle.lift_state.specs.Parts.{owner_prefix, path_by}
-use Rattle.lift_state.specs.Variables.{IsOfVariable, IsAbsent, SpellsValue, IsLeftOver}
+use Rattle.lift_state.specs.Variables.{IsOfVariable, IsAbsent, SpellsValue, TakesEnd, RefusesEnd}
 use Rattle.lift_state.proofs.NextLines.{next_once, next_or_none}
 
 -- VALUES
@@ -150,17 +150,16 @@ not_within scalar limits number word is fits e out (Integer z) s =
 
 -- LEFT OVER
 
-pub left_over :
-    (text line rest : List ℕ) (r : Option (Bor (List ℕ))) (b : Bool) → IsNext text line rest → IfSome r (λ behind. line ≡ codes "VAR " ++ behind.now) → IfNone r ((behind : List ℕ) → line ≡ codes "VAR " ++ behind → ⊥) → b ≡ is_some r
-    → (IsTrue b → IsLeftOver text) × (IsLeftOver text → IsTrue b)
-left_over text line rest None b next some none is = (
-  λ yes. absurd (true_false b yes is),
-  λ over. absurd (none over.behind ((next_once text line rest over.line over.rest next over.next).0 ∙ over.spelled)),
-)
-left_over text line rest (Some behind) b next some none is = (λ yes. record { line = line; rest = rest; behind = behind.now; next = next; spelled = some }, λ over. is)
+-- THE END
 
-pub none_over : (text : List ℕ) → IsOneLine text → (IsTrue false → IsLeftOver text) × (IsLeftOver text → IsTrue false)
-none_over text one = (λ no. absurd (true_false false no refl), λ over. absurd (next_or_none text over.line over.rest over.next one))
+-- the last line, and what is behind it
+pub end_taken : (text line rest : List ℕ) → IsNext text line rest → line ≡ end_line → TakesEnd text rest
+end_taken text line rest next is = next.whole ∙ ap (λ (l : List ℕ). l ++ (10 ∷ rest)) is
+
+-- another line
+pub end_refused :
+    (text line rest : List ℕ) → IsNext text line rest → (line ≡ end_line → ⊥) → ((behind : List ℕ) → line ≡ codes "VAR " ++ behind → ⊥) → RefusesEnd text BadLine
+end_refused text line rest next no_end no_variable = inr (inl (refl, record { line = line; rest = rest; next = next; no_end = no_end; no_variable = no_variable }))
 
 -- 0 is no number after a sign
 pub not_zero : (number : ℕ) (digits : List ℕ) → number ≡ 0 → digits ≡ decimal number → (n : ℕ) → n < 2 ^ 63 → digits ≡ decimal (suc n) → ⊥

@@ -1,7 +1,8 @@
 use Rattle.std.proofs.Common.{subst}
 use Rattle.std.specs.Prelude.{Err}
 use Rattle.lift_spec.specs.declared.image.Sizes.{Sizes}
-use Rattle.lift_trace.specs.Reading.{Reads, ReadsFront}
+use Rattle.lift_trace.specs.Fronts.{RefusesFront}
+use Rattle.lift_trace.specs.Reading.{ReadsFront}
 use Rattle.lift_state.specs.Beginnings.{events_text}
 use Rattle.lift_state.proofs.Beginning.{few_events, cut_fits, fault_behind_fits, eventless}
 use Rattle.lift_state.proofs.begin.follow.Goals as goal
@@ -23,4 +24,4 @@ returns-in_ok-world-in-Ok-clause-few c = few_events c.sizes.result.cars c.args.b
 pub returns-in-Err-clause-fault : goal.returns-in-Err-clause-fault
 returns-in-Err-clause-fault c =
     eventless _ c.args.begun.lines c.args.begun.rest.now c.in-Err.fault c.fault_of.result
-    (subst (λ (s : Sizes). Reads s.cars (events_text c.args.begun.rest.now) (Err c.in-Err.fault)) c.sizes.ensures c.in-Err.ensures) c.fault_of.ensures
+    (subst (λ (s : Sizes). RefusesFront s.cars (events_text c.args.begun.rest.now) c.in-Err.fault) c.sizes.ensures c.in-Err.ensures) c.fault_of.ensures

@@ -1,7 +1,7 @@
 use Rattle.std.proofs.Common.{subst}
 use Rattle.std.specs.Prelude.{Err}
 use Rattle.lift_spec.specs.declared.image.Sizes.{Sizes}
-use Rattle.lift_trace.specs.Reading.{Reads}
+use Rattle.lift_trace.specs.Fronts.{RefusesFront}
 use Rattle.lift_state.proofs.Beginning.{ok_both, few_opened, unread}
 use Rattle.lift_state.proofs.begin.open.Goals as goal
 
@@ -13,4 +13,4 @@ returns-in-Ok-clause-few c =
 pub returns-in-Err-clause-fault : goal.returns-in-Err-clause-fault
 returns-in-Err-clause-fault c source =
     unread c.args.verified.config source c.args.text.now c.in-Err.fault c.fault_of.result c.requires
-    (subst (λ (s : Sizes). Reads s.cars c.args.text.now (Err c.in-Err.fault)) c.sizes.ensures c.in-Err.ensures) c.fault_of.ensures
+    (subst (λ (s : Sizes). RefusesFront s.cars c.args.text.now c.in-Err.fault) c.sizes.ensures c.in-Err.ensures) c.fault_of.ensures

@@ -43,12 +43,6 @@ returns-in_err-to-clause-wrong c =
     up_so (Explains config c.args.digest.now c.args.text.now) c.from_residual-in_err-to.result c.from_residual-in_err-to.ensures.1
     (variables_refused config c.args.digest.now c.args.text.now c.in_ok-head.head.image calls c.in_ok-head.rest.now (7 + c.from.result + c.from-2.result) c.in_err-to.field-0.0 head line c.in_err-to.ensures.wrong)
 
-pub overflow_sub-result : goal.overflow_sub-result
-overflow_sub-result c =
-    let from : Behind = record { rest = c.in_ok-head.rest; line = 7 + c.from.result + c.from-2.result } in
-    let later : 7 + c.from.result + c.from-2.result ≤ c.in_ok-to.to.line = all_later c.args.verified.now.config c.set_head.new.core.group c.take_variables.new.core.group from c.in_ok-to.to c.in_ok-to.ensures.found in
-    omega (arith, later)
-
 pub returns-clause-state : goal.returns-clause-state
 returns-clause-state c =
     let config = c.args.verified.now.config in
@@ -58,14 +52,12 @@ returns-clause-state c =
     let slots : c.from-2.result ≡ (sizes_of config).slots = c.from-2.ensures ∙ ap (λ (s : Sizes). s.slots) c.sizes-sizes.ensures in
     let line : 7 + c.from.result + c.from-2.result ≡ variables_at (sizes_of config) = omega (arith, cars, slots) in
     let from : Behind = record { rest = c.in_ok-head.rest; line = 7 + c.from.result + c.from-2.result } in
-    let later : 7 + c.from.result + c.from-2.result ≤ c.in_ok-to.to.line = all_later config c.set_head.new.core.group c.take_variables.new.core.group from c.in_ok-to.to c.in_ok-to.ensures.found in
-    let count : c.in_ok-to.to.line ≡ suc (c.in_ok-to.to.line - 1) = omega (arith, later) in
-    state_read config c.args.digest.now c.args.text.now c.in_ok-head.head.image calls c.in_ok-core.core.group c.set_head.new.core.group c.take_variables.new.core.group from c.in_ok-to.to (c.in_ok-to.to.line - 1)
-    head line c.set_head.ensures.group c.in_ok-to.ensures.found count
+    state_read config c.args.digest.now c.args.text.now c.in_ok-head.head.image calls c.in_ok-core.core.group c.set_head.new.core.group c.take_variables.new.core.group from c.in_ok-to.to
+    head line c.set_head.ensures.group c.in_ok-to.ensures.found
 
 pub returns-clause-seated : goal.returns-clause-seated
 returns-clause-seated c =
     let config = c.args.verified.now.config in
     let after = c.take_variables.new.core.group in
     let found = c.in_ok-to.ensures.found in
-    subst (λ (x : Config). IsSeated x after) (sym (c.in_ok-to.ensures.config ∙ (c.set_head.ensures.config ∙ c.in_ok-core.ensures.config))) (read_seated config after found.between (left_of c.in_ok-to.to) found.tasks)
+    subst (λ (x : Config). IsSeated x after) (sym (c.in_ok-to.ensures.config ∙ (c.set_head.ensures.config ∙ c.in_ok-core.ensures.config))) (read_seated config after found.between (left found.last c.in_ok-to.to.line) found.tasks)

@@ -9,13 +9,3 @@ returns-in_err-to-2-clause-wrong c =
     up_so (RefusesAll c.args.verified.now.config c.args.from.rest.now c.args.from.line) c.from_residual-in_err-to-2.result c.from_residual-in_err-to-2.ensures.1
     (inr (inl (reached c.take_globals.new.core.group.globals c.in_ok-to.to.rest.now c.in_ok-to.to.line, c.in_ok-to.ensures.found.takes, c.in_err-to-2.ensures.wrong)))
 
-pub returns-then-is_left_over-clause-wrong : goal.returns-then-is_left_over-clause-wrong
-returns-then-is_left_over-clause-wrong c =
-    inr (inr (
-      reached c.take_globals.new.core.group.globals c.in_ok-to.to.rest.now c.in_ok-to.to.line,
-      c.take_tasks.new.core.group.tasks,
-      left_of c.in_ok-to-2.to,
-      c.in_ok-to.ensures.found.takes,
-      c.in_ok-to-2.ensures.found.takes,
-      record { over = c.if-is_left_over.ensures.0 refl; is = refl; place = refl },
-    ))
