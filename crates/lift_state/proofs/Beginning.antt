@@ -141,11 +141,17 @@ few_opened cars text events others cut lines h same one =
     let long : length others ≡ length events = ap length same in
     omega (arith, fit.0, fit.1, long, one)
 
--- RESULTS
+-- A TEXT WITHOUT A STATE
 
-pub none_then : {X : Type 0} (A B : Type 0) (o : Option X) → (A → B) → IfNone o A → IfNone o B
-none_then A B None f h = f h
-none_then A B (Some x) f h = tt
+-- a text has one state
+state_once : (a b : List ℕ) → first_line ++ (10 ∷ a) ≡ first_line ++ (10 ∷ b) → a ≡ b
+state_once a b e = cc
+
+-- nothing is there but the first line
+pub empty_state : (text rest : List ℕ) → text ≡ first_line ++ (10 ∷ rest) → rest ≡ [] → HasNoState text
+empty_state text rest is none state same some small = some (state_once state rest (sym same ∙ is) ∙ none)
+
+-- RESULTS
 
 pub ok_both : {X E : Type 0} (P Q R : X → Type 0) (r : Result X E) → ((x : X) → P x → Q x → R x) → IfOk r P → IfOk r Q → IfOk r R
 ok_both P Q R (Ok x) f h k = f x h k

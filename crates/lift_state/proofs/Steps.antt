@@ -1,6 +1,6 @@
 -- Steps of writing: one variable more, one task more, and all lines together.
 use Rattle.std.proofs.Common.{◌≡◌, ℕ, suc, ◌+◌, ◌<◌, ◌≤◌, true, false, List, [], ◌∷◌, ◌++◌, length, get_or, take, refl, sym, ap, ap₂, ◌∙◌, subst, arith, Some, None, Option, Ok, Err, Result, pos}
-use Rattle.std.specs.Prelude.{slice_get, option_and_then, is_some, OnOk}
+use Rattle.std.specs.Prelude.{slice_get, option_and_then, is_some, is_ok, if◌then◌else◌, OnOk}
 use Rattle.std.proofs.lemmas.Option.{same_Some}
 use Rattle.il_spec.specs.declared.tree.Config.{Config}
 use Rattle.il_spec.specs.declared.tree.Unit.{Unit as ProgramUnit}
@@ -30,6 +30,11 @@ use Rattle.lift_state.proofs.Walks.{at_place, first_is, globals_apart, own_once,
 pub on_ok : {A E : Type 0} (r : Result A E) (P Q : Type 0) → (P → Q) → OnOk r P → OnOk r Q
 on_ok (Ok a) P Q f p = f p
 on_ok (Err e) P Q f p = tt
+
+-- a text that was pushed, if it was
+pub pushed : {A E : Type 0} (r : Result A E) (new more old : List ℕ) → new ≡ (if is_ok r then more else old) → OnOk r (new ≡ more)
+pushed (Ok a) new more old e = e
+pushed (Err e) new more old is = tt
 
 -- LISTS
 

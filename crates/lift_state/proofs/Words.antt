@@ -1,5 +1,5 @@
 -- The words of values, and the lines of variables.
-use Rattle.std.proofs.Common.{◌≡◌, ℕ, suc, ◌+◌, ◌^◌, ◌<◌, Bool, true, false, List, [], ◌∷◌, ◌++◌, refl, sym, ap, ◌∙◌, subst, append_assoc, arith, Some, None, Option, ℤ, pos, negsuc, ◌-ℤ◌, decimal, to_z, of_z}
+use Rattle.std.proofs.Common.{◌≡◌, inl, inr, ℕ, suc, ◌+◌, ◌^◌, ◌<◌, Bool, true, false, List, [], ◌∷◌, ◌++◌, refl, sym, ap, ◌∙◌, subst, append_assoc, arith, Some, None, Option, ℤ, pos, negsuc, ◌-ℤ◌, decimal, to_z, of_z}
 use Rattle.std.specs.Prelude.{codes, FitsSigned, IfSome, IfNone, IsTrue, is_some}
 use Rattle.std.specs.Borrow.{Bor}
 use Rattle.std.specs.Int.{w64}
@@ -21,7 +21,8 @@ use Rattle.lift_trace.specs.Reading.{Without, IsOneLine}
 use Rattle.lift_trace.proofs.Bytes.{same_first, same_rest}
 use Rattle.lift_trace.specs.Parts.{AreDigits}
 use Rattle.lift_trace.proofs.Numbers.{digits_of_decimal}
-use Rattle.lift_state.specs.Text.{variable_line, same_truth, same_value}
+use Rattle.lift_state.specs.declared.fault.StateFault.TheVariants.{BadLine}
+use Rattle.lift_state.specs.Text.{variable_line, same_truth, same_value, end_line}
 use Rattle.lift_state.specs.Lines.{IsNext}
 use Rattle.lift_state.specs.Parts.{owner_prefix, path_by}
 use Rattle.lift_state.specs.Variables.{IsOfVariable, IsAbsent, SpellsValue, TakesEnd, RefusesEnd}

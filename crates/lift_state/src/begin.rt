@@ -42,8 +42,13 @@ fn state_of(text: &[u8]) -> Option<&[u8]>
     if text.len() > GREATEST_TRACE {
         return None;
     }
-    let state = behind(b"LIFTTRACE 3\n", text)?;
-    if state.is_empty() { None } else { Some(state) }
+    let Some(state) = behind(b"LIFTTRACE 3\n", text) else {
+        return None;
+    };
+    if state.is_empty() {
+        return None;
+    }
+    Some(state)
 }
 
 // A line of a file that is refused.

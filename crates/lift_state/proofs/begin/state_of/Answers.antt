@@ -1,6 +1,8 @@
-use Rattle.lift_state.specs.Beginnings.{HasNoState}
-use Rattle.lift_state.proofs.Beginning.{none_then}
+use Rattle.lift_state.proofs.Beginning.{empty_state}
 use Rattle.lift_state.proofs.begin.state_of.Goals as goal
 
-pub returns-clause-none : goal.returns-clause-none
-returns-clause-none c = none_then _ (HasNoState c.args.text.now) c.behind.result (λ none state is some small. none state is) c.behind.ensures.none
+pub returns-in_default-clause-none : goal.returns-in_default-clause-none
+returns-in_default-clause-none c state is some small = c.in_default.ensures.none state is
+
+pub returns-then-is_empty-clause-none : goal.returns-then-is_empty-clause-none
+returns-then-is_empty-clause-none c state is some small = ?

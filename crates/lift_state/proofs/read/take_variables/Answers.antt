@@ -4,8 +4,10 @@ use Rattle.lift_state.specs.Walking.{left_of, RefusesAll}
 use Rattle.lift_state.proofs.Again.{up_so}
 use Rattle.lift_state.proofs.read.take_variables.Goals as goal
 
-pub returns-in_err-to-2-clause-wrong : goal.returns-in_err-to-2-clause-wrong
-returns-in_err-to-2-clause-wrong c =
-    up_so (RefusesAll c.args.verified.now.config c.args.from.rest.now c.args.from.line) c.from_residual-in_err-to-2.result c.from_residual-in_err-to-2.ensures.1
-    (inr (inl (reached c.take_globals.new.core.group.globals c.in_ok-to.to.rest.now c.in_ok-to.to.line, c.in_ok-to.ensures.found.takes, c.in_err-to-2.ensures.wrong)))
+pub returns-in_err-last-clause-wrong : goal.returns-in_err-last-clause-wrong
+returns-in_err-last-clause-wrong c =
+    up_so (RefusesAll c.args.verified.now.config c.args.from.rest.now c.args.from.line) c.from_residual-in_err-last.result c.from_residual-in_err-last.ensures.1
+    (inr (inl (reached c.take_globals.new.core.group.globals c.in_ok-to.to.rest.now c.in_ok-to.to.line, c.in_ok-to.ensures.found.takes, c.in_err-last.ensures.wrong)))
 
+pub returns-in-Err-clause-wrong : goal.returns-in-Err-clause-wrong
+returns-in-Err-clause-wrong c = ?
