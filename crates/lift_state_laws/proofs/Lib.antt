@@ -2,3 +2,9 @@ pub mod Once
 pub mod HeadOnce
 pub mod VarsOnce
 pub mod StateOnce
+pub mod Lined
+pub mod HeadBack
+pub mod VarsBack
+pub mod TasksBack
+pub mod FitCells
+pub mod StateBack

@@ -1,5 +1,6 @@
 -- A text reads as one state, or has one fault.
-use Rattle.std.proofs.Common.{◌≡◌, inl, inr, ℕ, suc, List, sym, ap, ap₂, ◌∙◌, subst, arith, Ok, Err, Option}
+use Rattle.std.proofs.Common.{◌≡◌, inl, inr, ℕ, suc, List, ◌∷◌, ◌++◌, sym, ap, ap₂, ◌∙◌, subst, arith, Ok, Err, Option}
+use Rattle.std.specs.Prelude.{codes}
 use Rattle.il_spec.specs.declared.tree.Config.{Config}
 use Rattle.il_run.specs.State.{Values}
 use Rattle.il_run.specs.Scan.{opening_globals}
@@ -8,14 +9,71 @@ use Rattle.lift_spec.specs.declared.image.Image.{Image}
 use Rattle.lift_spec.specs.Calls.{Calls}
 use Rattle.lift_spec.specs.Image.{sizes_of}
 use Rattle.lift_spec.specs.World.{Group, TaskState}
+use Rattle.lift_trace.proofs.Bytes.{same_first, same_rest}
+use Rattle.lift_state.specs.declared.fault.StateFault.{StateFault}
 use Rattle.lift_state.specs.declared.fault.Wrong.{Wrong}
-use Rattle.lift_state.specs.Text.{global_path}
-use Rattle.lift_state.specs.Heads.{TakesHead, variables_at}
-use Rattle.lift_state.specs.Variables.{Reached, reached, Left, left, TakesGlobals, RefusesGlobals, TakesTasks, RefusesTasks, IsLeftOver}
-use Rattle.lift_state.specs.Reading.{Begun, IsState, HasLeftOver, IsNoState}
+use Rattle.lift_state.specs.Text.{global_path, end_line}
+use Rattle.lift_state.specs.Lines.{IsNext}
+use Rattle.lift_state.specs.Heads.{IsAt, TakesHead, variables_at}
+use Rattle.lift_state.specs.Variables.{Reached, reached, Left, left, TakesGlobals, RefusesGlobals, TakesTasks, RefusesTasks, TakesEnd, RefusesEnd, IsLeftOver, IsOtherLine}
+use Rattle.lift_state.specs.Reading.{Begun, IsState, IsNoState}
+use Rattle.lift_state.proofs.NextLines.{next_once, next_or_none}
+use Rattle.lift_state.proofs.Words.{cancel}
 use Rattle.lift_state_laws.specs.Laws.{StateReadsOnce}
-use Rattle.lift_state_laws.proofs.HeadOnce.{head_takes, head_not, head_refuses, wrong_same}
+use Rattle.lift_state_laws.proofs.HeadOnce.{head_takes, head_not, head_refuses, at_once}
 use Rattle.lift_state_laws.proofs.VarsOnce.{variables_take, variables_not, variables_refuse, tasks_take, tasks_not, tasks_refuse}
+
+-- THE LAST LINE
+
+end_next : (text rest : List ℕ) → TakesEnd text rest → IsNext text end_line rest
+end_next text rest h = record { whole = h; one = (λ e. omega (arith, e), (λ e. omega (arith, e), (λ e. omega (arith, e), (λ e. omega (arith, e), (λ e. omega (arith, e), (λ e. omega (arith, e), tt)))))) }
+
+ends_once : (text a b : List ℕ) → TakesEnd text a → TakesEnd text b → a ≡ b
+ends_once text a b h k = same_rest 10 10 a b (cancel end_line (10 ∷ a) (10 ∷ b) (sym h ∙ k))
+
+no_variable : (behind : List ℕ) → end_line ≡ codes "VAR " ++ behind → ⊥
+no_variable behind e = let n : ◌≡◌ {A = ℕ} 69 86 = same_first _ _ _ _ e in omega (arith, n)
+
+end_not : (text rest : List ℕ) (f : StateFault) → TakesEnd text rest → RefusesEnd text f → ⊥
+end_not text rest f h r =
+    elim r [
+      | inl over ↦ no_variable over.1.behind (sym (next_once text over.1.line over.1.rest end_line rest over.1.next (end_next text rest h)).0 ∙ over.1.spelled)
+      | inr first ↦ elim first [
+        | inl other ↦ other.1.no_end (next_once text other.1.line other.1.rest end_line rest other.1.next (end_next text rest h)).0
+        | inr short ↦ next_or_none text end_line rest (end_next text rest h) short.1
+      ]
+    ]
+
+over_not_other : (text : List ℕ) → IsLeftOver text → IsOtherLine text → ⊥
+over_not_other text over other = other.no_variable over.behind ((next_once text other.line other.rest over.line over.rest other.next over.next).0 ∙ over.spelled)
+
+end_refuses : (text : List ℕ) (f g : StateFault) → RefusesEnd text f → RefusesEnd text g → f ≡ g
+end_refuses text f g r s =
+    elim r [
+      | inl a ↦ elim s [
+        | inl b ↦ a.0 ∙ sym b.0
+        | inr t ↦ elim t [
+          | inl b ↦ absurd (over_not_other text a.1 b.1)
+          | inr b ↦ absurd (next_or_none text a.1.line a.1.rest a.1.next b.1)
+        ]
+      ]
+      | inr q ↦ elim q [
+        | inl a ↦ elim s [
+          | inl b ↦ absurd (over_not_other text b.1 a.1)
+          | inr t ↦ elim t [
+            | inl b ↦ a.0 ∙ sym b.0
+            | inr b ↦ absurd (next_or_none text a.1.line a.1.rest a.1.next b.1)
+          ]
+        ]
+        | inr a ↦ elim s [
+          | inl b ↦ absurd (next_or_none text b.1.line b.1.rest b.1.next a.1)
+          | inr t ↦ elim t [
+            | inl b ↦ absurd (next_or_none text b.1.line b.1.rest b.1.next a.1)
+            | inr b ↦ a.0 ∙ sym b.0
+          ]
+        ]
+      ]
+    ]
 
 module _ (c : Config) (digest text : List ℕ) where
   abbrev Head : Image → Calls → List ℕ → Type 0
@@ -46,9 +104,6 @@ module _ (c : Config) (digest text : List ℕ) where
   abbrev globals_of : Begun → Left → Reached
   globals_of b l = reached b.group.globals l.rest l.line
 
-  suc_same : (m n : ℕ) → suc m ≡ suc n → m ≡ n
-  suc_same m n e = omega (arith, e)
-
   begun_same : (a b : Begun) → a.group ≡ b.group → a.rest ≡ b.rest → a.lines ≡ b.lines → a ≡ b
   begun_same a b g r l = ap₂ (λ (group : Group) (place : Left). record { group = group; rest = place.rest; lines = place.line }) g (ap₂ left r l)
 
@@ -62,8 +117,9 @@ module _ (c : Config) (digest text : List ℕ) where
       let h = head_takes (sizes_of c) digest text a.group.image b.group.image a.group.calls b.group.calls x.behind_head y.behind_head x.head y.head in
       let g = globals_take y.behind_head (globals_of a x.behind_globals) (globals_of b y.behind_globals) (subst (λ (t : List ℕ). Globals t (globals_of a x.behind_globals)) h.2 x.globals) y.globals in
       let place : x.behind_globals ≡ y.behind_globals = ap (λ (r : Reached). left r.rest r.line) g in
-      let t = tasks_take c 0 count y.behind_globals (left a.rest (suc a.lines)) (left b.rest (suc b.lines)) a.group.tasks b.group.tasks (subst (λ (l : Left). Tasks l a.group.tasks (left a.rest (suc a.lines))) place x.tasks) y.tasks in
-      begun_same a b (group_same a.group b.group h.0 h.1 (ap (λ (r : Reached). r.values) g) t.0) (ap (λ (l : Left). l.rest) t.1) (suc_same a.lines b.lines (ap (λ (l : Left). l.line) t.1))
+      let t = tasks_take c 0 count y.behind_globals (left x.last a.lines) (left y.last b.lines) a.group.tasks b.group.tasks (subst (λ (l : Left). Tasks l a.group.tasks (left x.last a.lines)) place x.tasks) y.tasks in
+      let last : x.last ≡ y.last = ap (λ (l : Left). l.rest) t.1 in
+      begun_same a b (group_same a.group b.group h.0 h.1 (ap (λ (r : Reached). r.values) g) t.0) (ends_once y.last a.rest b.rest (subst (λ (l : List ℕ). TakesEnd l a.rest) last x.ends) y.ends) (ap (λ (l : Left). l.line) t.1)
 
   state_not : (a : Begun) (w : Wrong) → IsState c digest text a → IsNoState c digest text w → ⊥
   state_not a w x r =
@@ -78,13 +134,13 @@ module _ (c : Config) (digest text : List ℕ) where
                 let h = head_takes (sizes_of c) digest text a.group.image nay.0 a.group.calls nay.1 x.behind_head nay.2 x.head nay.4 in
                 let g = globals_take nay.2 (globals_of a x.behind_globals) nay.3 (subst (λ (t : List ℕ). Globals t (globals_of a x.behind_globals)) h.2 x.globals) nay.5 in
                 let place : x.behind_globals ≡ left nay.3.rest nay.3.line = ap (λ (r : Reached). left r.rest r.line) g in
-                tasks_not c 0 count (left nay.3.rest nay.3.line) (left a.rest (suc a.lines)) a.group.tasks w (subst (λ (l : Left). Tasks l a.group.tasks (left a.rest (suc a.lines))) place x.tasks) nay.6
+                tasks_not c 0 count (left nay.3.rest nay.3.line) (left x.last a.lines) a.group.tasks w (subst (λ (l : Left). Tasks l a.group.tasks (left x.last a.lines)) place x.tasks) nay.6
             | inr nay ↦
                 let h = head_takes (sizes_of c) digest text a.group.image nay.0 a.group.calls nay.1 x.behind_head nay.2 x.head nay.6 in
                 let g = globals_take nay.2 (globals_of a x.behind_globals) nay.3 (subst (λ (t : List ℕ). Globals t (globals_of a x.behind_globals)) h.2 x.globals) nay.7 in
                 let place : x.behind_globals ≡ left nay.3.rest nay.3.line = ap (λ (r : Reached). left r.rest r.line) g in
-                let t = tasks_take c 0 count (left nay.3.rest nay.3.line) (left a.rest (suc a.lines)) nay.5 a.group.tasks nay.4 (subst (λ (l : Left). Tasks l a.group.tasks (left a.rest (suc a.lines))) place x.tasks) nay.8 in
-                x.ends (subst IsLeftOver (sym (ap (λ (l : Left). l.rest) t.1)) nay.9.over)
+                let t = tasks_take c 0 count (left nay.3.rest nay.3.line) (left x.last a.lines) nay.5 a.group.tasks nay.4 (subst (λ (l : Left). Tasks l a.group.tasks (left x.last a.lines)) place x.tasks) nay.8 in
+                end_not nay.5.rest a.rest w.fault (subst (λ (l : List ℕ). TakesEnd l a.rest) (ap (λ (l : Left). l.rest) t.1) x.ends) nay.9.1
           ]
         ]
       ]
@@ -99,7 +155,7 @@ module _ (c : Config) (digest text : List ℕ) where
   abbrev UpToEnd : Wrong → Type 0
   UpToEnd w =
       (image : Image) × (calls : Calls) × (behind : List ℕ) × (globals : Reached) × (tasks : List (Option TaskState)) × (to : Left) × Head image calls behind × Globals behind globals
-      × Tasks (left globals.rest globals.line) tasks to × HasLeftOver to.rest to.line w
+      × Tasks (left globals.rest globals.line) tasks to × IsAt to.line (RefusesEnd to.rest) w
 
   same_head : (i j : Image) (k l : Calls) (t s : List ℕ) → Head i k t → Head j l s → t ≡ s
   same_head i j k l t s x y = (head_takes (sizes_of c) digest text i j k l t s x y).2
@@ -130,7 +186,7 @@ module _ (c : Config) (digest text : List ℕ) where
   end_end v w a b =
       let g = same_globals a.2 b.2 a.3 b.3 (same_head a.0 b.0 a.1 b.1 a.2 b.2 a.6 b.6) a.7 b.7 in
       let t = tasks_take c 0 count (left b.3.rest b.3.line) a.5 b.5 a.4 b.4 (subst (λ (r : Reached). Tasks (left r.rest r.line) a.4 a.5) g a.8) b.8 in
-      wrong_same v w (a.9.is ∙ sym b.9.is) (a.9.place ∙ (ap (λ (l : Left). l.line) t.1 ∙ sym b.9.place))
+      at_once b.5.line (RefusesEnd b.5.rest) v w (end_refuses b.5.rest) (subst (λ (l : Left). IsAt l.line (RefusesEnd l.rest) v) t.1 a.9) b.9
 
   wrongs_once : (v w : Wrong) → IsNoState c digest text v → IsNoState c digest text w → v ≡ w
   wrongs_once v w r s =
