@@ -1,6 +1,7 @@
 -- How a trace begins, by its parts.
+use borrow.Author.Tests.{eqb-true}
 use Rattle.std.proofs.Common.{◌≡◌, ◌≢◌, inl, inr, ℕ, zero, suc, ◌+◌, ◌-◌, ◌^◌, ◌<◌, ◌≤◌, List, [], ◌∷◌, ◌++◌, length, length-append, map, replicate, slice_get, refl, sym, ap, subst, ◌∙◌, arith, Some, None, Option, Ok, Err}
-use Rattle.std.specs.Prelude.{IfSome, IfNone, IfOk, IfErr, option_map, Result}
+use Rattle.std.specs.Prelude.{◌==◌, true, IfSome, IfOk, IfErr, option_map, Result}
 use Rattle.il_spec.specs.declared.tree.Config.{Config}
 use Rattle.il_run.specs.State.{State}
 use Rattle.il_machine.specs.Scanning.{IsRunnable}
@@ -19,7 +20,7 @@ use Rattle.lift_trace.specs.declared.fault.TraceFault.TheVariants.{BadLine, Trun
 use Rattle.lift_trace.specs.declared.format.Format.{Format}
 use Rattle.lift_trace.specs.declared.format.Format.TheVariants.{One, Two}
 use Rattle.lift_trace.specs.Fronts.{RefusesFront}
-use Rattle.lift_trace.specs.Reading.{IsOneLine, Splits, Reads, ReadsFront, greatest_trace}
+use Rattle.lift_trace.specs.Reading.{IsOneLine, Splits, ReadsFront, greatest_trace}
 use Rattle.lift_trace.specs.Text.{first_line as trace_line, last_line, line_of, text_of, text_of_lines, IsTraceIn}
 use Rattle.lift_world.specs.Setting.{resting}
 use Rattle.lift_state.specs.declared.fault.StateError.{StateError}
@@ -102,13 +103,6 @@ fault_fits cars text (Truncated line) h = let at : line ≡ 1 = h.2 in omega (ar
 fault_fits cars text Write h = absurd h
 fault_fits cars text Memory h = omega arith
 
--- reading writes nothing
-pub read_only : (cars : ℕ) (text : List ℕ) (why : TraceFault) → RefusesFront cars text why → why ≢ Write
-read_only cars text (BadLine line) h e = cc
-read_only cars text (Truncated line) h e = cc
-read_only cars text Write h e = h
-read_only cars text Memory h e = cc
-
 -- behind a state the text of the events is as long as what is there, and a first line
 pub events_long : (rest : List ℕ) → length (events_text rest) ≡ 12 + length rest
 events_long rest = let long : length (trace_line Two ++ (10 ∷ rest)) ≡ 11 + length (10 ∷ rest) = length-append (trace_line Two) (10 ∷ rest) in omega (arith, long)
@@ -147,9 +141,13 @@ few_opened cars text events others cut lines h same one =
 state_once : (a b : List ℕ) → first_line ++ (10 ∷ a) ≡ first_line ++ (10 ∷ b) → a ≡ b
 state_once a b e = cc
 
+none_of : (rest : List ℕ) → true ≡ (length rest == 0) → rest ≡ []
+none_of [] e = refl
+none_of (byte ∷ rest) e = let no : suc (length rest) ≡ 0 = eqb-true (suc (length rest)) 0 (sym e) in absurd (omega (arith, no))
+
 -- nothing is there but the first line
-pub empty_state : (text rest : List ℕ) → text ≡ first_line ++ (10 ∷ rest) → rest ≡ [] → HasNoState text
-empty_state text rest is none state same some small = some (state_once state rest (sym same ∙ is) ∙ none)
+pub empty_state : (text rest : List ℕ) → text ≡ first_line ++ (10 ∷ rest) → true ≡ (length rest == 0) → HasNoState text
+empty_state text rest is none state same some small = some (state_once state rest (sym same ∙ is) ∙ none_of rest none)
 
 -- RESULTS
 

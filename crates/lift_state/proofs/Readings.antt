@@ -166,12 +166,6 @@ tasks_later c a (suc n) from to tasks h =
 
 -- ALL
 
-pub all_later : (c : Config) (before after : Group) (from to : Behind) → ReadsVariables c before from after to → from.line ≤ to.line
-all_later c before after from to h =
-    let one : from.line ≤ h.between.line = variables_later global_path (opening_globals c) (global_cells c) (reached (opening_globals c) from.rest.now from.line) (reached after.globals h.between.rest h.between.line) h.globals in
-    let others : h.between.line ≤ to.line = tasks_later c 0 (suc (sizes_of c).cars) h.between (left h.last to.line) after.tasks h.tasks in
-    omega (arith, one, others)
-
 -- a head and all variables are a state
 pub state_read :
     (c : Config) (digest text : List ℕ) (image : Image) (calls : Calls) (opened before after : Group) (from to : Behind) → TakesHead (sizes_of c) digest text image calls from.rest.now → from.line ≡ variables_at (sizes_of c)

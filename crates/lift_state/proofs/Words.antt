@@ -1,7 +1,6 @@
 -- The words of values, and the lines of variables.
-use Rattle.std.proofs.Common.{◌≡◌, inl, inr, ℕ, suc, ◌+◌, ◌^◌, ◌<◌, Bool, true, false, List, [], ◌∷◌, ◌++◌, refl, sym, ap, ◌∙◌, subst, append_assoc, arith, Some, None, Option, ℤ, pos, negsuc, ◌-ℤ◌, decimal, to_z, of_z}
-use Rattle.std.specs.Prelude.{codes, FitsSigned, IfSome, IfNone, IsTrue, is_some}
-use Rattle.std.specs.Borrow.{Bor}
+use Rattle.std.proofs.Common.{◌≡◌, inl, inr, ℕ, suc, ◌^◌, ◌<◌, Bool, true, false, List, [], ◌∷◌, ◌++◌, refl, sym, ap, ◌∙◌, subst, append_assoc, arith, Some, None, Option, ℤ, pos, negsuc, ◌-ℤ◌, decimal, to_z, of_z}
+use Rattle.std.specs.Prelude.{codes, FitsSigned}
 use Rattle.std.specs.Int.{w64}
 use Rattle.std.specs.Fmt.{signed_decimal}
 use Rattle.std.proofs.lemmas.Int.{ints, to_z_pos, to_z-of_z}

@@ -1,5 +1,4 @@
 use Rattle.std.proofs.Common.{subst}
-use Rattle.std.specs.Prelude.{Err}
 use Rattle.lift_spec.specs.declared.image.Sizes.{Sizes}
 use Rattle.lift_trace.specs.Fronts.{RefusesFront}
 use Rattle.lift_state.proofs.Beginning.{ok_both, few_opened, unread}

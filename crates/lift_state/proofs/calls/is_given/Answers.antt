@@ -1,4 +1,4 @@
-use Rattle.std.proofs.Common.{◌<◌, ◌∙◌, sym, true, false, arith, below_more, refl}
+use Rattle.std.proofs.Common.{◌<◌, ◌∙◌, sym, false, arith, below_more, refl}
 use Rattle.lift_state.proofs.Words.{true_false}
 use Rattle.lift_state.proofs.Slots.{ticket_got, ticket_within}
 use Rattle.lift_state.proofs.calls.is_given.Goals as goal

@@ -1,4 +1,4 @@
-use Rattle.std.proofs.Common.{true, false, refl}
+use Rattle.std.proofs.Common.{false, refl}
 use Rattle.lift_state.proofs.Words.{true_false}
 use Rattle.lift_state.proofs.Hex.{digits_here, digits_on}
 use Rattle.lift_state.proofs.head.are_digits_of.Goals as goal

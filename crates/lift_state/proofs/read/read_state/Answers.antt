@@ -1,4 +1,4 @@
-use Rattle.std.proofs.Common.{◌≡◌, ◌+◌, ◌-◌, ◌≤◌, ◌∙◌, suc, inl, sym, ap, subst, arith}
+use Rattle.std.proofs.Common.{◌≡◌, ◌+◌, ◌≤◌, ◌∙◌, inl, sym, ap, subst, arith}
 use Rattle.il_spec.specs.declared.tree.Config.{Config}
 use Rattle.il_machine.proofs.Sizes.{sizes_fit}
 use Rattle.lift_spec.specs.declared.image.Sizes.{Sizes}
@@ -9,9 +9,9 @@ use Rattle.lift_state.specs.Heads.{TakesHead, RefusesHead, variables_at}
 use Rattle.lift_state.specs.Holding.{HoldsHead}
 use Rattle.lift_state.specs.Parts.{calls_of}
 use Rattle.lift_state.specs.Reading.{Explains}
-use Rattle.lift_state.specs.Walking.{left_of}
+use Rattle.lift_state.specs.Variables.{left}
 use Rattle.lift_state.proofs.Placing.{head_holds}
-use Rattle.lift_state.proofs.Readings.{all_later, state_read, variables_refused, read_seated}
+use Rattle.lift_state.proofs.Readings.{state_read, variables_refused, read_seated}
 use Rattle.lift_state.proofs.Again.{up_so}
 use Rattle.lift_state.proofs.read.read_state.Goals as goal
 

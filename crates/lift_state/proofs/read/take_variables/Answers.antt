@@ -10,4 +10,12 @@ returns-in_err-last-clause-wrong c =
     (inr (inl (reached c.take_globals.new.core.group.globals c.in_ok-to.to.rest.now c.in_ok-to.to.line, c.in_ok-to.ensures.found.takes, c.in_err-last.ensures.wrong)))
 
 pub returns-in-Err-clause-wrong : goal.returns-in-Err-clause-wrong
-returns-in-Err-clause-wrong c = ?
+returns-in-Err-clause-wrong c =
+    inr (inr (
+      reached c.take_globals.new.core.group.globals c.in_ok-to.to.rest.now c.in_ok-to.to.line,
+      c.take_tasks.new.core.group.tasks,
+      left_of c.in_ok-last.field-0,
+      c.in_ok-to.ensures.found.takes,
+      c.in_ok-last.ensures.found.takes,
+      (refl, c.in-Err.ensures.wrong),
+    ))
