@@ -12,7 +12,7 @@ from lib.files import NoFile, there
 
 PATTERN = "box-%"
 DAY = 86_400  # s
-STATE = {"LIFTTRACE", "CONFIGURATION", "NOW", "RUNLIMIT", "FIRE", "CAR", "TICKETS", "SLOT", "VAR"}  # how a line begins that is no event
+STATE_END = "EVENTS"  # the last line of the state with which a trace begins
 LONGEST = 4096  # bytes of a line that are looked at
 
 
@@ -68,7 +68,7 @@ def calls_at_start(trace: str) -> dict[int, tuple[int, int, int]]:
     """Those in the call slots of the state with which a trace begins, by ticket: floor from, floor to, and the car or 0."""
     calls = {}
     with open(trace, encoding="ascii", errors="replace", newline="\n") as file:
-        while (words := file.readline(LONGEST).split()) and words[0] in STATE:
+        while (words := file.readline(LONGEST).split()) and words[0] != STATE_END:
             if words[0] == "SLOT" and words[2] != "FREE":
                 ticket, start, goal, *car = map(int, words[3:])
                 calls[ticket] = start, goal, car[0] if car else 0
