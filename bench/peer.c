@@ -1,8 +1,8 @@
 /* The other end of `liftplc serve`: a plant that talks to it over pipes.
 
    usage: peer drive ROUNDS SEED CARS FLOORS SLOTS WORD...   (the words of `serve`, a program first)
-          peer time ROUNDS CARS FLOORS WORD...
-          peer echo ROUNDS CARS FLOORS WORD...
+          peer time ROUNDS CARS FLOORS PAUSE WORD...
+          peer echo ROUNDS CARS FLOORS PAUSE WORD...
 
    `drive` has ROUNDS rounds of the plant of docs/TRACE.md with presses, other run limits and times of fire, and holds each answer against docs/SERVE.md: the
    order of its lines, tickets, slots and cars, and the interlock. It prints `pid N`, lines `memory ROUND OWN RESIDENT HIGHEST` (kB: RssAnon, the memory
@@ -10,7 +10,8 @@
    `counts ...`, `answered ROUNDS PRESSES` and, where E was answered, the image as `replay` prints it, without globals; last `status N`. What is wrong is
    printed behind `wrong:`, and ends it with status 1. Where the program ends too early it says how far it came; its own status is 0.
 
-   `time` prints the round-trip times of R lines in ns, one a line; a press stands before each 50th. `echo` does so where the answer is the line itself. */
+   `time` prints the round-trip times of R lines in ns, one a line; a press stands before each 50th. Before each R line it sleeps PAUSE ms, 0 for not at all.
+   `echo` does so where the answer is the line itself. */
 #include <errno.h>
 #include <poll.h>
 #include <signal.h>
@@ -341,7 +342,8 @@ static int64_t trip(const char *line, int length, int echo) {
     return taken_ns;
 }
 
-static int measure(long rounds, int echo) {
+static int measure(long rounds, long pause, int echo) {
+    const struct timespec slept = {pause / 1000, pause % 1000 * 1000000};
     char line[LONGEST];
     int64_t *taken_ns = malloc(rounds * sizeof *taken_ns);
     int from = 1;
@@ -352,6 +354,7 @@ static int measure(long rounds, int echo) {
             if (!say(line, sprintf(line, "P %d %d\n", from, from % floors + 1)) || !hear()) wrong("the program ended");
         }
         step();
+        if (pause) nanosleep(&slept, NULL);
         taken_ns[at] = trip(line, put_fields(line), echo);
     }
     close(to_child);
@@ -362,9 +365,9 @@ static int measure(long rounds, int echo) {
 }
 
 int main(int count, char **words) {
-    int drives = count > 7 && !strcmp(words[1], "drive"), echo = count > 5 && !strcmp(words[1], "echo");
-    if (!drives && !echo && !(count > 5 && !strcmp(words[1], "time"))) {
-        fputs("usage: peer drive ROUNDS SEED CARS FLOORS SLOTS WORD... | peer time|echo ROUNDS CARS FLOORS WORD...\n", stderr);
+    int drives = count > 7 && !strcmp(words[1], "drive"), echo = count > 6 && !strcmp(words[1], "echo");
+    if (!drives && !echo && !(count > 6 && !strcmp(words[1], "time"))) {
+        fputs("usage: peer drive ROUNDS SEED CARS FLOORS SLOTS WORD... | peer time|echo ROUNDS CARS FLOORS PAUSE WORD...\n", stderr);
         return 2;
     }
     char **rest = words + 3 + drives;
@@ -372,6 +375,6 @@ int main(int count, char **words) {
     slots = drives ? between(1, atoi(rest[2]), MOST_SLOTS) : 0;
     signal(SIGPIPE, SIG_IGN);
     open_plant();
-    start(rest + 2 + drives);
-    return drives ? drive(atol(words[2]), strtoull(words[3], 0, 10)) : measure(atol(words[2]), echo);
+    start(rest + 3);
+    return drives ? drive(atol(words[2]), strtoull(words[3], 0, 10)) : measure(atol(words[2]), atol(rest[2]), echo);
 }
