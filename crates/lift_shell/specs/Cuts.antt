@@ -1,5 +1,5 @@
 -- A trace that was cut off, up to its last whole line (own rule).
-use Rattle.std.specs.Prelude.{ℕ, ◌+◌, ◌-◌, Bool, List, [], ◌∷◌, ◌++◌, ◌==◌, ◌||◌, if◌then◌else◌, length, take, drop, slice_index, count_by, codes, decimal}
+use Rattle.std.specs.Prelude.{ℕ, ◌+◌, ◌-◌, Bool, List, [], ◌∷◌, ◌++◌, ◌==◌, ◌&&◌, ◌||◌, if◌then◌else◌, length, take, drop, slice_index, count_by, codes, decimal}
 use Rattle.std.specs.List.{slice_split}
 
 abbrev pub is_feed : ℕ → Bool
@@ -18,9 +18,13 @@ whole_lines text = take (whole_length text) text
 abbrev pub last_line : List ℕ → List ℕ
 last_line lines = drop (whole_length (take (length lines - 1) lines)) lines
 
--- whole lines that no end is put behind: there are none, or the last one begins with E
+-- a line of the end: an E and a space. The line EVENTS of a state is none
+abbrev pub is_end : List ℕ → Bool
+is_end line = slice_index line 0 == 69 && slice_index line 1 == 32
+
+-- whole lines that no end is put behind: there are none, or the last one is a line of the end
 abbrev pub have_end : List ℕ → Bool
-have_end lines = length lines == 0 || slice_index (last_line lines) 0 == 69
+have_end lines = length lines == 0 || is_end (last_line lines)
 
 -- a line of an event: one letter and a space. A line of a state begins with a longer word
 abbrev pub is_event : List ℕ → Bool

@@ -1,7 +1,7 @@
 // A trace that was cut off.
 
-ghost use Rattle.std.specs.Prelude.{◌≡◌, ◌≤◌, ◌++◌, ◌==◌, length, slice_index, OnOk};
-ghost use Rattle.lift_shell.specs.Cuts.{completed, end_line, event_count, have_end, is_event, last_line, whole_length};
+ghost use Rattle.std.specs.Prelude.{◌≡◌, ◌≤◌, ◌++◌, length, OnOk};
+ghost use Rattle.lift_shell.specs.Cuts.{completed, end_line, event_count, have_end, is_end, is_event, last_line, whole_length};
 
 use itoa::Buffer;
 use memchr::memrchr;
@@ -30,14 +30,14 @@ fn last_line(lines: &[u8]) -> &[u8]
 fn have_end(lines: &[u8]) -> bool
     ensures { result ≡ have_end lines.now }
 {
-    lines.is_empty() || begins_with_e(last_line(lines))
+    lines.is_empty() || is_end(last_line(lines))
 }
 
-// Whether a line is the last of a trace, by its first letter.
-fn begins_with_e(line: &[u8]) -> bool
-    ensures { result ≡ (slice_index line.now 0 == 69) }
+// Whether a line is the last of a trace, by its first two bytes.
+fn is_end(line: &[u8]) -> bool
+    ensures { result ≡ is_end line.now }
 {
-    matches!(line, [b'E', ..])
+    matches!(line, [b'E', b' ', ..])
 }
 
 // Whether a line is that of an event: one letter and a space.
