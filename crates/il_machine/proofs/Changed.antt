@@ -344,10 +344,13 @@ module _ {A : Type 0} (c : Config) (runs : IsRunnable c) (r : Rows) (fits : Fits
   sets_globals = subst (λ n. SetsSlot (global_cells c) n r path value result after) count_is (subst (λ xs. SetsSlot xs count r path value result after) cells_are sets)
 
   pub globals_set : SetsGlobals c r path value result after
-  globals_set = sets_rows (global_cells c) (global_scalars c) global_declared globals_one r fits shared path value result after sets_globals
+  globals_set = sets_rows (global_cells c) (global_scalars c) global_declared globals_one r fits shared.each path value result after sets_globals
 
   pub globals_fit_after : FitsGlobals c after
-  globals_fit_after = fits_rows (global_cells c) (global_scalars c) global_declared globals_one r fits shared path value result after sets_globals
+  globals_fit_after = fits_rows (global_cells c) (global_scalars c) global_declared globals_one r fits shared.each path value result after sets_globals
 
   pub globals_after : HoldGlobals c (globals_in c after)
-  globals_after = have_rows (global_cells c) (global_scalars c) global_declared globals_one r fits shared path value result after sets_globals
+  globals_after = record {
+    each = have_rows (global_cells c) (global_scalars c) global_declared globals_one r fits shared.each path value result after sets_globals;
+    only = only_rows (global_cells c) (global_scalars c) global_declared globals_one r fits shared.each path value result after sets_globals shared.only;
+  }

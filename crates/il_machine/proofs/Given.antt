@@ -237,7 +237,7 @@ module _ (c : Config) (sound : IsSound c) (t : ℕ) (u : ProgramUnit) (is : IsTa
       (agree_append (external_scalars c u) (given_scalars c t) (entries_at g.globals (external_paths u)) (image_entries (sizes_of c) t g.image g.calls.slots) listed (image_agrees c t g (is_sized c sound.declared) is.within ranges)))
     where
       shared : HaveValues g.globals (external_scalars c u)
-      shared = values_of g.globals (external_scalars c u) (λ p at. value_of g.globals (global_scalars c) p ranges.globals ((shares_globals c u accepted).externals p at))
+      shared = values_of g.globals (external_scalars c u) (λ p at. value_of g.globals (global_scalars c) p ranges.globals.each ((shares_globals c u accepted).externals p at))
 
       listed : Agree (external_scalars c u) (entries_at g.globals (external_paths u))
       listed = subst (λ l. Agree (external_scalars c u) (entries_at g.globals l)) (sym (external_are c (entities u.externals))) (globals_agree g.globals (external_scalars c u) shared)

@@ -275,7 +275,7 @@ module _ (c : Config) (runs : IsRunnable c) (task : ℕ) (u : ProgramUnit) (is :
   shares = shares_globals c u well
 
   external_there : (globals : Values) → HoldGlobals c globals → HaveValues globals (external_scalars c u)
-  external_there globals hold = values_of globals (external_scalars c u) (λ p has. value_of globals (global_scalars c) p hold (shares.externals p has))
+  external_there globals hold = values_of globals (external_scalars c u) (λ p has. value_of globals (global_scalars c) p hold.each (shares.externals p has))
 
   -- the values at the slots of what a program lists
   pub lists : (r : Rows) → FitsGlobals c r → HoldGlobals c (globals_in c r) → AreListed c task (map (shared_value (global_cells c) r) (map (slot_in (global_cells c)) (external_cells c u))) (globals_in c r)
@@ -381,4 +381,4 @@ module _ (c : Config) (runs : IsRunnable c) (r : Rows) (first : r ≡ first_rows
   unfolding opening_globals
   globals_open_as =
       ap (globals_in c) first ∙ ap (λ xs. view xs (first_rows (global_values c))) (shallow_cells c (entities c.globals))
-      ∙ same_map _ _ (λ q. first_at q (global_scalars c) (global_values c) paths_same (λ p has named. value_of (from_entries (global_values c)) (global_scalars c) p (globals_open c runs.written runs.declared) has))
+      ∙ same_map _ _ (λ q. first_at q (global_scalars c) (global_values c) paths_same (λ p has named. value_of (from_entries (global_values c)) (global_scalars c) p (globals_open c runs.written runs.declared).each has))

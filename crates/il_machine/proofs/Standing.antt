@@ -21,7 +21,7 @@ use Rattle.lift_spec.specs.Snapshot.{Beginning, scan_begins}
 use Rattle.lift_run_laws.specs.Scans.{ScanHolds}
 use Rattle.lift_run_laws.specs.Seeing.{image_scalars}
 use Rattle.lift_run_laws.specs.Tasks.{IsTaskOf}
-use Rattle.lift_run_laws.proofs.Given.{outputs_have, globals_have}
+use Rattle.lift_run_laws.proofs.Given.{outputs_have, globals_have, globals_declared}
 use Rattle.lift_run_laws.proofs.Tasks.{same_image}
 use Rattle.il_machine.specs.Scanning.{IsRunnable, IsScanOf, kept_of}
 use Rattle.il_machine.specs.Standing.{Standing, IsOf, IsAtStart, IsScan}
@@ -139,6 +139,7 @@ module _ (c : Config) (runs : IsRunnable c) (task : ℕ) (s : Stored) (scan : Is
         variables = have_first (stands c task s).values (task_scalars c u) (given_scalars c u) all;
         outputs = outputs_have (stands c task s).values c task (subst (HaveValues (stands c task s).values) same (have_second (stands c task s).values (external_scalars c u) (seen_scalars c u) given));
         globals = globals_have (stands c task s).values c u (shares_globals c u well) (have_first (stands c task s).values (external_scalars c u) (seen_scalars c u) given);
+        declared = globals_declared c u (shares_globals c u well);
       }
 
   pub holds_of : (v : ProgramUnit) → IsTaskOf c task v → ScanHolds c task v 0 (stands c task s)

@@ -252,7 +252,13 @@ module _ (c : Config) (unbroken : HasNoFault (Broken Declaring c)) where
 pub globals_open : (c : Config) → IsWritten c → HasNoFault (Broken Declaring c) → HoldGlobals c (opening_globals c)
 unfolding opening_globals
 globals_open c written unbroken =
-    have_agreed (global_scalars c) (entity_values (instance_values zero c) [] (entities c.globals)) (agree_entities (instance_scalars zero c) (instance_values zero c) [] (entities c.globals) (agree_instances zero c (blocks_begin c unbroken)) (globals_begin c unbroken)) (globals_once c unbroken written)
+    record {
+      each = have_agreed (global_scalars c) (entity_values (instance_values zero c) [] (entities c.globals)) agreed (globals_once c unbroken written);
+      only = λ q v is. only_agreed (global_scalars c) (entity_values (instance_values zero c) [] (entities c.globals)) q v agreed is;
+    }
+  where
+    agreed : Agree (global_scalars c) (entity_values (instance_values zero c) [] (entities c.globals))
+    agreed = agree_entities (instance_scalars zero c) (instance_values zero c) [] (entities c.globals) (agree_instances zero c (blocks_begin c unbroken)) (globals_begin c unbroken)
 
 pub variables_open : (c : Config) (p : ProgramUnit) → IsAccepted c p → HoldsTask c p (opening_variables c p)
 unfolding opening_variables

@@ -25,7 +25,7 @@ use Rattle.lift_run_laws.specs.Scans.{ScanHolds, ScansWell, OpensWell}
 use Rattle.lift_run_laws.specs.Seeing.{image_scalars}
 use Rattle.lift_run_laws.specs.Runs.{RunsWell}
 use Rattle.lift_run_laws.specs.Accepted.{IsSound}
-use Rattle.lift_run_laws.proofs.Given.{given_have, outputs_have, globals_have}
+use Rattle.lift_run_laws.proofs.Given.{given_have, outputs_have, globals_have, globals_declared}
 use Rattle.lift_run_laws.proofs.Tasks.{is_sized, task_accepted, same_image}
 use Rattle.lift_run_laws.proofs.Running.{runs_well}
 
@@ -78,6 +78,7 @@ module _ (c : Config) (sound : IsSound c) (t : ℕ) (u : ProgramUnit) (is : IsTa
         variables = have_first s.values (task_scalars c u) (given_scalars c u) all;
         outputs = outputs_have s.values c t (subst (HaveValues s.values) same (have_second s.values (external_scalars c u) (seen_scalars c u) given));
         globals = globals_have s.values c u shares (have_first s.values (external_scalars c u) (seen_scalars c u) given);
+        declared = globals_declared c u shares;
       }
 
 pub scans_well : (c : Config) → IsSound c → ScansWell c

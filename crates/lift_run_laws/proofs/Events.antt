@@ -152,7 +152,7 @@ commits_well c g zero n u task tickets s sized ranges calls obeys is known many 
             outputs = ranges.outputs;
             slots = told.slots;
             each_slot = told.each;
-            globals = subst (λ o. HoldGlobals c (written_globals o g.globals s.values)) (sym is.program) (globals_kept c u g.globals s.values ranges.globals known.globals);
+            globals = subst (λ o. HoldGlobals c (written_globals o g.globals s.values)) (sym is.program) (globals_kept c u g.globals s.values ranges.globals known.globals known.declared);
           };
       tickets = told.tickets;
       obeys = obeys;
@@ -168,7 +168,7 @@ commits_well c g (suc k) n u task tickets s sized ranges calls obeys is known ma
             outputs = length_set g.image.outputs k _ ∙ ranges.outputs;
             slots = served.slots;
             each_slot = served.each;
-            globals = subst (λ o. HoldGlobals c (written_globals o g.globals s.values)) (sym is.program) (globals_kept c u g.globals s.values ranges.globals known.globals);
+            globals = subst (λ o. HoldGlobals c (written_globals o g.globals s.values)) (sym is.program) (globals_kept c u g.globals s.values ranges.globals known.globals known.declared);
           };
       tickets = served.tickets;
       obeys = commit_obeys g.image k (wishes_of s.values).motor (wishes_of s.values).opens below obeys;

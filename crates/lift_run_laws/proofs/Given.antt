@@ -16,6 +16,7 @@ use Rattle.il_run.specs.Meaning.{under, element_path, Entity, entities, initial_
 use Rattle.il_run.specs.Ranges.{HasValue, HaveValues, element_scalars, scalars_at, entity_scalars, instance_scalars, external_scalars, global_scalars}
 use Rattle.il_run.specs.Scan.{entries_at, external_paths, paths_of, written_paths, names_stored}
 use Rattle.il_scan_laws.specs.Listed.{HaveOneType, SharesGlobals}
+use Rattle.il_scan_laws.proofs.Lists.{in_map}
 use Rattle.il_scan_laws.proofs.Paths.{value_of, values_of, path_of, Agree, agree_append, have_agreed, have_both, have_first, have_second}
 use Rattle.lift_spec.specs.Image.{sizes_of}
 use Rattle.lift_spec.specs.Snapshot.{given_entries, image_entries}
@@ -63,7 +64,7 @@ given_have c t u g sized within shares once ranges =
     m = from_entries (given_entries c t u (snapshot_of g))
 
     globals : HaveValues g.globals (external_scalars c u)
-    globals = values_of g.globals (external_scalars c u) (λ p at. value_of g.globals (global_scalars c) p ranges.globals (shares.externals p at))
+    globals = values_of g.globals (external_scalars c u) (λ p at. value_of g.globals (global_scalars c) p ranges.globals.each (shares.externals p at))
 
     shown : Agree (external_scalars c u) (entries_at g.globals (external_paths u))
     shown = subst (λ l. Agree (external_scalars c u) (entries_at g.globals l)) (sym (external_are c (entities u.externals))) (globals_agree g.globals (external_scalars c u) globals)
@@ -111,6 +112,12 @@ written_is c u q at =
     let there : Contains (map (λ (p : Text × Scalar). p.0) (entity_scalars (instance_scalars zero c) [] written)) q = subst (λ l. Contains l q) (external_are c written) at in
     let found = path_of (entity_scalars (instance_scalars zero c) [] written) q there in
     (found.0, some_are c (λ e. is_one_of (names_stored u) e.name) (entities u.externals) found.0 found.1, found.2)
+
+-- so the configuration declares it
+pub globals_declared : (c : Config) (u : ProgramUnit) → SharesGlobals c u → (q : Text) → Contains (written_paths u) q → Contains (map (λ p. p.0) (global_scalars c)) q
+globals_declared c u shares q at =
+    let found = written_is c u q at in
+    subst (Contains (map (λ (p : Text × Scalar). p.0) (global_scalars c))) found.2 (in_map (λ (p : Text × Scalar). p.0) (global_scalars c) found.0 (shares.externals found.0 found.1))
 
 moved : (m : Values) (p q : Text × Scalar) → p.0 ≡ q.0 → p.1 ≡ q.1 → HasValue m p → HasValue m q
 moved m p q same_path same_type h = (h.0, ap (get m) (sym same_path) ∙ h.1, subst (λ s. IsOf s h.0) same_type h.2)

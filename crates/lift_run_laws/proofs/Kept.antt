@@ -45,11 +45,29 @@ have_written values m paths [] old new = tt
 have_written values m paths (p ∷ ps) old new =
     (has_written values m paths p old.0 (new p (0, omega arith, refl)), have_written values m paths ps old.1 (λ q h. new q (suc h.0, omega (arith, h.1), h.2)))
 
+-- no path has a value but those that had one, and those that are written
+only_written :
+    (values m : Values) (paths all : List Text) → ((q : Text) (v : Value) → get m q ≡ Some v → Contains all q) → ((q : Text) → Contains paths q → Contains all q)
+    → (q : Text) (v : Value) → get (with_entries m (entries_at values paths)) q ≡ Some v → Contains all q
+only_written values m [] all old new q v = old q v
+only_written values m (k ∷ ks) all old new q v = by (get values k) refl (only_written values m ks all old (λ p h. new p (suc h.0, omega (arith, h.1), h.2)) q v)
+  where
+    by : (o : Option Value) → get values k ≡ o → (get (with_entries m (entries_at values ks)) q ≡ Some v → Contains all q) → get (with_entries m (entries_at values (k ∷ ks))) q ≡ Some v → Contains all q
+    by None is rest = rw is rest
+    by (Some w) is rest = rw is (λ h. here (eq_by_cmp order q k) refl (sym (get-insert (with_entries m (entries_at values ks)) k w q) ∙ h))
+      where
+        here : (b : Bool) → eq_by_cmp order q k ≡ b → cond b (Some w) (get (with_entries m (entries_at values ks)) q) ≡ Some v → Contains all q
+        here true same h = subst (Contains all) (sym (same_text q k same)) (new k (0, omega arith, refl))
+        here false same h = rest h
+
 -- the globals after a commit
 pub globals_kept :
     (c : Config) (u : ProgramUnit) (globals values : Values) → HoldGlobals c globals → ((p : Text × Scalar) → Contains (global_scalars c) p → Contains (written_paths u) p.0 → HasValue values p)
-    → HoldGlobals c (written_globals (Some u) globals values)
-globals_kept c u globals values old new = have_written values globals (written_paths u) (global_scalars c) old new
+    → ((q : Text) → Contains (written_paths u) q → Contains (map (λ p. p.0) (global_scalars c)) q) → HoldGlobals c (written_globals (Some u) globals values)
+globals_kept c u globals values old new declared = record {
+  each = have_written values globals (written_paths u) (global_scalars c) old.each new;
+  only = only_written values globals (written_paths u) (map (λ p. p.0) (global_scalars c)) old.only declared;
+}
 
 -- WHAT IS LEFT
 

@@ -1,5 +1,5 @@
 -- What the law of all runs asks of a single scan, and of the opening (own rules).
-use Rattle.std.specs.Prelude.{◌≡◌, ℕ, ◌≤◌, false, Contains}
+use Rattle.std.specs.Prelude.{◌≡◌, ℕ, ◌≤◌, false, map, Contains}
 use Rattle.il_spec.specs.declared.tree.Config.{Config}
 use Rattle.il_spec.specs.declared.tree.Scalar.{Scalar}
 use Rattle.il_spec.specs.declared.tree.Unit.{Unit as ProgramUnit}
@@ -24,6 +24,8 @@ pub record ScanHolds (c : Config) (t : ℕ) (u : ProgramUnit) (n : ℕ) (s : Sta
   pub outputs : HaveValues s.values (output_scalars c t)
   -- and the globals that it writes
   pub globals : (p : Text × Scalar) → Contains (global_scalars c) p → Contains (written_paths u) p.0 → HasValue s.values p
+  -- which the configuration declares
+  pub declared : (q : Text) → Contains (written_paths u) q → Contains (map (λ p. p.0) (global_scalars c)) q
 
 -- The premise of the law of all runs: every scan that begins with the task's variables in their declared sets, in a group
 -- whose image lies in its ranges, goes well (own rule).

@@ -12,7 +12,7 @@ use Rattle.il_table.specs.NameMap.{Text, order, get, from_entries, get-empty, ge
 use Rattle.il_table.proofs.Texts.{same_text}
 use Rattle.il_run.specs.declared.value.Value.{Value}
 use Rattle.il_run.specs.Meaning.{entities}
-use Rattle.il_run.specs.Ranges.{HoldsTask, task_scalars, global_scalars}
+use Rattle.il_run.specs.Ranges.{HoldGlobals, HoldsTask, task_scalars, global_scalars}
 use Rattle.il_run.specs.Scan.{opening_variables, opening_globals, restricted}
 use Rattle.il_run.specs.State.{Values}
 use Rattle.il_scan_laws.specs.Accepted.{IsAccepted}
@@ -46,7 +46,7 @@ use Rattle.lift_state.specs.Text.{cars_lines, slots_lines, image_lines, calls_li
 use Rattle.lift_state.specs.Heads.{variables_at, TakesHead}
 use Rattle.lift_state.specs.Variables.{reached, left, TakesGlobals, TakesTasks}
 use Rattle.lift_state.specs.Reading.{IsState}
-use Rattle.lift_state_laws.specs.Laws.{Is32Bytes, with_declared, begun, AreDeclaredAlone, StateReadsBack, GroupReadsBack}
+use Rattle.lift_state_laws.specs.Laws.{Is32Bytes, begun, StateReadsBack}
 use Rattle.lift_state_laws.proofs.Lined.{lined, lined_first, no_byte}
 use Rattle.lift_state_laws.proofs.HeadBack.{head_back}
 use Rattle.lift_state_laws.proofs.VarsBack.{IsFree, AreKept, IsOnWay, variables_back, begin_way}
@@ -143,7 +143,7 @@ module _ (c : Config) (sound : IsSound c) where
   opens_globals : (q : Text) → Contains (map (λ p. p.0) (global_scalars c)) q → is_some (get (opening_globals c) q) ≡ true
   opens_globals q has =
       let p = path_of (global_scalars c) q has in
-      let there = value_of (opening_globals c) (global_scalars c) p.0 (globals_open c sound.written sound.declared) p.1 in
+      let there = value_of (opening_globals c) (global_scalars c) p.0 (globals_open c sound.written sound.declared).each p.1 in
       ap is_some (ap (get (opening_globals c)) (sym p.2) ∙ there.1)
 
   -- a global cell is of a declared global
@@ -164,14 +164,14 @@ module _ (c : Config) (sound : IsSound c) where
   unfolding opening_globals
   globals_none q none = entries_none (global_values c) q (λ has. global_found q (subst (λ ts. Contains ts q) (external_are c (entities c.globals)) has) none)
 
-  -- globals that the configuration declares alone are those that are left of them
-  declared_are : (values : Values) → AreDeclaredAlone c values → restricted (opening_globals c) values ≡ values
-  declared_are values alone = same_map (restricted (opening_globals c) values) values (λ q. get_restricted (opening_globals c) values q ∙ by q (get (opening_globals c) q) refl (get values q) refl)
+  -- globals that the configuration declares are those that are left of them
+  declared_are : (values : Values) → HoldGlobals c values → restricted (opening_globals c) values ≡ values
+  declared_are values hold = same_map (restricted (opening_globals c) values) values (λ q. get_restricted (opening_globals c) values q ∙ by q (get (opening_globals c) q) refl (get values q) refl)
     where
       by : (q : Text) (o : Option Value) → get (opening_globals c) q ≡ o → (p : Option Value) → get values q ≡ p → cond (is_some (get (opening_globals c) q)) (get values q) None ≡ get values q
       by q (Some v) is p at = ap (λ x. cond (is_some x) (get values q) None) is
       by q None is None at = ap (λ x. cond (is_some x) (get values q) None) is ∙ sym at
-      by q None is (Some v) at = let no : false ≡ true = sym (ap is_some is) ∙ opens_globals q (alone q v at) in absurd (no_such no)
+      by q None is (Some v) at = let no : false ≡ true = sym (ap is_some is) ∙ opens_globals q (hold.only q v at) in absurd (no_such no)
         where
           no_such : false ≡ true → ⊥
           no_such e = cc
@@ -235,7 +235,7 @@ module _ (c : Config) (sound : IsSound c) (w : World) (rests : RestsWell c w) wh
 
   globals_are : AreKept global_path g.globals (global_cells c)
   globals_are k y at =
-      let has = value_of g.globals (global_scalars c) (y.path, y.scalar) rests.holds.ranges.globals (global_declared c sound k y at) in
+      let has = value_of g.globals (global_scalars c) (y.path, y.scalar) rests.holds.ranges.globals.each (global_declared c sound k y at) in
       let fit = global_cells_fit c sound.declared sound.written k y at in
       record { value = has.0; is = has.1; of = has.2; narrow = fit.narrow has.0 has.2; one = fit.one }
 
@@ -277,7 +277,7 @@ module _ (c : Config) (sound : IsSound c) (w : World) (rests : RestsWell c w) wh
       let many_slots = rests.holds.ranges.slots in
       omega (arith, image, calls, globals, all, cars, slots, many_cars, many_slots)
 
-  pub state_is : (digest : List ℕ) → Is32Bytes digest → (rest : List ℕ) → IsState c digest (lined (state_lines c digest w) rest) (begun (with_declared c g) rest (length (state_lines c digest w) + 1))
+  pub state_is : (digest : List ℕ) → Is32Bytes digest → (rest : List ℕ) → IsState c digest (lined (state_lines c digest w) rest) (begun (record g { globals = kept }) rest (length (state_lines c digest w) + 1))
   state_is digest own rest =
       let line : ℕ = variables_at (sizes_of c) + length (globals_lines c g.globals) in
       record {
@@ -291,9 +291,6 @@ module _ (c : Config) (sound : IsSound c) (w : World) (rests : RestsWell c w) wh
       }
 
 pub state_reads_back : StateReadsBack
-state_reads_back c sound digest own w rests rest = state_is c sound w rests digest own rest
-
-pub group_reads_back : GroupReadsBack
-group_reads_back c sound digest own w rests alone rest =
-    subst (λ (values : Values). IsState c digest (lined (state_lines c digest w) rest) (begun (record w.group { globals = values }) rest (length (state_lines c digest w) + 1))) (declared_are c sound w.group.globals alone)
+state_reads_back c sound digest own w rests rest =
+    subst (λ (values : Values). IsState c digest (lined (state_lines c digest w) rest) (begun (record w.group { globals = values }) rest (length (state_lines c digest w) + 1))) (declared_are c sound w.group.globals rests.holds.ranges.globals)
     (state_is c sound w rests digest own rest)
