@@ -49,7 +49,6 @@ pub struct Scalar {
 }
 
 /// What a type is.
-#[derive(Drop)]
 pub enum Form {
     Scalar(Scalar),
     Array { bounds: Subrange, element: Scalar },
@@ -57,18 +56,48 @@ pub enum Form {
     Block(Name),
 }
 
+// Written by hand, as all below, since who drops a type whose drop is derived proves the drop of each type inside again.
+impl Drop for Form {
+    fn drop(self) {
+        match self {
+            Form::Scalar(_part) => {}
+            Form::Array {
+                bounds: _bounds,
+                element: _element,
+            } => {}
+            Form::Block(_part) => {}
+        }
+    }
+}
+
 /// A type where it is written.
-#[derive(Drop)]
 pub struct WrittenType {
     pub place: Place,
     pub form: Form,
 }
 
+impl Drop for WrittenType {
+    fn drop(self) {
+        let WrittenType {
+            place: _place,
+            form: _form,
+        } = self;
+    }
+}
+
 /// A name where it is written.
-#[derive(Drop)]
 pub struct Named {
     pub place: Place,
     pub name: Name,
+}
+
+impl Drop for Named {
+    fn drop(self) {
+        let Named {
+            place: _place,
+            name: _name,
+        } = self;
+    }
 }
 
 /// A literal where it is written.
@@ -79,22 +108,38 @@ pub struct Initial {
 }
 
 /// A declaration of variables (2.4.3).
-#[derive(Drop)]
 pub struct Declaration {
     pub names: Items<Named>,
     pub declared: WrittenType,
     pub initial: Option<Initial>,
 }
 
+impl Drop for Declaration {
+    fn drop(self) {
+        let Declaration {
+            names: _names,
+            declared: _declared,
+            initial: _initial,
+        } = self;
+    }
+}
+
 /// An index of an array.
-#[derive(Drop)]
 pub enum Index {
     Number(i64),
     Variable(Name),
 }
 
+impl Drop for Index {
+    fn drop(self) {
+        match self {
+            Index::Number(_part) => {}
+            Index::Variable(_part) => {}
+        }
+    }
+}
+
 /// What an operand names.
-#[derive(Drop)]
 pub enum Reference {
     Literal(Literal),
     Variable(Name),
@@ -103,11 +148,30 @@ pub enum Reference {
     Member(Name, Name),
 }
 
+impl Drop for Reference {
+    fn drop(self) {
+        match self {
+            Reference::Literal(_part) => {}
+            Reference::Variable(_part) => {}
+            Reference::Element(_first, _second) => {}
+            Reference::Member(_first, _second) => {}
+        }
+    }
+}
+
 /// An operand where it is written.
-#[derive(Drop)]
 pub struct Operand {
     pub place: Place,
     pub reference: Reference,
+}
+
+impl Drop for Operand {
+    fn drop(self) {
+        let Operand {
+            place: _place,
+            reference: _reference,
+        } = self;
+    }
 }
 
 /// AND, OR and XOR.
@@ -165,14 +229,27 @@ pub enum Condition {
 }
 
 /// An argument of a CAL.
-#[derive(Drop)]
 pub enum Argument {
     Input { word: Named, operand: Operand },
     Output { word: Named, target: Named },
 }
 
+impl Drop for Argument {
+    fn drop(self) {
+        match self {
+            Argument::Input {
+                word: _word,
+                operand: _operand,
+            } => {}
+            Argument::Output {
+                word: _word,
+                target: _target,
+            } => {}
+        }
+    }
+}
+
 /// An instruction (3.2.1). A parenthesis that opens and one that closes are instructions of their own.
-#[derive(Drop)]
 pub enum Instruction {
     Load {
         negated: bool,
@@ -213,20 +290,79 @@ pub enum Instruction {
     },
 }
 
+impl Drop for Instruction {
+    fn drop(self) {
+        match self {
+            Instruction::Load {
+                negated: _negated,
+                operand: _operand,
+            } => {}
+            Instruction::Store {
+                store: _store,
+                target: _target,
+            } => {}
+            Instruction::Not => {}
+            Instruction::Operate {
+                operator: _operator,
+                operand: _operand,
+            } => {}
+            Instruction::Defer {
+                operator: _operator,
+                first: _first,
+            } => {}
+            Instruction::Evaluate => {}
+            Instruction::Jump {
+                condition: _condition,
+                label: _label,
+            } => {}
+            Instruction::Return {
+                condition: _condition,
+            } => {}
+            Instruction::Call {
+                condition: _condition,
+                instance: _instance,
+                arguments: _arguments,
+            } => {}
+            Instruction::Invoke {
+                function: _function,
+                operands: _operands,
+            } => {}
+        }
+    }
+}
+
 /// An instruction at the place of its operator, with the labels that name it.
-#[derive(Drop)]
 pub struct Step {
     pub labels: Items<Named>,
     pub place: Place,
     pub instruction: Instruction,
 }
 
+impl Drop for Step {
+    fn drop(self) {
+        let Step {
+            labels: _labels,
+            place: _place,
+            instruction: _instruction,
+        } = self;
+    }
+}
+
 /// The body of a unit. The labels at its end name the implicit RET, at the place of the END word.
-#[derive(Drop)]
 pub struct Body {
     pub steps: Items<Step>,
     pub last_labels: Items<Named>,
     pub end: Place,
+}
+
+impl Drop for Body {
+    fn drop(self) {
+        let Body {
+            steps: _steps,
+            last_labels: _last_labels,
+            end: _end,
+        } = self;
+    }
 }
 
 /// The kinds of program organization units (2.5).
@@ -239,7 +375,6 @@ pub enum UnitKind {
 }
 
 /// A program organization unit.
-#[derive(Drop)]
 pub struct Unit {
     pub place: Place,
     pub kind: UnitKind,
@@ -251,6 +386,21 @@ pub struct Unit {
     pub body: Body,
 }
 
+impl Drop for Unit {
+    fn drop(self) {
+        let Unit {
+            place: _place,
+            kind: _kind,
+            name: _name,
+            inputs: _inputs,
+            outputs: _outputs,
+            variables: _variables,
+            externals: _externals,
+            body: _body,
+        } = self;
+    }
+}
+
 /// CARS, FLOORS or SLOTS, at the place of its number.
 #[derive(Clone, Copy)]
 pub struct Size {
@@ -259,7 +409,6 @@ pub struct Size {
 }
 
 /// A TASK line (2.7.2). The interval is in milliseconds.
-#[derive(Drop)]
 pub struct Task {
     pub place: Place,
     pub name: Named,
@@ -267,8 +416,18 @@ pub struct Task {
     pub priority: i64,
 }
 
+impl Drop for Task {
+    fn drop(self) {
+        let Task {
+            place: _place,
+            name: _name,
+            interval: _interval,
+            priority: _priority,
+        } = self;
+    }
+}
+
 /// A PROGRAM line: an instance of a program type, and its task.
-#[derive(Drop)]
 pub struct ProgramLine {
     pub place: Place,
     pub name: Named,
@@ -276,8 +435,18 @@ pub struct ProgramLine {
     pub program: Named,
 }
 
+impl Drop for ProgramLine {
+    fn drop(self) {
+        let ProgramLine {
+            place: _place,
+            name: _name,
+            task: _task,
+            program: _program,
+        } = self;
+    }
+}
+
 /// A configuration (2.7.1).
-#[derive(Drop)]
 pub struct Config {
     pub units: Items<Unit>,
     pub cars: Size,
@@ -289,4 +458,20 @@ pub struct Config {
     pub tasks: Items<Task>,
     pub programs: Items<ProgramLine>,
     pub end_resource: Place,
+}
+
+impl Drop for Config {
+    fn drop(self) {
+        let Config {
+            units: _units,
+            cars: _cars,
+            floors: _floors,
+            slots: _slots,
+            globals_place: _globals_place,
+            globals: _globals,
+            tasks: _tasks,
+            programs: _programs,
+            end_resource: _end_resource,
+        } = self;
+    }
 }
