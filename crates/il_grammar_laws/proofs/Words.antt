@@ -35,6 +35,7 @@ word_is text i j l = record {
       omega (arith, within.0, within.1, length-take (j - i) (drop i text), length-drop i text, long);
   no_point = λ c. let e = sym (ap is_word_byte c.2) ∙ name_byte text i j c.0 46 l.1 c.1 in cc;
   no_bracket = λ c. let e = sym (ap is_word_byte c.2) ∙ name_byte text i j c.0 91 l.1 c.1 in cc;
+  no_feed = λ c. let e = sym (ap is_word_byte c.2) ∙ name_byte text i j c.0 10 l.1 c.1 in cc;
 }
 
 -- what holds of each entry of a table holds of the one that is found

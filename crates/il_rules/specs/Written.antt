@@ -12,11 +12,12 @@ use Rattle.il_spec.specs.Grammar.{greatest_depth}
 use Rattle.il_rules.specs.Names.{Spelling, is_program}
 use Rattle.il_rules.specs.Declarations.{unit_names, names_in, all_declarations}
 
--- a name is a word: it has neither a point nor a bracket, and is not empty (2.1.2)
+-- a name is a word: it has neither a point, nor a bracket, nor a line feed, and is not empty (2.1.2)
 pub record IsWord (name : Spelling) : Type 0 where
   pub some : name ≢ []
   pub no_point : ¬ Contains name 46
   pub no_bracket : ¬ Contains name 91
+  pub no_feed : ¬ Contains name 10
 
 -- A tree as a text can spell it.
 pub record IsWritten (c : Config) : Type 0 where

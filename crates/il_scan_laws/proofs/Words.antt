@@ -30,7 +30,7 @@ lacks x t = all_of (λ y. not (y == x)) t
 
 abbrev pub is_word : Text → Bool
 is_word [] = false
-is_word (x ∷ xs) = lacks 46 (x ∷ xs) && lacks 91 (x ∷ xs)
+is_word (x ∷ xs) = lacks 46 (x ∷ xs) && lacks 91 (x ∷ xs) && lacks 10 (x ∷ xs)
 
 differs : (x : ℕ) → not (x == x) ≡ true → ⊥
 differs x e = grind (arith, nat_tests)
@@ -39,9 +39,13 @@ pub word_by : (t : Text) → is_word t ≡ true → IsWord t
 word_by [] e = cc
 word_by (x ∷ xs) e = record {
   some = λ f. cc;
-  no_point = λ among. differs 46 (contains_all (λ y. not (y == 46)) (x ∷ xs) 46 (first_of_two _ _ e) among);
-  no_bracket = λ among. differs 91 (contains_all (λ y. not (y == 91)) (x ∷ xs) 91 (second_of_two (lacks 46 (x ∷ xs)) _ e) among);
+  no_point = λ among. differs 46 (contains_all (λ y. not (y == 46)) (x ∷ xs) 46 (first_of_two (lacks 46 (x ∷ xs)) (lacks 91 (x ∷ xs)) marks) among);
+  no_bracket = λ among. differs 91 (contains_all (λ y. not (y == 91)) (x ∷ xs) 91 (second_of_two (lacks 46 (x ∷ xs)) (lacks 91 (x ∷ xs)) marks) among);
+  no_feed = λ among. differs 10 (contains_all (λ y. not (y == 10)) (x ∷ xs) 10 (second_of_two (lacks 46 (x ∷ xs) && lacks 91 (x ∷ xs)) (lacks 10 (x ∷ xs)) e) among);
 }
+  where
+    marks : (lacks 46 (x ∷ xs) && lacks 91 (x ∷ xs)) ≡ true
+    marks = first_of_two (lacks 46 (x ∷ xs) && lacks 91 (x ∷ xs)) (lacks 10 (x ∷ xs)) e
 
 -- BLOCKS
 

@@ -24,7 +24,7 @@ use Rattle.il_rules.specs.declared.names.StandardBlock.{StandardBlock}
 use Rattle.il_rules.specs.Declarations.{Admitted, ScalarsAlone, ScalarsAndArrays, admitted_variables, admits_arrays, result_types, types_in, unit_types, written_types, unit_declarations, type_numbers, bounds_numbers, subrange_numbers, unless, has_value}
 use Rattle.il_rules.specs.Faults.{HasNoFault, Broken, Declaring}
 use Rattle.il_rules.specs.Names.{or_else, with_forms}
-use Rattle.il_rules.specs.Written.{IsWritten}
+use Rattle.il_rules.specs.Written.{IsWord, IsWritten}
 use Rattle.il_rules.proofs.Every.{all_of, every_block, first_of_two, second_of_two}
 use Rattle.il_table.specs.NameMap.{Text}
 use Rattle.il_run.specs.declared.value.Value.{Value}
@@ -48,7 +48,6 @@ use Rattle.il_layout.proofs.Tested.{of_blocks}
 use Rattle.lift_trace.specs.Reading.{Without, IsOneLine}
 use Rattle.lift_trace.proofs.Bytes.{each_append}
 use Rattle.lift_state.specs.Variables.{IsNarrow}
-use Rattle.lift_state_laws.specs.Laws.{HasNamesInLines}
 use Rattle.lift_state_laws.proofs.Lined.{has_none, without_by, both_without, signed_without}
 
 -- NUMBERS OF 64 BITS
@@ -150,6 +149,15 @@ module _ (c : Config) (unbroken : HasNoFault (Broken Declaring c)) where
 
 -- DECLARED NAMES
 
+-- a byte that a list doesn't contain doesn't stand there
+lacks_byte : (stop : ℕ) (xs : List ℕ) → (Contains xs stop → ⊥) → Without stop xs
+lacks_byte stop [] none = tt
+lacks_byte stop (x ∷ xs) none = (λ same. none (subst (λ (y : ℕ). Contains (x ∷ xs) y) same (at_head x xs)), lacks_byte stop xs (λ has. none (in_tail x xs stop has)))
+
+-- a word is on one line
+word_in_line : (name : Text) → IsWord name → IsOneLine name
+word_in_line name word = lacks_byte 10 name word.no_feed
+
 -- a variable whose name is on one line, of a type whose values have 64 bits
 pub record IsFit (e : Entity) : Type 0 where
   pub one : IsOneLine e.name
@@ -175,7 +183,7 @@ words_in_line b = all_of (λ w. has_none 10 w.0) (all_words b)
 all_in_line : (b : StandardBlock) → words_in_line b ≡ true
 all_in_line = every_block words_in_line refl
 
-module _ (c : Config) (unbroken : HasNoFault (Broken Declaring c)) (written : IsWritten c) (lines : HasNamesInLines c) where
+module _ (c : Config) (unbroken : HasNoFault (Broken Declaring c)) (written : IsWritten c) where
   -- what a unit declares
   module _ (u : ProgramUnit) (among : Contains c.units u) where
     listed_fit : (ds : List Declaration) (a : Admitted) → ((d : Declaration) → Contains ds d → Contains (unit_declarations u) d) → ((d : Declaration) → Contains ds d → Contains (written_types c) (a, d.declared))
@@ -183,7 +191,7 @@ module _ (c : Config) (unbroken : HasNoFault (Broken Declaring c)) (written : Is
     listed_fit ds a more typed e has =
         let l = of_entities ds e has in
         subst (λ (x : Entity). IsOneLine x.name × IsNarrowForm x.form) l.same (
-          lines.names u l.name_of among (in_flat_map (λ (d : Declaration). d.names) (unit_declarations u) l.declaration l.name_of (more l.declaration l.among) l.listed),
+          word_in_line l.name_of.name (written.names u l.name_of among (in_flat_map (λ (d : Declaration). d.names) (unit_declarations u) l.declaration l.name_of (more l.declaration l.among) l.listed)),
           type_narrow c unbroken a l.declaration.declared (typed l.declaration l.among),
         )
 
@@ -210,7 +218,7 @@ module _ (c : Config) (unbroken : HasNoFault (Broken Declaring c)) (written : Is
         by Program is = tt
         by (Function s place) is = (
           record {
-            one = lines.headings u among;
+            one = word_in_line u.name.name (written.headings u among);
             narrow = type_narrow c unbroken ScalarsAlone (record { place = place; form = ScalarForm s })
                 (result_typed c u (ScalarsAlone, record { place = place; form = ScalarForm s }) among (subst (λ (k : UnitKind). Contains (result_types k) (ScalarsAlone, record { place = place; form = ScalarForm s })) (sym is) (at_head _ [])));
             short = tt;
@@ -234,7 +242,7 @@ module _ (c : Config) (unbroken : HasNoFault (Broken Declaring c)) (written : Is
           let l = of_entities c.globals e has in
           let of : IsOneLine e.name × IsNarrowForm e.form =
           subst (λ (x : Entity). IsOneLine x.name × IsNarrowForm x.form) l.same (
-            lines.globals l.name_of (in_flat_map (λ (d : Declaration). d.names) c.globals l.declaration l.name_of l.among l.listed),
+            word_in_line l.name_of.name (written.globals l.name_of (in_flat_map (λ (d : Declaration). d.names) c.globals l.declaration l.name_of l.among l.listed)),
             type_narrow c unbroken ScalarsAndArrays l.declaration.declared
                 (Contains-append_right (flat_map unit_types c.units) (types_in ScalarsAndArrays c.globals) _ (in_map (λ (d : Declaration). (ScalarsAndArrays, d.declared)) c.globals l.declaration l.among)),
           ) in
@@ -293,16 +301,16 @@ all_at P [] all k x at = absurd (cc)
 all_at P (y ∷ xs) all zero x at = subst P (same_Some y x at) all.0
 all_at P (y ∷ xs) all (suc k) x at = all_at P xs all.1 k x at
 
-module _ (c : Config) (unbroken : HasNoFault (Broken Declaring c)) (written : IsWritten c) (lines : HasNamesInLines c) where
+module _ (c : Config) (unbroken : HasNoFault (Broken Declaring c)) (written : IsWritten c) where
   inner_fit : (n : ℕ) (path block : Text) → IsOneLine path → AreFitCells (instance_cells n c path block)
-  inner_fit = instances_fit c (block_fit c unbroken written lines)
+  inner_fit = instances_fit c (block_fit c unbroken written)
 
   functions_fit : (us : List ProgramUnit) → ((v : ProgramUnit) → Contains us v → Contains c.units v) → AreFitCells (functions_cells c us)
   functions_fit [] among = tt
   functions_fit (u ∷ us) among =
       let here = among u (at_head u us) in
       each_append IsFitCell (function_cells c u) (functions_cells c us)
-      (entities_fit (instance_cells deepest c) (inner_fit deepest) u.name.name (function_entities u) (lines.headings u here) (function_fit c unbroken written lines u here))
+      (entities_fit (instance_cells deepest c) (inner_fit deepest) u.name.name (function_entities u) (word_in_line u.name.name (written.headings u here)) (function_fit c unbroken written u here))
       (functions_fit us (λ v h. among v (in_tail u us v h)))
 
   -- the slots of a task's variables are such
@@ -310,11 +318,11 @@ module _ (c : Config) (unbroken : HasNoFault (Broken Declaring c)) (written : Is
   own_cells_fit u among =
       all_at IsFitCell (own_cells c u)
       (each_append IsFitCell (functions_cells c (task_functions c u)) _ (functions_fit (task_functions c u) (λ v has. (of_task_functions c u v has).0))
-      (entities_fit (instance_cells deepest c) (inner_fit deepest) [] (own_entities u) tt (own_fit c unbroken written lines u among)))
+      (entities_fit (instance_cells deepest c) (inner_fit deepest) [] (own_entities u) tt (own_fit c unbroken written u among)))
 
   -- and those of globals
   pub global_cells_fit : (k : ℕ) (x : Cell) → slice_get (global_cells c) k ≡ Some x → IsFitCell x
-  global_cells_fit = all_at IsFitCell (global_cells c) (entities_fit (instance_cells zero c) (inner_fit zero) [] (entities c.globals) tt (globals_fit c unbroken written lines))
+  global_cells_fit = all_at IsFitCell (global_cells c) (entities_fit (instance_cells zero c) (inner_fit zero) [] (entities c.globals) tt (globals_fit c unbroken written))
 
 -- NO POINT IN THE PATH OF A GLOBAL
 

@@ -46,7 +46,7 @@ use Rattle.lift_state.specs.Text.{cars_lines, slots_lines, image_lines, calls_li
 use Rattle.lift_state.specs.Heads.{variables_at, TakesHead}
 use Rattle.lift_state.specs.Variables.{reached, left, TakesGlobals, TakesTasks}
 use Rattle.lift_state.specs.Reading.{IsState}
-use Rattle.lift_state_laws.specs.Laws.{Is32Bytes, HasNamesInLines, with_declared, begun, AreDeclaredAlone, StateReadsBack, GroupReadsBack}
+use Rattle.lift_state_laws.specs.Laws.{Is32Bytes, with_declared, begun, AreDeclaredAlone, StateReadsBack, GroupReadsBack}
 use Rattle.lift_state_laws.proofs.Lined.{lined, lined_first, no_byte}
 use Rattle.lift_state_laws.proofs.HeadBack.{head_back}
 use Rattle.lift_state_laws.proofs.VarsBack.{IsFree, AreKept, IsOnWay, variables_back, begin_way}
@@ -104,7 +104,7 @@ get_restricted start end q = get_entries_at end start.list q
 
 -- A TASK
 
-module _ (c : Config) (sound : IsSound c) (lines : HasNamesInLines c) where
+module _ (c : Config) (sound : IsSound c) where
   module _ (t : ℕ) (u : ProgramUnit) (is : IsTaskOf c t u) (few : (sizes_of c).cars ≤ 255) (x : TaskState) (holds : HoldsTask c u x.variables) (closed : x.tickets ≡ None) where
     accepted : IsAccepted c u
     accepted = task_accepted c sound t u is
@@ -127,7 +127,7 @@ module _ (c : Config) (sound : IsSound c) (lines : HasNamesInLines c) where
     kept_one : AreKept (task_path t) x.variables (own_cells c u)
     kept_one k y at =
         let has = value_of x.variables (task_scalars c u) (y.path, y.scalar) holds.each (own_declared c u accepted y (at_contains (own_cells c u) k y at)) in
-        let fit = own_cells_fit c sound.declared sound.written lines u (program_among c u accepted) k y at in
+        let fit = own_cells_fit c sound.declared sound.written u (program_among c u accepted) k y at in
         record { value = has.0; is = has.1; of = has.2; narrow = fit.narrow has.0 has.2; one = path_line t y.path (let within = is.within in omega (arith, within, few)) fit.one }
 
     task_kept : IsTaskKept c t u x
@@ -193,7 +193,7 @@ below : (z : ℤ) → pos 1 ≤ℤ z → z ≤ℤ pos 255 → nat_abs z ≤ 255
 below (pos n) h k = omega (arith, ints, k)
 below (negsuc n) h k = absurd (omega (arith, ints, h))
 
-module _ (c : Config) (sound : IsSound c) (lines : HasNamesInLines c) (w : World) (rests : RestsWell c w) where
+module _ (c : Config) (sound : IsSound c) (w : World) (rests : RestsWell c w) where
   abbrev g : Group
   g = w.group
 
@@ -215,7 +215,7 @@ module _ (c : Config) (sound : IsSound c) (lines : HasNamesInLines c) (w : World
       by (Some u) is None h = none_some u (sym (h within) ∙ is)
       by (Some u) is (Some x) h =
           let same : u ≡ h.unit = same_Some u h.unit (sym is ∙ h.is.program) in
-          subst (λ (v : ProgramUnit). IsTaskKept c t v x) (sym same) (task_kept c sound lines t h.unit h.is few x h.variables h.scanning)
+          subst (λ (v : ProgramUnit). IsTaskKept c t v x) (sym same) (task_kept c sound t h.unit h.is few x h.variables h.scanning)
 
   -- THE HEAD
 
@@ -235,14 +235,14 @@ module _ (c : Config) (sound : IsSound c) (lines : HasNamesInLines c) (w : World
 
   globals_are : AreKept global_path g.globals (global_cells c)
   globals_are k y at =
-      let has = value_of g.globals (global_scalars c) (y.path, y.scalar) rests.holds.ranges.globals (global_declared c sound lines k y at) in
-      let fit = global_cells_fit c sound.declared sound.written lines k y at in
+      let has = value_of g.globals (global_scalars c) (y.path, y.scalar) rests.holds.ranges.globals (global_declared c sound k y at) in
+      let fit = global_cells_fit c sound.declared sound.written k y at in
       record { value = has.0; is = has.1; of = has.2; narrow = fit.narrow has.0 has.2; one = fit.one }
 
   globals_same : (k : ℕ) (y : Cell) → slice_get (global_cells c) k ≡ Some y → get kept y.path ≡ get g.globals y.path
   globals_same k y at =
       get_restricted (opening_globals c) g.globals y.path
-      ∙ ap (λ b. cond b (get g.globals y.path) None) (opens_globals c sound lines y.path (in_map (λ (p : Text × Scalar). p.0) (global_scalars c) (y.path, y.scalar) (global_declared c sound lines k y at)))
+      ∙ ap (λ b. cond b (get g.globals y.path) None) (opens_globals c sound y.path (in_map (λ (p : Text × Scalar). p.0) (global_scalars c) (y.path, y.scalar) (global_declared c sound k y at)))
 
   globals_free : (k : ℕ) (y : Cell) → slice_get (global_cells c) k ≡ Some y → IsFree y.path tasks
   globals_free k y at =
@@ -251,7 +251,7 @@ module _ (c : Config) (sound : IsSound c) (lines : HasNamesInLines c) (w : World
   globals_way : IsOnWay global_path (opening_globals c) g.globals kept (opening_globals c) (global_cells c)
   globals_way =
       begin_way global_path (opening_globals c) g.globals kept (global_cells c)
-      (λ q none. let opens = globals_none c sound lines q none in opens ∙ sym (get_restricted (opening_globals c) g.globals q ∙ ap (λ o. cond (is_some o) (get g.globals q) None) opens))
+      (λ q none. let opens = globals_none c sound q none in opens ∙ sym (get_restricted (opening_globals c) g.globals q ∙ ap (λ o. cond (is_some o) (get g.globals q) None) opens))
 
   globals_back : (rest : List ℕ) (line last : ℕ) → last ≡ line + length (globals_lines c g.globals) → TakesGlobals c (lined (last_lines c g) rest) line (reached kept (lined tasks rest) last)
   globals_back rest line last count =
@@ -291,9 +291,9 @@ module _ (c : Config) (sound : IsSound c) (lines : HasNamesInLines c) (w : World
       }
 
 pub state_reads_back : StateReadsBack
-state_reads_back c sound lines digest own w rests rest = state_is c sound lines w rests digest own rest
+state_reads_back c sound digest own w rests rest = state_is c sound w rests digest own rest
 
 pub group_reads_back : GroupReadsBack
-group_reads_back c sound lines digest own w rests alone rest =
-    subst (λ (values : Values). IsState c digest (lined (state_lines c digest w) rest) (begun (record w.group { globals = values }) rest (length (state_lines c digest w) + 1))) (declared_are c sound lines w.group.globals alone)
-    (state_is c sound lines w rests digest own rest)
+group_reads_back c sound digest own w rests alone rest =
+    subst (λ (values : Values). IsState c digest (lined (state_lines c digest w) rest) (begun (record w.group { globals = values }) rest (length (state_lines c digest w) + 1))) (declared_are c sound w.group.globals alone)
+    (state_is c sound w rests digest own rest)

@@ -2,9 +2,6 @@
 use Rattle.std.specs.Prelude.{◌≡◌, ℕ, ◌+◌, ◌<◌, List, ◌++◌, length, map, Contains, Some, Result}
 use Rattle.std.specs.List.{AllByRecursion}
 use Rattle.il_spec.specs.declared.tree.Config.{Config}
-use Rattle.il_spec.specs.declared.tree.Named.{Named}
-use Rattle.il_spec.specs.declared.tree.Unit.{Unit as ProgramUnit}
-use Rattle.il_rules.specs.Declarations.{unit_names, names_in}
 use Rattle.il_table.specs.NameMap.{Text, get}
 use Rattle.il_run.specs.declared.value.Value.{Value}
 use Rattle.il_run.specs.Ranges.{global_scalars}
@@ -13,7 +10,6 @@ use Rattle.il_run.specs.State.{Values}
 use Rattle.lift_spec.specs.World.{World, Group}
 use Rattle.lift_run_laws.specs.Accepted.{IsSound}
 use Rattle.lift_run_laws.specs.Holding.{RestsWell}
-use Rattle.lift_trace.specs.Reading.{IsOneLine}
 use Rattle.lift_trace.specs.Text.{text_of_lines}
 use Rattle.lift_state.specs.declared.fault.Wrong.{Wrong}
 use Rattle.lift_state.specs.Text.{state_lines}
@@ -28,12 +24,6 @@ pub record Is32Bytes (digest : List ℕ) : Type 0 where
   pub count : length digest ≡ 32
   pub each : AllByRecursion (λ byte. byte < 256) digest
 
--- No name has a line feed: names are identifiers (2.1.2).
-pub record HasNamesInLines (c : Config) : Type 0 where
-  pub headings : (u : ProgramUnit) → Contains c.units u → IsOneLine u.name.name
-  pub names : (u : ProgramUnit) (n : Named) → Contains c.units u → Contains (unit_names u) n → IsOneLine n.name
-  pub globals : (n : Named) → Contains (names_in c.globals) n → IsOneLine n.name
-
 -- a group without values of globals that the configuration doesn't declare (own rule)
 abbrev pub with_declared : Config → Group → Group
 with_declared c g = record g { globals = restricted (opening_globals c) g.globals }
@@ -46,7 +36,7 @@ begun group rest lines = record { group = group; rest = rest; lines = lines }
 -- The number of its last line is one more than the number of its lines, since `LIFTTRACE 3` comes first (own rule).
 abbrev pub StateReadsBack : Type 0
 StateReadsBack =
-    (c : Config) → IsSound c → HasNamesInLines c → (digest : List ℕ) → Is32Bytes digest → (w : World) → RestsWell c w → (rest : List ℕ)
+    (c : Config) → IsSound c → (digest : List ℕ) → Is32Bytes digest → (w : World) → RestsWell c w → (rest : List ℕ)
     → IsState c digest (text_of_lines (state_lines c digest w) ++ rest) (begun (with_declared c w.group) rest (length (state_lines c digest w) + 1))
 
 -- the globals are those of the configuration, and no others (own rule)
@@ -56,5 +46,5 @@ AreDeclaredAlone c values = (q : Text) (v : Value) → get values q ≡ Some v �
 -- if a world has the declared globals alone, the group that reads back is its own (own rule)
 abbrev pub GroupReadsBack : Type 0
 GroupReadsBack =
-    (c : Config) → IsSound c → HasNamesInLines c → (digest : List ℕ) → Is32Bytes digest → (w : World) → RestsWell c w → AreDeclaredAlone c w.group.globals → (rest : List ℕ)
+    (c : Config) → IsSound c → (digest : List ℕ) → Is32Bytes digest → (w : World) → RestsWell c w → AreDeclaredAlone c w.group.globals → (rest : List ℕ)
     → IsState c digest (text_of_lines (state_lines c digest w) ++ rest) (begun w.group rest (length (state_lines c digest w) + 1))

@@ -10,7 +10,7 @@ pub fn state_reads_once()
 
 /// A law: the state of a world that rests, with any text after it, reads back as the group of the world. Image, calls,
 /// variables of tasks and declared globals are the same, to the letter. Other globals have no line in a state.
-/// The configuration is sound, no name in it has a line feed, and the digest has 32 bytes.
+/// The configuration is sound, and the digest has 32 bytes.
 pub fn state_reads_back()
     ensures { StateReadsBack }
 {}
