@@ -1,18 +1,11 @@
 -- Where a group begins.
-use Rattle.std.proofs.Common.{◌≡◌, ℕ, zero, suc, ◌⊎◌, inl, inr, List, Option, Some, None, Result, Ok, Err, IfOk, IfErr, replicate, refl, sym, ap, ◌∙◌, subst}
-use Rattle.std.specs.Prelude.{slice_get, is_some}
+use Rattle.std.proofs.Common.{◌≡◌, inl, Result, Ok, Err, IfOk}
 use Rattle.il_spec.specs.declared.tree.Config.{Config}
-use Rattle.lift_spec.specs.World.{World, scan_at, opening}
-use Rattle.lift_run_laws.specs.Runs.{Begins}
-use Rattle.lift_run_laws.proofs.Openings.{no_scan_open}
+use Rattle.lift_spec.specs.World.{World, opening}
 use Rattle.lift_journal.specs.Closed.{IsClosed}
+use Rattle.lift_blackbox.proofs.Beginning.{begins_closed}
 
--- no scan is open where runs begin
-pub begins_closed : (c : Config) (w : World) → Begins c w → IsClosed w
-begins_closed c w (inl is) j = ap (λ (x : World). is_some (scan_at x j)) is ∙ ap is_some (no_scan_open c j)
-begins_closed c w (inr rests) j = ap is_some (rests.closed j)
-
--- nor at the opening
+-- no scan is open at the opening
 pub opening_closed : (c : Config) (w : World) → w ≡ opening c → IsClosed w
 opening_closed c w is = begins_closed c w (inl is)
 
@@ -20,11 +13,3 @@ pub if_ok_map : {A E : Type 0} (P Q : A → Type 0) (r : Result A E) → ((x : A
 if_ok_map P Q (Ok x) go p = go x p
 if_ok_map P Q (Err e) go p = tt
 
-pub if_err_map : {A E : Type 0} (P Q : E → Type 0) (r : Result A E) → ((e : E) → P e → Q e) → IfErr r P → IfErr r Q
-if_err_map P Q (Ok x) go p = tt
-if_err_map P Q (Err e) go p = go e p
-
--- of two facts about an answer both hold
-pub if_ok_both : {A E : Type 0} (P Q R : A → Type 0) (r : Result A E) → ((x : A) → P x → Q x → R x) → IfOk r P → IfOk r Q → IfOk r R
-if_ok_both P Q R (Ok x) go p q = go x p q
-if_ok_both P Q R (Err e) go p q = tt

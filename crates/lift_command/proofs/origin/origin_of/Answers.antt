@@ -1,7 +1,7 @@
 use Rattle.std.proofs.Common.{◌≡◌}
 use Rattle.lift_spec.specs.World.{opening}
 use Rattle.lift_journal.specs.Closed.{IsClosed}
-use Rattle.lift_command.specs.declared.origin.Origin.{Origin}
+use Rattle.lift_blackbox.specs.declared.resume.Origin.{Origin}
 use Rattle.lift_command.proofs.Beginning.{opening_closed, if_ok_map}
 use Rattle.lift_command.proofs.origin.origin_of.Goals as goal
 

@@ -3,7 +3,7 @@ use Rattle.lift_spec.specs.declared.trace.TraceEvent.{TraceEvent}
 use Rattle.lift_journal.specs.Rounds.{IsRefusedAt}
 use Rattle.lift_serve.specs.Going.{whole_events, last_task, whole_front}
 use Rattle.lift_serve.proofs.Whole.{refused_within}
-use Rattle.lift_command.proofs.origin.gone_on.Goals as goal
+use Rattle.lift_blackbox.proofs.resume.gone_on.Goals as goal
 
 pub fault_of_event-requires : goal.fault_of_event-requires
 fault_of_event-requires c =

@@ -2,10 +2,10 @@ use Rattle.std.proofs.Common.{◌≡◌, ◌∙◌, subst, inr, None}
 use Rattle.il_machine.specs.Scanning.{Program}
 use Rattle.lift_host.specs.declared.status.Fault.{Fault}
 use Rattle.lift_serve.specs.Going.{GoesOn}
-use Rattle.lift_command.specs.declared.origin.Origin.{Origin}
-use Rattle.lift_command.specs.Origins.{IsLeft, IsNotLeft, LeadsNowhere, unfinished}
-use Rattle.lift_command.proofs.Beginning.{begins_closed, if_ok_map, if_err_map, if_ok_both}
-use Rattle.lift_command.proofs.origin.left.Goals as goal
+use Rattle.lift_blackbox.specs.declared.resume.Origin.{Origin}
+use Rattle.lift_blackbox.specs.Resuming.{IsLeft, IsNotLeft, LeadsNowhere, unfinished}
+use Rattle.lift_blackbox.proofs.Beginning.{begins_closed, if_ok_map, if_err_map, if_ok_both}
+use Rattle.lift_blackbox.proofs.resume.resume.Goals as goal
 
 pub gone_on-requires-clause-closed : goal.gone_on-requires-clause-closed
 gone_on-requires-clause-closed c = begins_closed c.args.verified.config c.in_ok-beginning.beginning.world.world c.in_ok-beginning.ensures.rests
