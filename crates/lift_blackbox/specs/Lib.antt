@@ -1,2 +1,5 @@
 pub mod Heads
 pub mod Resuming
+pub mod Keeping
+pub mod Ending
+pub mod Between

@@ -12,6 +12,7 @@ use Rattle.lift_host.specs.Requests.{explains, flags_of, plain_words}
 use Rattle.lift_host.specs.Servings.{Serves}
 use Rattle.lift_shell.specs.Runs.{HasPrinted, Held, IsAnswer, stream}
 use Rattle.lift_host.specs.declared.sink.Memory.{Memory}
+use Rattle.lift_host.specs.Files.{Made, unmade}
 use Rattle.lift_host.specs.Writes.{Writes}
 use Rattle.lift_command.specs.declared.memory_trace.MemoryTrace.{MemoryTrace}
 use Rattle.lift_command.specs.declared.program.Outcome.{Outcome}
@@ -63,4 +64,4 @@ traced_by trace = if trace.is_created then Some trace.bytes.items else None
 
 -- what a run over sinks in memory has left is the answer of its words: of a standard input that has these bytes, and where no trace was created before
 abbrev pub HasLeft : (List ℕ → ℕ → List ℕ → Type 0) → (List ℕ → ℕ → ReadFault → Type 0) → List (List ℕ) → List ℕ → Outcome → Type 0
-HasLeft reads fails words input left = (rest : Option (List ℕ)) × IsProgramAnswer reads fails false words (streams (Some input) rest (taken_by left.out) (taken_by left.err) (held_trace None (traced_by left.trace) (λ name sync. false) (λ name sync. left.trace.is_created)) left.trace.failed) left.status
+HasLeft reads fails words input left = (rest : Option (List ℕ)) × IsProgramAnswer reads fails false words (streams (Some input) rest (taken_by left.out) (taken_by left.err) (held_trace None (traced_by left.trace) unmade (record { is = λ name sync. left.trace.is_created; ended = None; missed = None })) left.trace.failed) left.status

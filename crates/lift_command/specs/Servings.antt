@@ -20,8 +20,13 @@ use Rattle.lift_shell.specs.Runs.{Held, stream, written, IsExplained, IsUnreadBe
 use Rattle.lift_host.specs.Writes.{AppendsFront, Writes}
 use Rattle.il_reasons.specs.Reasons.{IsReason}
 use Rattle.lift_messages.specs.Places.{IsTextShownBelow}
-use Rattle.lift_serve.specs.declared.group.Halt.{Halt}
-use Rattle.lift_serve.specs.declared.group.Halt.TheVariants as halt
+use Rattle.lift_blackbox.specs.declared.group.Halt.{Halt}
+use Rattle.lift_blackbox.specs.declared.group.Halt.TheVariants as halt
+use Rattle.lift_blackbox.specs.declared.keep.KeepFault.{KeepFault}
+use Rattle.lift_blackbox.specs.declared.keep.KeepFault.TheVariants as unkept
+use Rattle.lift_blackbox.specs.Ending.{Final, IsEnded, IsHalted}
+use Rattle.lift_blackbox.specs.Keeping.{IsNew, Spot}
+use Rattle.lift_host.specs.Files.{Made}
 use Rattle.lift_serve.specs.declared.input.Came.{Came}
 use Rattle.lift_serve.specs.declared.input.Came.TheVariants.{Whole, Ended, TooLong, Failed}
 use Rattle.lift_serve.specs.declared.said.WrongLine.{WrongLine}
@@ -30,8 +35,6 @@ use Rattle.lift_serve.specs.declared.serve.Stop.{Stop}
 use Rattle.lift_serve.specs.declared.serve.Stop.TheVariants as stop
 use Rattle.lift_serve.specs.declared.server.ServeFault.{ServeFault}
 use Rattle.lift_serve.specs.declared.server.ServeFault.TheVariants as fault
-use Rattle.lift_serve.specs.Ending.{IsEnded, IsHalted}
-use Rattle.lift_serve.specs.Serving.{AtStop, at_stop}
 use Rattle.lift_command.specs.declared.origin.Prepared.{Prepared}
 use Rattle.lift_command.specs.Loaded.{IsLoaded}
 use Rattle.lift_command.specs.Origins.{IsNoOrigin, IsPrepared}
@@ -67,22 +70,29 @@ fault_of_stop stop.Lines line = Refused 70 line
 abbrev pub shown_line : ℕ → ℕ
 shown_line line = if nat_lt line 4294967295 then line else 4294967295
 
+-- a line that asks for another trace and was not answered
+abbrev pub fault_of_keep : KeepFault → Fault
+fault_of_keep unkept.Memory = NoMemory
+fault_of_keep unkept.Trace = CannotWrite
+fault_of_keep unkept.Output = CannotWrite
+
 -- the fault of a group that came to no end
 abbrev pub fault_of_halt : Halt → Fault
 fault_of_halt halt.Memory = NoMemory
 fault_of_halt halt.Head = CannotWrite
 fault_of_halt (halt.Stop s) = fault_of_stop s.stop (shown_line s.line)
+fault_of_halt (halt.Keep why) = fault_of_keep why
 
 -- THE TRACE
 
--- a trace before and after: its bytes, where it tells them, and as the file of which name it was made, whose pieces wait for the disk or don't
+-- a trace before and after: its bytes, where it tells them, and as which files it was made
 pub record TraceHeld : Type 0 where
   pub before : Option (List ℕ)
   pub after : Option (List ℕ)
-  pub was : List ℕ → Bool → Bool
-  pub is : List ℕ → Bool → Bool
+  pub was : Made
+  pub is : Made
 
-abbrev pub held_trace : Option (List ℕ) → Option (List ℕ) → (List ℕ → Bool → Bool) → (List ℕ → Bool → Bool) → TraceHeld
+abbrev pub held_trace : Option (List ℕ) → Option (List ℕ) → Made → Made → TraceHeld
 held_trace before after was is = record { before = before; after = after; was = was; is = is }
 
 -- no file was made, and nothing was written to it
@@ -90,14 +100,9 @@ pub record IsUntouched (t : TraceHeld) : Type 0 where
   pub unwritten : t.after ≡ t.before
   pub unmade : t.is ≡ t.was
 
--- nothing is in it
-abbrev pub IsNew : Option (List ℕ) → Type 0
-IsNew None = Unit {0}
-IsNew (Some bytes) = bytes ≡ []
-
 -- It was made as the file of this name, empty. One that tells its bytes at the end told them from there on.
-pub record IsMade (name : List ℕ) (sync : Bool) (t : TraceHeld) (created : Option (List ℕ)) : Type 0 where
-  pub named : t.is name sync ≡ true
+pub record IsMade (name : List ℕ) (sync : Bool) (t : TraceHeld) (created : Option (List ℕ)) (made : Made) : Type 0 where
+  pub named : made.is name sync ≡ true
   pub empty : IsNew created
   pub told : created ≡ None → t.after ≡ None
 
@@ -118,9 +123,13 @@ abbrev pub between : {T I O E : Type 0} → Sink T → Read I → Sink O → Sin
 between trace input out err t u i j o p e f =
     streams (input.remaining i) (input.remaining j) (written out o p) (written err e f) (held_trace (trace.contents t) (trace.contents u) (trace.made t) (trace.made u)) (trace.has_failed u)
 
--- how they are where serving stops
-abbrev pub stop_of : Streams → AtStop
-stop_of s = at_stop s.left s.out.failed s.trace_failed
+-- where a group begins to serve from this world, with so many events in the head of its trace, once that is created
+abbrev pub start_of : Streams → World → ℕ → Option (List ℕ) → Made → Spot
+start_of s w count created made = record { world = w; count = count; heard = 0; left = s.input; out = s.out.before; trace = created; made = made }
+
+-- how they are in the end
+abbrev pub final_of : Streams → Final
+final_of s = record { left = s.left; out = s.out.after; trace = s.trace.after; made = s.trace.is; out_failed = s.out.failed; trace_failed = s.trace_failed }
 
 -- these bytes are taken of the input
 abbrev pub Takes : Streams → List ℕ → Type 0
@@ -137,9 +146,9 @@ pub record NothingServed (s : Streams) : Type 0 where
   pub unanswered : s.out.after ≡ s.out.before
 
 -- a trace that is wanted is made as the file of its name; otherwise no file is made, and nothing is known of what is put there
-abbrev pub IsCreated : Option Tracing → TraceHeld → Option (List ℕ) → Type 0
-IsCreated None t created = (created ≡ t.before) × (t.is ≡ t.was)
-IsCreated (Some tracing) t created = IsMade tracing.name.now tracing.sync t created
+abbrev pub IsCreated : Option Tracing → TraceHeld → Option (List ℕ) → Made → Type 0
+IsCreated None t created made = (created ≡ t.before) × (made ≡ t.was)
+IsCreated (Some tracing) t created made = IsMade tracing.name.now tracing.sync t created made
 
 -- WHAT IT GIVES
 
@@ -152,19 +161,19 @@ pub record TellsBoth (s : Streams) (first second : List ℕ) : Type 0 where
 
 -- Of a group that is ready: its trace was wanted and could not be created; or its lines were answered and traced, to the end or up to a stop. It is told how many events were dropped,
 -- and the stop's fault.
-pub data IsPreparedAnswer (p : Prepared) (tracing : Option Tracing) (s : Streams) (status : Status) : Type 0 where
-  uncreated : (wanted : Tracing) → tracing ≡ Some wanted → s.trace_failed ≡ true → NothingServed s → TellsBoth s (string_bytes p.told) (message_of CannotWrite) → status ≡ with_status.CannotWrite → IsPreparedAnswer p tracing s status
-  ended : (created : Option (List ℕ)) → IsCreated tracing s.trace created
-      → IsEnded p.world.program.config p.world.world (string_bytes p.head.text) p.head.events (Takes s) (Appends s.out.before s.out.after) (Appends created s.trace.after)
-      → Tells s (string_bytes p.told) → status ≡ with_status.Done → IsPreparedAnswer p tracing s status
-  halted : (created : Option (List ℕ)) → IsCreated tracing s.trace created → (halt : Halt)
-      → IsHalted p.world.program.config p.world.world (string_bytes p.head.text) p.head.events (stop_of s) (Takes s) s.out.before s.out.after (Appends created s.trace.after) (AppendsFront created s.trace.after) halt
-      → TellsBoth s (string_bytes p.told) (message_of (fault_of_halt halt)) → status ≡ status_of (fault_of_halt halt) → IsPreparedAnswer p tracing s status
+pub data IsPreparedAnswer (p : Prepared) (source : List ℕ) (tracing : Option Tracing) (s : Streams) (status : Status) : Type 0 where
+  uncreated : (wanted : Tracing) → tracing ≡ Some wanted → s.trace_failed ≡ true → NothingServed s → TellsBoth s (string_bytes p.told) (message_of CannotWrite) → status ≡ with_status.CannotWrite → IsPreparedAnswer p source tracing s status
+  ended : (created : Option (List ℕ)) → (made : Made) → IsCreated tracing s.trace created made
+      → IsEnded p.world.program.config source (string_bytes p.head.text) (start_of s p.world.world p.head.events created made) (final_of s)
+      → Tells s (string_bytes p.told) → status ≡ with_status.Done → IsPreparedAnswer p source tracing s status
+  halted : (created : Option (List ℕ)) → (made : Made) → IsCreated tracing s.trace created made → (halt : Halt)
+      → IsHalted p.world.program.config source (string_bytes p.head.text) (start_of s p.world.world p.head.events created made) (final_of s) halt
+      → TellsBoth s (string_bytes p.told) (message_of (fault_of_halt halt)) → status ≡ status_of (fault_of_halt halt) → IsPreparedAnswer p source tracing s status
 
 -- Of a configuration whose text is the source: there is nowhere to begin, and its fault is told; or its group is ready, at its opening or where a trace ends, and serves.
 pub data IsLoadedAnswer (reads : List ℕ → ℕ → List ℕ → Type 0) (fails : List ℕ → ℕ → ReadFault → Type 0) (c : Config) (source : List ℕ) (tracing : Option Tracing) (s : Streams) (status : Status) : Type 0 where
   nowhere : (why : Fault) → IsNoOrigin reads fails c source (continued_name tracing) why → NothingServed s → Tells s (message_of why) → status ≡ status_of why → IsLoadedAnswer reads fails c source tracing s status
-  somewhere : (p : Prepared) → p.world.program.config ≡ c → IsPrepared reads c source (continued_name tracing) p → IsPreparedAnswer p tracing s status → IsLoadedAnswer reads fails c source tracing s status
+  somewhere : (p : Prepared) → p.world.program.config ≡ c → IsPrepared reads c source (continued_name tracing) p → IsPreparedAnswer p source tracing s status → IsLoadedAnswer reads fails c source tracing s status
 
 -- below a refusal of FILE its place, its line, and what is told of it
 abbrev pub IsRefusalBelow : List ℕ → List ℕ → Fault → List ℕ → Type 0

@@ -1,6 +1,6 @@
 // A trace on disk.
 
-use crate::serving::TraceSink;
+use lift_blackbox::sink::TraceSink;
 use lift_host::sink::{Sink, SinkFault};
 use std::fs::{File, Files, OpenFile, OpenOptions};
 use std::io;
@@ -30,21 +30,18 @@ impl<'r, R: Files> DiskTrace<'r, R> {
 }
 
 impl<R: Files> Sink for DiskTrace<'_, R> {
-    ghost use Rattle.std.specs.Prelude.{◌&&◌, not, if◌then◌else◌};
+    ghost use Rattle.std.specs.Prelude.{◌&&◌, not, if◌then◌else◌, None};
+    ghost use Rattle.lift_host.specs.Files.{Made};
 
     ghost has_failed = { λ t. t.failed };
 
-    ghost made = { λ t name sync. t.is_created && (if sync then t.sync else not t.sync) };
+    ghost made = { λ t. record { is = λ name sync. t.is_created && (if sync then t.sync else not t.sync); ended = None; missed = None } };
 
     fn put(&mut self, piece: &[u8]) -> Result<usize, SinkFault> {
         let Some(file) = &mut self.file else {
             return Ok(piece.len());
         };
-        let written = match file.write_all(piece) {
-            Ok(()) if self.sync => file.sync_data(),
-            written => written,
-        };
-        match written {
+        match write(file, piece, self.sync) {
             Ok(()) => Ok(piece.len()),
             Err(_) => {
                 self.failed = true;
@@ -67,6 +64,41 @@ impl<R: Files> TraceSink for DiskTrace<'_, R> {
                 self.failed = true;
                 Err(SinkFault)
             }
+        }
+    }
+
+    fn turn(&mut self, name: &str, head: &[u8], last: &[u8]) -> Result<bool, SinkFault> {
+        let Some(file) = &mut self.file else {
+            return Ok(false);
+        };
+        let Ok(next) = begun(self.rt, name, head, self.sync) else {
+            return Ok(false);
+        };
+        if write(file, last, self.sync).is_err() {
+            self.failed = true;
+            return Err(SinkFault);
+        }
+        self.file = Some(next);
+        Ok(true)
+    }
+}
+
+// Writes a piece; with `sync` it is on the disk then.
+fn write<W: Write + OpenFile>(file: &mut W, piece: &[u8], sync: bool) -> io::Result<()> {
+    match file.write_all(piece) {
+        Ok(()) if sync => file.sync_data(),
+        written => written,
+    }
+}
+
+// A new file with a head; or none, where that can't be written.
+fn begun<R: Files>(rt: &R, name: &str, head: &[u8], sync: bool) -> io::Result<R::File> {
+    let mut file = created(rt, name, sync)?;
+    match write(&mut file, head, sync) {
+        Ok(()) => Ok(file),
+        Err(error) => {
+            rt.remove_file(name)?;
+            Err(error)
         }
     }
 }

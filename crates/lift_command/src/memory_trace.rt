@@ -3,14 +3,15 @@
 ghost use Rattle.std.specs.Prelude.{◌≡◌, false, option_map};
 ghost use Rattle.lift_command.specs.Programs.{traced_by};
 
-use crate::serving::TraceSink;
+use lift_blackbox::sink::TraceSink;
 use lift_host::sink::{Sink, SinkFault};
 use std::alloc::Global;
 
-/// A trace in memory, once it is created.
+/// A trace in memory, once it is created. Where it goes on in another, it has that alone.
 #[derive(Drop)]
 pub struct MemoryTrace {
     bytes: Vec<u8>,
+    alloc: Global,
     is_created: bool,
     failed: bool,
 }
@@ -23,6 +24,7 @@ impl MemoryTrace {
     {
         MemoryTrace {
             bytes: Vec::new(alloc),
+            alloc,
             is_created: false,
             failed: false,
         }
@@ -42,12 +44,13 @@ impl MemoryTrace {
 
 impl Sink for MemoryTrace {
     ghost use Rattle.std.specs.Prelude.{Some, None, if◌then◌else◌};
+    ghost use Rattle.lift_host.specs.Files.{Made};
 
     ghost contents = { λ t. if t.is_created then Some t.bytes.items else None };
 
     ghost has_failed = { λ t. t.failed };
 
-    ghost made = { λ t name sync. t.is_created };
+    ghost made = { λ t. record { is = λ name sync. t.is_created; ended = None; missed = None } };
 
     fn put(&mut self, piece: &[u8]) -> Result<usize, SinkFault> {
         if !self.is_created {
@@ -66,5 +69,21 @@ impl TraceSink for MemoryTrace {
         self.bytes.clear();
         self.is_created = true;
         Ok(())
+    }
+
+    fn turn(&mut self, _name: &str, head: &[u8], last: &[u8]) -> Result<bool, SinkFault> {
+        if !self.is_created {
+            return Ok(false);
+        }
+        let mut next = Vec::new(self.alloc);
+        if next.extend_from_slice(head).is_err() {
+            return Ok(false);
+        }
+        if self.bytes.extend_from_slice(last).is_err() {
+            self.failed = true;
+            return Err(SinkFault);
+        }
+        self.bytes = next;
+        Ok(true)
     }
 }

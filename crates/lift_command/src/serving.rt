@@ -8,19 +8,22 @@ ghost use Rattle.lift_shell.specs.Runs.{IsExplained};
 ghost use Rattle.lift_host.specs.Servings.{continued_name};
 ghost use Rattle.lift_host.specs.Writes.{Writes};
 ghost use Rattle.lift_host.specs.declared.serving.Tracing.{Tracing as TracingOf};
-ghost use Rattle.lift_command.specs.Servings.{IsNew, IsUntouched, held_trace, between, IsServeAnswer, IsTextAnswer, IsLoadedAnswer, IsPreparedAnswer, IsRefusalBelow, IsRefusedAnswer, IsUnreadAnswer, fault_of_halt, fault_of_input, fault_of_line, fault_of_stop, fault_of_wrong, shown_line};
+ghost use Rattle.lift_blackbox.specs.Keeping.{IsNew};
+ghost use Rattle.lift_command.specs.Servings.{IsUntouched, held_trace, between, IsServeAnswer, IsTextAnswer, IsLoadedAnswer, IsPreparedAnswer, IsRefusalBelow, IsRefusedAnswer, IsUnreadAnswer, fault_of_halt, fault_of_input, fault_of_keep, fault_of_line, fault_of_stop, fault_of_wrong, shown_line};
 
 use crate::liftplc::loaded;
 use crate::origin::{Prepared, prepare};
 use il_machine::Verified;
 use il_reasons::reason;
+use lift_blackbox::group::{Halt, Head, serve_group};
+use lift_blackbox::keep::KeepFault;
+use lift_blackbox::sink::TraceSink;
 use lift_host::files::{Cause, ReadFault, TextFiles};
 use lift_host::serving::{Serving, Tracing};
 use lift_host::sink::{Sink, SinkFault, put_all};
 use lift_host::status::{Fault, LineFault, Status};
 use lift_messages::place::text_below;
 use lift_messages::show::tell;
-use lift_serve::group::{Halt, Head, serve_group};
 use lift_serve::input::Came;
 use lift_serve::said::WrongLine;
 use lift_serve::serve::Stop;
@@ -29,17 +32,6 @@ use lift_shell::explained::Explained;
 use lift_shell::run::{MOST_BYTES, unread_explained};
 use std::alloc::{AllocError, Global};
 use std::io::Read;
-
-/// Where events are written as they come. Until it is created, what is put there is lost.
-pub trait TraceSink: Sink {
-    /// Creates the trace of a name, which must not be there. With `sync` each piece waits for the disk.
-    fn create(&mut self, name: &str, sync: bool) -> Result<(), SinkFault>
-        ensures made { OnOk result (Self.made self.new name.now sync ≡ true) }
-        ensures empty { OnOk result (IsNew (Self.contents self.new)) }
-        ensures failed { OnErr result (Self.has_failed self.new ≡ true) }
-        ensures unmade { OnErr result ((Self.contents self.new ≡ Self.contents self.old)
-            × (Self.made self.new ≡ Self.made self.old)) };
-}
 
 /// Serves the configuration of FILE: each line of the input is answered before the next is read, and its events are written to the trace, if one
 /// is wanted, before anything of it happens. Where serving ends otherwise than by `E`, the stop is the last line that is written, unless the
@@ -201,7 +193,9 @@ fn serve_loaded<F: TextFiles, T: TraceSink, I: Read, O: Sink, E: Sink>(
         out.old out.new err.old err.new) result }
 {
     match prepare(alloc, verified, source, from_of(tracing), files) {
-        Ok(prepared) => serve_prepared(alloc, prepared, tracing, trace, input, out, err),
+        Ok(prepared) => {
+            serve_prepared(alloc, prepared, source, tracing, trace, input, out, err)
+        }
         Err(fault) => end_with(&fault, err),
     }
 }
@@ -220,6 +214,7 @@ fn end_with<E: Sink>(fault: &Fault, err: &mut E) -> Status
 fn serve_prepared<T: TraceSink, I: Read, O: Sink, E: Sink>(
     alloc: Global,
     prepared: Prepared,
+    source: &[u8],
     tracing: Option<Tracing<'_>>,
     trace: &mut T,
     input: &mut I,
@@ -227,7 +222,7 @@ fn serve_prepared<T: TraceSink, I: Read, O: Sink, E: Sink>(
     err: &mut E,
 ) -> Status
     requires { IsClosed prepared.world.world }
-    ensures { IsPreparedAnswer prepared tracing.entry (between T.Sink I.Read O.Sink E.Sink
+    ensures { IsPreparedAnswer prepared source.now tracing.entry (between T.Sink I.Read O.Sink E.Sink
         trace.old trace.new input.old input.new out.old out.new err.old err.new) result }
 {
     let Prepared { world, head, told } = prepared;
@@ -238,7 +233,8 @@ fn serve_prepared<T: TraceSink, I: Read, O: Sink, E: Sink>(
     }
     let events = head.events;
     let text = head.text.as_bytes();
-    match serve_group(alloc, world, Head { text, events }, input, out, trace) {
+    let head = Head { text, events };
+    match serve_group(alloc, world, head, source, input, out, trace) {
         Ok(()) => Status::Done,
         Err(halt) => end_with(&fault_of_halt(halt), err),
     }
@@ -248,7 +244,7 @@ fn serve_prepared<T: TraceSink, I: Read, O: Sink, E: Sink>(
 fn create<T: TraceSink>(tracing: Option<Tracing<'_>>, trace: &mut T) -> Result<(), SinkFault>
     ensures none { OnOk result (tracing.entry ≡ None → trace.new ≡ trace.old) }
     ensures made { OnOk result ((wanted : TracingOf) → tracing.entry ≡ Some wanted
-        → (T.made trace.new wanted.name.now wanted.sync ≡ true)
+        → ((T.made trace.new).is wanted.name.now wanted.sync ≡ true)
         × IsNew (T.contents trace.new)) }
     ensures wanted { OnErr result ((wanted : TracingOf) × (tracing.entry ≡ Some wanted)) }
     ensures failed { OnErr result (T.has_failed trace.new ≡ true) }
@@ -269,6 +265,17 @@ fn fault_of_halt(halt: Halt) -> Fault
         Halt::Memory => Fault::NoMemory,
         Halt::Head => Fault::CannotWrite,
         Halt::Stop(stopped) => fault_of_stop(stopped.stop, shown_line(stopped.line)),
+        Halt::Keep(fault) => fault_of_keep(fault),
+    }
+}
+
+// The fault of a line that asks for another trace and was not answered.
+fn fault_of_keep(fault: KeepFault) -> Fault
+    ensures { result ≡ fault_of_keep fault }
+{
+    match fault {
+        KeepFault::Memory => Fault::NoMemory,
+        KeepFault::Trace | KeepFault::Output => Fault::CannotWrite,
     }
 }
 

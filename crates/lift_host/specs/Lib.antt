@@ -1,4 +1,5 @@
 pub mod CallsFile
+pub mod Files
 pub mod Messages
 pub mod Requests
 pub mod Presses

@@ -2,6 +2,7 @@
 
 ghost use Rattle.std.specs.Prelude.{◌≡◌, ◌≤◌, ◌<◌, ℕ, List, [], Bool, true, false, Option, Some, None, length, IfOk, OnOk, OnErr};
 ghost use Rattle.std.specs.Io.KnownBytes.{Appends, WriteAppends};
+ghost use Rattle.lift_host.specs.Files.{Made, unmade};
 ghost use Rattle.lift_host.specs.Writes.{AppendsFront};
 
 use std::alloc::Global;
@@ -21,8 +22,8 @@ pub trait Sink {
     /// Whether a piece was refused.
     ghost has_failed: { Self → Bool };
 
-    /// Whether it was made as the file of this name, and whether each of its pieces waits for the disk. A stream wasn't made as any file.
-    ghost made: { Self → List ℕ → Bool → Bool } = { λ _ name sync. false };
+    /// As which files it was made. A stream wasn't made as any.
+    ghost made: { Self → Made } = { λ _. unmade };
 
     /// Takes a piece from its front on, at least one byte of a piece that isn't empty, and answers
     /// how many bytes it took.

@@ -4,7 +4,6 @@ pub mod Tracing
 pub mod Serving
 pub mod Lines
 pub mod Replaying
-pub mod Ending
 pub mod Few
 pub mod Whole
 pub mod Refilling

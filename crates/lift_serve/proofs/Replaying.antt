@@ -27,8 +27,7 @@ use Rattle.lift_serve.specs.declared.said.Said.{Said}
 use Rattle.lift_serve.specs.declared.said.Said.TheVariants.{Round, Press, End}
 use Rattle.lift_serve.specs.Saying.{events_of, scan_events, is_call}
 use Rattle.lift_serve.specs.Answers.{Acts}
-use Rattle.lift_serve.specs.Ending.{behind_head}
-use Rattle.lift_serve.specs.Serving.{IsServed, Serves, is_end, traced_text}
+use Rattle.lift_serve.specs.Serving.{IsServed, Serves, behind_head, is_end, traced_text}
 
 -- THE FIRST OF SOME EVENTS
 

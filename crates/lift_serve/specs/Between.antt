@@ -6,15 +6,15 @@ use Rattle.il_spec.specs.declared.tree.Config.{Config}
 use Rattle.lift_host.specs.declared.sink.Sink.{Ghosts as Sink}
 use Rattle.lift_host.specs.Writes.{AppendsFront}
 use Rattle.lift_spec.specs.World.{World}
-use Rattle.lift_serve.specs.declared.group.Halt.{Halt}
 use Rattle.lift_serve.specs.declared.said.Said.{Said}
+use Rattle.lift_serve.specs.declared.serve.Pause.{Pause}
+use Rattle.lift_serve.specs.declared.serve.Pause.TheVariants.{End, Asked}
 use Rattle.lift_serve.specs.declared.serve.Stopped.{Stopped}
 use Rattle.lift_serve.specs.declared.server.Server.{Server}
 use Rattle.lift_serve.specs.declared.server.ServeFault.{ServeFault}
 use Rattle.lift_serve.specs.declared.server.ServeFault.TheVariants as fault
 use Rattle.lift_serve.specs.Answers.{Acts}
-use Rattle.lift_serve.specs.Serving.{Hears, Unheard, is_end, IsServed, IsStopped, at_stop}
-use Rattle.lift_serve.specs.Ending.{IsEnded, IsHalted}
+use Rattle.lift_serve.specs.Serving.{Hears, Unheard, is_end, IsServed, IsAsked, IsStopped, at_stop}
 
 -- the configuration of a server, and its world
 abbrev pub config_of : Server → Config
@@ -56,16 +56,13 @@ abbrev pub ServesAll : {R O T : Type 0} → Read R → Sink O → Sink T → Ser
 ServesAll reader out trace before after r s o p t u =
     IsServed (config_of before) (world_of before) before.count (world_of after) after.count (IsRead reader r s) (IsPut out o p) (IsPut trace t u)
 
+-- Lines are served, behind so many, up to the end or to the one that asks for another trace.
+abbrev pub Pauses : {R O T : Type 0} → Read R → Sink O → Sink T → Server → Server → ℕ → List ℕ → R → R → O → O → T → T → Pause → Type 0
+Pauses reader out trace before after heard line r s o p t u End = ServesAll reader out trace before after r s o p t u
+Pauses reader out trace before after heard line r s o p t u (Asked number) =
+    IsAsked (config_of before) (world_of before) before.count (world_of after) after.count (IsRead reader r s) (IsPut out o p) (IsPut trace t u) heard line number
+
 -- serving stops before the end
-abbrev pub Stops : {R O T : Type 0} → Read R → Sink O → Sink T → Server → R → R → O → O → T → T → Stopped → Type 0
-Stops reader out trace before r s o p t u stopped =
-    IsStopped (config_of before) (world_of before) before.count (at_stop (reader.remaining s) (out.has_failed p) (trace.has_failed u)) (IsRead reader r s) (IsPut out o p) (IsPutFront out o p) (IsPut trace t u) (IsPutFront trace t u) stopped.stop stopped.line
-
--- a group comes to its end, from this world, with this head of its trace, in which so many events stand
-abbrev pub EndsFrom : {R O T : Type 0} → Read R → Sink O → Sink T → Config → World → List ℕ → ℕ → R → R → O → O → T → T → Type 0
-EndsFrom reader out trace c w head before r s o p t u = IsEnded c w head before (IsRead reader r s) (IsPut out o p) (IsPut trace t u)
-
--- a group halts before
-abbrev pub HaltsFrom : {R O T : Type 0} → Read R → Sink O → Sink T → Config → World → List ℕ → ℕ → R → R → O → O → T → T → Halt → Type 0
-HaltsFrom reader out trace c w head before r s o p t u =
-    IsHalted c w head before (at_stop (reader.remaining s) (out.has_failed p) (trace.has_failed u)) (IsRead reader r s) (out.contents o) (out.contents p) (IsPut trace t u) (IsPutFront trace t u)
+abbrev pub Stops : {R O T : Type 0} → Read R → Sink O → Sink T → Server → ℕ → R → R → O → O → T → T → Stopped → Type 0
+Stops reader out trace before heard r s o p t u stopped =
+    IsStopped (config_of before) (world_of before) before.count heard (at_stop (reader.remaining s) (out.has_failed p) (trace.has_failed u)) (IsRead reader r s) (IsPut out o p) (IsPutFront out o p) (IsPut trace t u) (IsPutFront trace t u) stopped.stop stopped.line

@@ -2,7 +2,6 @@ pub mod Saying
 pub mod Serving
 pub mod Answers
 pub mod Coming
-pub mod Ending
 pub mod Between
 pub mod Going
 pub mod Waiting

@@ -1,5 +1,5 @@
 -- What a line that comes in says (own rules).
-use Rattle.std.specs.Prelude.{◌≡◌, ℕ, Bool, ◌&&◌, not, ◌==◌, if◌then◌else◌, List, [], ◌∷◌, ◌++◌, map, flat_map, codes}
+use Rattle.std.specs.Prelude.{◌≡◌, ◌≢◌, ℕ, Bool, ◌&&◌, not, ◌==◌, if◌then◌else◌, List, [], ◌∷◌, ◌++◌, map, flat_map, codes}
 use Rattle.il_spec.specs.declared.tree.Config.{Config}
 use Rattle.lift_spec.specs.declared.calls.Call.{Call}
 use Rattle.lift_spec.specs.declared.image.Fields.{Fields}
@@ -43,6 +43,12 @@ pub record Says (c : Config) (line : List ℕ) (said : Said) : Type 0 where
 abbrev pub SaysNothing : Config → List ℕ → WrongLine → Type 0
 SaysNothing c line NoLine = (said : Said) → IsSpelled c said → line ≡ said_line said → ⊥
 SaysNothing c line OutOfRange = (fields : Fields) × IsSpelled c (Round fields) × (line ≡ said_line (Round fields)) × (FieldsInRange (sizes_of c) fields → ⊥)
+
+-- a line asks for another trace, of this name
+pub record AsksFor (line name : List ℕ) : Type 0 where
+  pub some : name ≢ []
+  pub text : IsUtf8 name
+  pub spelled : line ≡ codes "K " ++ name
 
 -- THE BLACK BOX
 

@@ -1,10 +1,12 @@
 -- A group behind lines, and what each line leaves (own rules).
 use Rattle.std.specs.Prelude.{◌≡◌, ◌≢◌, ◌≤◌, ◌<◌, ℕ, ◌+◌, Bool, Option, true, false, if◌then◌else◌, List, [], ◌∷◌, ◌++◌, length, map, flat_map, string_bytes}
 use Rattle.il_spec.specs.declared.tree.Config.{Config}
+use Rattle.lift_spec.specs.declared.trace.TraceEvent.{TraceEvent}
 use Rattle.lift_spec.specs.declared.trace.TraceEvent.TheVariants as traced
 use Rattle.lift_spec.specs.declared.image.Sizes.{Sizes}
 use Rattle.lift_spec.specs.World.{World}
-use Rattle.lift_trace.specs.Text.{last_line, text_of_lines}
+use Rattle.lift_trace.specs.declared.format.Format.TheVariants.{Two}
+use Rattle.lift_trace.specs.Text.{line_of, last_line, text_of_lines}
 use Rattle.lift_trace.specs.Writing.{events_text}
 use Rattle.lift_journal.specs.Rounds.{floors_rising, tasks_in_order}
 use Rattle.std.specs.Io.KnownBytes.{Appends, IsAtEnd}
@@ -20,7 +22,7 @@ use Rattle.lift_serve.specs.declared.serve.Stop.{Stop}
 use Rattle.lift_serve.specs.declared.serve.Stop.TheVariants.{Line, Input, Lines}
 use Rattle.lift_serve.specs.declared.input.Came.TheVariants.{Whole, Ended, TooLong, Failed}
 use Rattle.lift_serve.specs.Coming.{greatest_line}
-use Rattle.lift_serve.specs.Saying.{Says, SaysNothing, events_of, scan_events, is_call}
+use Rattle.lift_serve.specs.Saying.{AsksFor, Says, SaysNothing, events_of, scan_events, is_call}
 use Rattle.lift_serve.specs.Answers.{stop_line, greatest_answer, Acts}
 
 -- what holds of every server: no scan is open, and it has the texts of its group
@@ -82,6 +84,10 @@ Unheard c line w count out_failed trace_failed Out OutFront Trace TraceFront fau
 Unheard c line w count out_failed trace_failed Out OutFront Trace TraceFront fault.Memory = (said : Said) × Says c line said × Out [] × TraceFront (traced_text c said count)
 Unheard c line w count out_failed trace_failed Out OutFront Trace TraceFront fault.Full = (said : Said) × Says c line said × (most_events < count + length (events_of c said)) × Out [] × Trace []
 
+-- what stands behind the head of a trace, in which so many events stand: the lines of further events, and the last line
+abbrev pub behind_head : ℕ → List TraceEvent → List ℕ
+behind_head before events = text_of_lines (map (line_of Two) events ++ last_line (before + length events) ∷ [])
+
 -- ALL LINES
 
 -- Lines lead from a world to another, each of them as it says, which is not the end; they are answered so, one behind the other, and so much is traced of them.
@@ -106,7 +112,7 @@ most_lines = 18446744073709551614
 -- Why serving stopped, behind so many lines: the next line was whole and was not answered; none came whole, and nothing of it was traced or answered: the input ended, the
 -- line was too long, or the reader failed; or no line more can be counted.
 abbrev pub IsStoppedBy : Config → World → ℕ → ℕ → AtStop → (List ℕ → Type 0) → (List ℕ → Type 0) → (List ℕ → Type 0) → (List ℕ → Type 0) → (List ℕ → Type 0) → Stop → Type 0
-IsStoppedBy c w count heard at Taken Out OutFront Trace TraceFront (Line fault) = (line : List ℕ) × IsOneLine line × Taken (line ++ 10 ∷ []) × Unheard c line w count at.out_failed at.trace_failed Out OutFront Trace TraceFront fault
+IsStoppedBy c w count heard at Taken Out OutFront Trace TraceFront (Line fault) = (line : List ℕ) × IsOneLine line × ((name : List ℕ) → AsksFor line name → ⊥) × Taken (line ++ 10 ∷ []) × Unheard c line w count at.out_failed at.trace_failed Out OutFront Trace TraceFront fault
 IsStoppedBy c w count heard at Taken Out OutFront Trace TraceFront (Input Whole) = ⊥
 IsStoppedBy c w count heard at Taken Out OutFront Trace TraceFront (Input Ended) = (line : List ℕ) × IsOneLine line × Taken line × IsAtEnd at.left × Out [] × Trace []
 IsStoppedBy c w count heard at Taken Out OutFront Trace TraceFront (Input TooLong) = (line : List ℕ) × (more : ℕ) × IsOneLine line × (length line ≡ greatest_line) × (more ≢ 10) × Taken (line ++ more ∷ []) × Out [] × Trace []
@@ -129,13 +135,27 @@ pub record IsServed (c : Config) (w : World) (count : ℕ) (v : World) (next : �
   pub answered : Out (text ++ answer)
   pub traced : Trace (events ++ ends)
 
--- Serving stopped, behind lines that were answered and traced, at the line of this number.
-pub record IsStopped (c : Config) (w : World) (count : ℕ) (at : AtStop) (Taken Out OutFront Trace TraceFront : List ℕ → Type 0) (stop : Stop) (number : ℕ) : Type 0 where
+-- Another trace was asked for, of this name: the reader gave these lines and then that one. None of these is the end, and with that one so many came, since so many had come before.
+pub record IsAsked (c : Config) (w : World) (count : ℕ) (v : World) (next : ℕ) (Taken Out Trace : List ℕ → Type 0) (before : ℕ) (last : List ℕ) (number : ℕ) : Type 0 where
   pub lines : List (List ℕ)
-  pub place : number ≡ length lines + 1
+  pub place : number ≡ before + length lines + 1
+  pub few : number ≤ most_lines
+  pub name : List ℕ
+  pub asks : AsksFor last name
+  pub taken : Taken (text_of_lines (lines ++ last ∷ []))
+  pub text : List ℕ
+  pub events : List ℕ
+  pub serves : Serves c lines w count v next text events
+  pub answered : Out text
+  pub traced : Trace events
+
+-- Serving stopped, behind so many lines and then lines that were answered and traced, at the line of this number.
+pub record IsStopped (c : Config) (w : World) (count before : ℕ) (at : AtStop) (Taken Out OutFront Trace TraceFront : List ℕ → Type 0) (stop : Stop) (number : ℕ) : Type 0 where
+  pub lines : List (List ℕ)
+  pub place : number ≡ before + length lines + 1
   pub v : World
   pub next : ℕ
   pub text : List ℕ
   pub events : List ℕ
   pub serves : Serves c lines w count v next text events
-  pub why : IsStoppedBy c v next (length lines) at (λ l. Taken (text_of_lines lines ++ l)) (λ l. Out (text ++ l)) (λ l. OutFront (text ++ l)) (λ l. Trace (events ++ l)) (λ l. TraceFront (events ++ l)) stop
+  pub why : IsStoppedBy c v next (before + length lines) at (λ l. Taken (text_of_lines lines ++ l)) (λ l. Out (text ++ l)) (λ l. OutFront (text ++ l)) (λ l. Trace (events ++ l)) (λ l. TraceFront (events ++ l)) stop

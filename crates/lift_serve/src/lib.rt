@@ -4,7 +4,6 @@
 pub mod act;
 pub mod answer;
 pub mod going;
-pub mod group;
 pub mod input;
 pub mod said;
 pub mod serve;

@@ -1,8 +1,8 @@
 // What a line that comes in says.
 
-ghost use Rattle.std.specs.Prelude.{◌≡◌, ◌↔◌, IsTrue, IfOk, IfErr, IfSome, IfNone, codes};
+ghost use Rattle.std.specs.Prelude.{◌≡◌, ◌↔◌, ℕ, List, IsTrue, IfOk, IfErr, IfSome, IfNone, codes};
 ghost use Rattle.lift_spec.specs.Image.{sizes_of};
-ghost use Rattle.lift_serve.specs.Saying.{IsSpelled, IsTaken, said_line, Says, SaysNothing, is_call};
+ghost use Rattle.lift_serve.specs.Saying.{IsSpelled, IsTaken, said_line, Says, SaysNothing, is_call, AsksFor};
 ghost use Rattle.lift_serve.specs.declared.said.Said.{Said as SaidOf};
 
 use lift_spec::calls::Call;
@@ -58,6 +58,18 @@ pub fn read_said(world: &World, line: &[u8]) -> Result<Said, WrongLine>
         return Err(WrongLine::OutOfRange);
     }
     Ok(said)
+}
+
+/// The name of the trace that a line asks for: `K NAME`.
+pub fn asked_name(line: &[u8]) -> Option<&str>
+    ensures found { IfSome result (λ name. AsksFor line.now name.now) }
+    ensures none { IfNone result ((name : List ℕ) → AsksFor line.now name → ⊥) }
+{
+    let name = line.strip_prefix(b"K ".as_slice())?;
+    if name.is_empty() {
+        return None;
+    }
+    str::from_utf8(name).ok()
 }
 
 fn is_end(line: &[u8]) -> bool

@@ -1,10 +1,11 @@
 // Lines, one behind the other.
 
-ghost use Rattle.std.specs.Prelude.{◌≡◌, ◌≤◌, None, OnOk, IfErr, vec_capacity};
-ghost use Rattle.lift_serve.specs.Serving.{IsServer};
-ghost use Rattle.lift_serve.specs.Between.{ServesAll, Stops};
+ghost use Rattle.std.specs.Prelude.{◌≡◌, ◌≤◌, None, OnOk, IfOk, IfErr, vec_capacity};
+ghost use Rattle.lift_serve.specs.Serving.{IsServer, most_lines};
+ghost use Rattle.lift_serve.specs.Between.{Pauses, Stops};
 
 use crate::input::{Came, next_line};
+use crate::said::asked_name;
 use crate::server::{ServeFault, Server};
 use lift_host::sink::Sink;
 use std::io::Read;
@@ -22,7 +23,7 @@ pub enum Stop {
     Lines,
 }
 
-/// Why serving ends before the end was said, and at which line; they count from 1.
+/// Why serving ends before the end was said, and at which line.
 #[derive(Clone, Copy, Debug, Error)]
 #[error("line {line}: {stop}")]
 pub struct Stopped {
@@ -33,36 +34,54 @@ pub struct Stopped {
 // So many lines can be counted, and the number of the one behind them.
 const MOST_LINES: u64 = 18_446_744_073_709_551_614;
 
-/// Answers each line of a reader before it reads the next, up to the end.
+/// How serving pauses: the end was said, or another trace was asked for by the line of this number.
+#[derive(Clone, Copy, Debug)]
+pub enum Pause {
+    End,
+    Asked(u64),
+}
+
+/// Answers each line of a reader before it reads the next, up to the end, or up to a line that asks for another trace, which is left in `line`.
+/// So many lines came before; they count from 1.
 pub fn serve<R: Read, O: Sink, T: Sink>(
     server: &mut Server,
     line: &mut Vec<u8>,
+    heard: u64,
     reader: &mut R,
     out: &mut O,
     trace: &mut T,
-) -> Result<(), Stopped>
+) -> Result<Pause, Stopped>
     requires server { IsServer server.old }
     requires room { 128 ≤ vec_capacity line.old }
-    ensures served { OnOk result (ServesAll R.Read O.Sink T.Sink server.old server.new reader.old
+    requires few { heard ≤ most_lines }
+    ensures served { IfOk result (Pauses R.Read O.Sink T.Sink server.old server.new heard
+        line.new.items reader.old reader.new out.old out.new trace.old trace.new) }
+    ensures stopped { IfErr result (Stops R.Read O.Sink T.Sink server.old heard reader.old
         reader.new out.old out.new trace.old trace.new) }
-    ensures stopped { IfErr result (Stops R.Read O.Sink T.Sink server.old reader.old reader.new
-        out.old out.new trace.old trace.new) }
     ensures stop { server.new.stop ≡ server.old.stop }
+    ensures server { OnOk result (IsServer server.new) }
+    ensures same { server.new.rounds.world.program ≡ server.old.rounds.world.program }
+    ensures room { 128 ≤ vec_capacity line.new }
     ensures silent { T.contents trace.old ≡ None → T.contents trace.new ≡ None }
     ensures made { T.made trace.new ≡ T.made trace.old }
 {
-    'lines: for before in 0..MOST_LINES {
+    'lines: for before in heard..MOST_LINES {
         let number = before + 1;
         let came = next_line(reader, line);
         match came {
-            Came::Whole => match server.hear(line, out, trace) {
-                Ok(false) => {}
-                Ok(true) => return Ok(()),
-                Err(fault) => return Err(Stopped {
-                    stop: Stop::Line(fault),
-                    line: number,
-                }),
-            },
+            Came::Whole => {
+                if asked_name(line).is_some() {
+                    return Ok(Pause::Asked(number));
+                }
+                match server.hear(line, out, trace) {
+                    Ok(false) => {}
+                    Ok(true) => return Ok(Pause::End),
+                    Err(fault) => return Err(Stopped {
+                        stop: Stop::Line(fault),
+                        line: number,
+                    }),
+                }
+            }
             _ => return Err(Stopped {
                 stop: Stop::Input(came),
                 line: number,
