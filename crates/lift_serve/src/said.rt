@@ -1,6 +1,6 @@
 // What a line that comes in says.
 
-ghost use Rattle.std.specs.Prelude.{◌≡◌, ◌↔◌, ℕ, List, IsTrue, IfOk, IfErr, IfSome, IfNone, codes};
+ghost use Rattle.std.specs.Prelude.{◌≡◌, ◌↔◌, ◌∷◌, ℕ, List, IsTrue, IfOk, IfErr, IfSome, IfNone, codes};
 ghost use Rattle.lift_spec.specs.Image.{sizes_of};
 ghost use Rattle.lift_serve.specs.Saying.{IsSpelled, IsTaken, said_line, Says, SaysNothing, is_call, AsksFor};
 ghost use Rattle.lift_serve.specs.declared.said.Said.{Said as SaidOf};
@@ -60,12 +60,23 @@ pub fn read_said(world: &World, line: &[u8]) -> Result<Said, WrongLine>
     Ok(said)
 }
 
+// What stands behind a byte, which is the first.
+fn behind(text: &[u8], byte: u8) -> Option<&[u8]>
+    ensures found { IfSome result (λ rest. text.now ≡ byte ∷ rest.now) }
+    ensures none { IfNone result ((rest : List ℕ) → text.now ≡ byte ∷ rest → ⊥) }
+{
+    match text.split_first() {
+        Some((first, rest)) if *first == byte => Some(rest),
+        _ => None,
+    }
+}
+
 /// The name of the trace that a line asks for: `K NAME`.
 pub fn asked_name(line: &[u8]) -> Option<&str>
     ensures found { IfSome result (λ name. AsksFor line.now name.now) }
     ensures none { IfNone result ((name : List ℕ) → AsksFor line.now name → ⊥) }
 {
-    let name = line.strip_prefix(b"K ".as_slice())?;
+    let name = behind(behind(line, b'K')?, b' ')?;
     if name.is_empty() {
         return None;
     }

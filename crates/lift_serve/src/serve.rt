@@ -70,10 +70,11 @@ pub fn serve<R: Read, O: Sink, T: Sink>(
         let came = next_line(reader, line);
         match came {
             Came::Whole => {
-                if asked_name(line).is_some() {
+                let text = line.as_slice();
+                if asked_name(text).is_some() {
                     return Ok(Pause::Asked(number));
                 }
-                match server.hear(line, out, trace) {
+                match server.hear(text, out, trace) {
                     Ok(false) => {}
                     Ok(true) => return Ok(Pause::End),
                     Err(fault) => return Err(Stopped {
