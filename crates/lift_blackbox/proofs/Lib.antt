@@ -1,1 +1,3 @@
 pub mod Beginning
+pub mod Following
+pub mod Ending

@@ -64,9 +64,9 @@ pub record IsAskedAt (c : Config) (s t : Spot) (name : List ℕ) : Type 0 where
   pub made : t.made ≡ s.made
 
 -- the events that stand in the trace behind the line: those of the head of the new one, or those of the one that goes on
-abbrev pub count_behind : Spot → Bool → ℕ
-count_behind s true = length (waiting_events s.world)
-count_behind s false = s.count
+abbrev pub count_behind : World → ℕ → Bool → ℕ
+count_behind w count true = length (waiting_events w)
+count_behind w count false = count
 
 -- The trace ends here with its last line, and the group goes on in the trace of this name, which begins with the state of this world; or that can't be made, and the present one goes on. So it
 -- is answered, and nothing else comes of it.
@@ -75,7 +75,7 @@ pub record Goes (c : Config) (source : List ℕ) (s t : Spot) (name : List ℕ) 
   pub again : IsAgain c s.world
   pub answered : Appends s.out t.out (kept_line name kept)
   pub world : t.world ≡ s.world
-  pub count : t.count ≡ count_behind s kept
+  pub count : t.count ≡ count_behind s.world s.count kept
   pub heard : t.heard ≡ s.heard
   pub left : t.left ≡ s.left
 

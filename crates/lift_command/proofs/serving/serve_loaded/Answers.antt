@@ -2,7 +2,7 @@ use Rattle.std.proofs.Common.{refl, sym, ap, subst}
 use Rattle.il_machine.specs.Scanning.{Program}
 use Rattle.lift_command.specs.Servings as s
 use Rattle.lift_command.specs.Origins.{IsNoOrigin, IsPrepared}
-use Rattle.lift_serve.proofs.Ending.{consumes_none}
+use Rattle.lift_blackbox.proofs.Ending.{consumes_none}
 use Rattle.lift_command.proofs.serving.serve_loaded.Goals as goal
 
 pub returns-in-Ok : goal.returns-in-Ok

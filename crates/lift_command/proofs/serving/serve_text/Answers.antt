@@ -1,7 +1,7 @@
 use Rattle.std.proofs.Common.{refl, subst}
 use Rattle.lift_host.specs.Writes.{Writes}
 use Rattle.lift_command.specs.Servings as s
-use Rattle.lift_serve.proofs.Ending.{consumes_none}
+use Rattle.lift_blackbox.proofs.Ending.{consumes_none}
 use Rattle.lift_command.proofs.serving.serve_text.Goals as goal
 
 pub returns-in-Ok : goal.returns-in-Ok
