@@ -12,4 +12,3 @@ opening_closed c w is = begins_closed c w (inl is)
 pub if_ok_map : {A E : Type 0} (P Q : A → Type 0) (r : Result A E) → ((x : A) → P x → Q x) → IfOk r P → IfOk r Q
 if_ok_map P Q (Ok x) go p = go x p
 if_ok_map P Q (Err e) go p = tt
-

@@ -193,9 +193,7 @@ fn serve_loaded<F: TextFiles, T: TraceSink, I: Read, O: Sink, E: Sink>(
         out.old out.new err.old err.new) result }
 {
     match prepare(alloc, verified, source, from_of(tracing), files) {
-        Ok(prepared) => {
-            serve_prepared(alloc, prepared, source, tracing, trace, input, out, err)
-        }
+        Ok(prepared) => { serve_prepared(alloc, prepared, source, tracing, trace, input, out, err) }
         Err(fault) => end_with(&fault, err),
     }
 }
