@@ -1,5 +1,6 @@
 -- Lines, one behind the other, from a reader.
 use Rattle.std.proofs.Common.{◌≡◌, ◌≤◌, ℕ, ◌+◌, arith, Bool, true, false, List, [], ◌∷◌, ◌++◌, length, length-append, append-nil, Option, Some, None, refl, sym, ap, ◌∙◌, subst}
+use Rattle.std.specs.Prelude.{is_some, IfNone}
 use Rattle.std.specs.Io.KnownBytes.{Appends, Consumes}
 use Rattle.std.proofs.lemmas.List.{append_assoc}
 use Rattle.il_spec.specs.declared.tree.Config.{Config}
@@ -32,6 +33,14 @@ taken_more : (a b d : Option (List ℕ)) (lines : List (List ℕ)) (line : List 
 taken_more a b d lines line before here =
     let all : text_of_lines (lines ++ line ∷ []) ≡ text_of_lines lines ++ (line ++ 10 ∷ []) = text_append lines (line ∷ []) ∙ ap (λ l. text_of_lines lines ++ l) (append-nil (line ++ 10 ∷ [])) in
     subst (Consumes a d) (sym all) (consumes_more a b d (text_of_lines lines) (line ++ 10 ∷ []) before here)
+
+pub if_none : {A P : Type 0} (r : Option A) → is_some r ≡ false → IfNone r P → P
+if_none None is p = p
+if_none (Some x) is p = absurd (cc)
+
+-- no other trace is asked for
+pub none_asked : (other line : List ℕ) → other ≡ line → ((name : List ℕ) → AsksFor other name → ⊥) → (name : List ℕ) → AsksFor line name → ⊥
+none_asked other line is none name asks = none name (subst (λ l. AsksFor l name) (sym is) asks)
 
 -- what the lines so far left, behind so many
 abbrev pub SoFar : Config → World → ℕ → ℕ → World → ℕ → ℕ → Option (List ℕ) → Option (List ℕ) → Option (List ℕ) → Option (List ℕ) → Option (List ℕ) → Option (List ℕ) → Type 0

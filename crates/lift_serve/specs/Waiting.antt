@@ -1,5 +1,5 @@
 -- The calls that wait in the hand and on the desk, as events of a trace (own rules).
-use Rattle.std.specs.Prelude.{ℕ, List, ◌++◌, map}
+use Rattle.std.specs.Prelude.{List, ◌++◌, map}
 use Rattle.lift_spec.specs.declared.trace.TraceEvent.{TraceEvent}
 use Rattle.lift_spec.specs.declared.trace.TraceEvent.TheVariants.{Press, Gather}
 use Rattle.lift_spec.specs.Hands.{floors_of}

@@ -1,9 +1,7 @@
-use Rattle.std.proofs.Common.{◌≡◌, sym, ap, ◌∙◌, subst, arith, List, take}
+use Rattle.std.proofs.Common.{ap, ◌∙◌, subst, arith, take}
 use Rattle.std.specs.Prelude.{is_some}
 use Rattle.il_machine.specs.Scanning.{Program, IsRunnable}
-use Rattle.lift_spec.specs.declared.trace.TraceEvent.{TraceEvent}
 use Rattle.lift_spec.specs.World.{World, scan_at}
-use Rattle.lift_journal.specs.Closed.{IsClosed}
 use Rattle.lift_journal.specs.Rounds.{TakesAll}
 use Rattle.lift_runs.proofs.Taking.{none_open}
 use Rattle.lift_serve.specs.Going.{whole_events, last_task}

@@ -1,4 +1,4 @@
-use Rattle.std.proofs.Common.{◌≡◌, ◌≤◌, ℕ, List, length, vec_capacity, None}
+use Rattle.std.proofs.Common.{◌≡◌, ◌≤◌, ◌+◌, ℕ, List, length, vec_capacity, None}
 use Rattle.std.specs.Io.KnownBytes.{Appends, Consumes}
 use Rattle.lift_trace.specs.Text.{text_of_lines}
 use Rattle.lift_serve.specs.Serving.{IsServer, Serves}

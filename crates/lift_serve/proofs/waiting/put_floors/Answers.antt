@@ -2,7 +2,7 @@ use Rattle.std.proofs.Common.{ℕ, refl, List, [], ◌∷◌, ◌++◌, ap, sym,
 use Rattle.std.proofs.lemmas.List.{append_assoc}
 use Rattle.lift_spec.specs.declared.calls.Call.{Call}
 use Rattle.lift_spec.specs.declared.trace.TraceEvent.TheVariants.{Gather}
-use Rattle.lift_spec.specs.Hands.{floors_of, floors_after}
+use Rattle.lift_spec.specs.Hands.{floors_after}
 use Rattle.lift_trace.specs.Writing.{events_text}
 use Rattle.lift_trace.proofs.Writes.{gathers_on, floors_other, one_less, nothing_left, floor_same}
 use Rattle.lift_serve.proofs.waiting.put_floors.Goals as goal

@@ -1,5 +1,4 @@
 use Rattle.std.proofs.Common.{List, ℕ, map, flat_map, sym, ap, ◌∙◌, subst}
-use Rattle.il_machine.specs.Scanning.{Program}
 use Rattle.lift_spec.specs.declared.image.Sizes.{Sizes}
 use Rattle.lift_spec.specs.declared.trace.TraceEvent.TheVariants.{Gather}
 use Rattle.lift_spec.specs.Image.{opening_image}
