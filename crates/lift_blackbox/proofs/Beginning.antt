@@ -1,5 +1,5 @@
 -- Where a group goes on.
-use Rattle.std.proofs.Common.{◌≡◌, inl, inr, Option, Result, Ok, Err, IfOk, IfErr, ap, ◌∙◌}
+use Rattle.std.proofs.Common.{inl, inr, Result, Ok, Err, IfOk, IfErr, ap, ◌∙◌}
 use Rattle.std.specs.Prelude.{is_some}
 use Rattle.il_spec.specs.declared.tree.Config.{Config}
 use Rattle.lift_spec.specs.World.{World, scan_at}

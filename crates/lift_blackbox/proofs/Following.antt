@@ -1,5 +1,5 @@
 -- From trace to trace.
-use Rattle.std.proofs.Common.{◌≡◌, ℕ, ◌++◌, List, [], Option, refl, sym, ap, ◌∙◌, subst}
+use Rattle.std.proofs.Common.{◌≡◌, ℕ, List, Option, Result, Ok, IfOk, refl, ◌∙◌, subst}
 use Rattle.std.specs.Io.KnownBytes.{Appends, Consumes}
 use Rattle.il_spec.specs.declared.tree.Config.{Config}
 use Rattle.il_machine.specs.Scanning.{Program}
@@ -15,6 +15,9 @@ use Rattle.lift_blackbox.specs.declared.keep.KeepFault.TheVariants as unkept
 use Rattle.lift_blackbox.specs.Ending.{Final, IsEndedFrom, IsHaltedFrom, IsUnkept, stop_at}
 use Rattle.lift_blackbox.specs.Keeping.{Spot, IsAskedAt, IsGone, Leads}
 use Rattle.lift_blackbox.specs.Keeping as keeping
+
+pub ok_of : {A E : Type 0} (P : A → Type 0) (r : Result A E) (x : A) → r ≡ Ok x → IfOk r P → P x
+ok_of P r x is p = subst (λ q. IfOk q P) is p
 
 -- where another trace is asked for, by what serving says of it
 pub asked_at : (c : Config) (s t : Spot) (last name : List ℕ) → IsAsked c s.world s.count t.world t.count (Consumes s.left t.left) (Appends s.out t.out) (Appends s.trace t.trace) s.heard last t.heard → AsksFor last name → t.made ≡ s.made → IsAskedAt c s t name

@@ -107,11 +107,13 @@ pub fn serve_group<R: Read, O: Sink, T: TraceSink>(
         put_stop(server.stop.as_bytes(), out);
         return Err(Halt::Head);
     }
-    let served = serve_traces(alloc, &mut server, &mut line, source, reader, out, trace);
-    if let Err(halt) = served {
-        write_stop(halt, server.stop.as_bytes(), out);
+    match serve_traces(alloc, &mut server, &mut line, source, reader, out, trace) {
+        Ok(()) => Ok(()),
+        Err(halt) => {
+            write_stop(halt, server.stop.as_bytes(), out);
+            Err(halt)
+        }
     }
-    served
 }
 
 // Whether the output failed.

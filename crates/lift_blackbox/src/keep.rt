@@ -33,7 +33,7 @@ struct Answers {
     refused: String,
 }
 
-fn answers(alloc: Global, name: &str) -> Result<Answers, AllocError>
+fn both_answers(alloc: Global, name: &str) -> Result<Answers, AllocError>
     ensures kept { IfOk result (λ a. string_bytes a.kept ≡ kept_line name.now true) }
     ensures refused { IfOk result (λ a. string_bytes a.refused ≡ kept_line name.now false) }
 {
@@ -46,7 +46,8 @@ fn answers(alloc: Global, name: &str) -> Result<Answers, AllocError>
 
 impl Answers {
     fn of(&self, kept: bool) -> &str
-        ensures { result.now ≡ string_bytes (if kept then self.now.kept else self.now.refused) }
+        ensures { result.now
+            ≡ (if kept then string_bytes self.now.kept else string_bytes self.now.refused) }
     {
         if kept {
             self.kept.as_str()
@@ -94,7 +95,7 @@ pub fn keep<O: Sink, T: TraceSink>(
     let Ok(end) = end_of(alloc, server.count) else {
         return Err(KeepFault::Memory);
     };
-    let Ok(answers) = answers(alloc, name) else {
+    let Ok(answers) = both_answers(alloc, name) else {
         return Err(KeepFault::Memory);
     };
     let Ok(kept) = trace.turn(name, head.text.as_bytes(), end.as_bytes()) else {

@@ -10,24 +10,24 @@ use lift_host::sink::{Sink, SinkFault};
 pub trait TraceSink: Sink {
     /// Creates the trace of a name, which must not be there. With `sync` each piece waits for the disk, and those of the traces after it do.
     fn create(&mut self, name: &str, sync: bool) -> Result<(), SinkFault>
-        ensures made { OnOk result ((made self.new).is name.now sync ≡ true) }
-        ensures empty { OnOk result (IsNew (contents self.new)) }
-        ensures going { OnOk result (has_failed self.new ≡ has_failed self.old) }
-        ensures failed { OnErr result (has_failed self.new ≡ true) }
-        ensures unmade { OnErr result ((contents self.new ≡ contents self.old)
-            × (made self.new ≡ made self.old)) };
+        ensures made { OnOk result ((Self.made self.new).is name.now sync ≡ true) }
+        ensures empty { OnOk result (IsNew (Self.contents self.new)) }
+        ensures going { OnOk result (Self.has_failed self.new ≡ Self.has_failed self.old) }
+        ensures failed { OnErr result (Self.has_failed self.new ≡ true) }
+        ensures unmade { OnErr result ((Self.contents self.new ≡ Self.contents self.old)
+            × (Self.made self.new ≡ Self.made self.old)) };
 
     /// Creates the trace of another name, which must not be there, with this head; then ends the present one with its last line, and goes on in
     /// the other. Where no trace was created before, or the other can't be created or can't have its head, all stays as it was, and the answer is
     /// false.
     fn turn(&mut self, name: &str, head: &[u8], last: &[u8]) -> Result<bool, SinkFault>
         ensures turns { IfOk result (λ kept. Turns name.now head.now last.now kept
-            (contents self.old) (contents self.new) (made self.old) (made self.new)) }
-        ensures going { OnOk result (has_failed self.new ≡ has_failed self.old) }
-        ensures failed { OnErr result (has_failed self.new ≡ true) }
-        ensures front { OnErr result (AppendsFront (contents self.old) (contents self.new)
+            (Self.contents self.old) (Self.contents self.new) (Self.made self.old) (Self.made self.new)) }
+        ensures going { OnOk result (Self.has_failed self.new ≡ Self.has_failed self.old) }
+        ensures failed { OnErr result (Self.has_failed self.new ≡ true) }
+        ensures front { OnErr result (AppendsFront (Self.contents self.old) (Self.contents self.new)
             last.now) }
-        ensures stays { OnErr result (made self.new ≡ made self.old) }
+        ensures stays { OnErr result (Self.made self.new ≡ Self.made self.old) }
         // one that doesn't tell its bytes doesn't tell them later
-        ensures silent { contents self.old ≡ None → contents self.new ≡ None };
+        ensures silent { Self.contents self.old ≡ None → Self.contents self.new ≡ None };
 }

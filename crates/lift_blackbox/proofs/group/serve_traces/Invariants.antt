@@ -7,7 +7,7 @@ use Rattle.lift_blackbox.proofs.group.serve_traces.Given as goal
 -- the lines so far lead to where the group is
 abbrev pub invariant-traces : goal.invariant-traces
 invariant-traces g l = record {
-  leads : Leads l.initial.server.rounds.world.program.config l.fn.source.now (spot g.R.Read g.O.Sink g.T.Sink l.initial.server.rounds.world.world l.initial.server.count 0 l.initial.reader l.initial.out l.initial.trace)
+  leads : Leads l.initial.server.rounds.world.program.config l.source (spot g.R.Read g.O.Sink g.T.Sink l.initial.server.rounds.world.world l.initial.server.count 0 l.initial.reader l.initial.out l.initial.trace)
       (spot g.R.Read g.O.Sink g.T.Sink l.server.rounds.world.world l.server.count l.heard l.reader l.out l.trace);
   server : IsServer l.server;
   same : l.server.rounds.world.program ≡ l.initial.server.rounds.world.program;
