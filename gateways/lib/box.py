@@ -1,7 +1,7 @@
-"""A folder of traces: each start of `serve` makes a new one there, and goes on where the last one ends.
+"""A folder of traces: each start of `serve` makes a new one there, and goes on where the last one ends; each K line makes one too, while the group runs.
 
-A trace without a round is passed over: what happened stands in the one before, and a power cut may have left a piece of its state. Where the last one with a
-round leads nowhere, none does: from an older one would come calls that are long served.
+A trace without a round is passed over: all that happened is in the one before, and a power cut may have left a piece of its state. So a round has to come first in
+each trace, before a press. Where the last one with a round leads nowhere, none does: an older one has calls that were served long ago.
 """
 from __future__ import annotations
 

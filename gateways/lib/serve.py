@@ -17,6 +17,8 @@ TOP = os.path.dirname(os.path.dirname(os.path.dirname(os.path.realpath(__file__)
 MOST_NOW = 2_147_483_647  # ms
 READ_AT_ONCE = 65_536  # bytes
 MOST_SAID = 64  # lines of standard error that are kept
+LONGEST_NAME = 126  # bytes of a trace that `keep` names
+NAP = 0.05  # s between two calls of what waits
 
 
 class NoProgram(Exception):
@@ -137,6 +139,12 @@ def answer_of(lines: bytes) -> Answer:
     return Answer([KINDS[kind](*map(int, numbers)) for kind, *numbers in notices if kind in KINDS], outputs_of(last))
 
 
+def can_keep(name: str) -> bool:
+    """Whether a K line can have this name: UTF-8, on one line, and not too long."""
+    named = os.fsencode(name)
+    return 0 < len(named) <= LONGEST_NAME and b"\n" not in named and named.decode("utf-8", "replace").encode("utf-8") == named
+
+
 def outputs_of(words: Sequence[str]) -> list[Output]:
     return [Output(int(motor), opens == "1") for motor, opens in zip(words[1::2], words[2::2])]
 
@@ -178,12 +186,38 @@ class Serve:
             raise self.ended()
         return answer.decode("ascii").rstrip("\n").split(" ", 3)[3]
 
+    def keep(self, name: str, until: float | None = None, waits: Callable[[], None] | None = None) -> bool:
+        """The present trace ends, and the group goes on in `name`, a new file. Whether it does: where that can't be made, the present trace goes on.
+
+        `waits` is called again and again until the answer is there or time is over: a busy disk may take longer to make a file than to take a round. The next
+        line has to be a round: a trace without one is passed over at a start, and so would be the presses in it.
+        """
+        if not can_keep(name):
+            raise ValueError(f"{name!r} can't be in a K line")
+        named, until = os.fsencode(name), self.deadline(until)
+        self.say(b"K %s\n" % named)
+        while waits and not select.select([self.out], [], [], NAP)[0] and (until is None or time.monotonic() < until):
+            waits()
+        answer = self.hear(until, (b"kept", b"outputs"))
+        if not answer.startswith(b"kept"):
+            raise self.ended()
+        return answer == b"kept %s\n" % named
+
     def ask(self, lines: bytes, until: float | None = None, ends: tuple[bytes, ...] = (b"outputs",)) -> bytes:
         """The answer up to a line that begins so. All of `lines` but the last one are P lines."""
-        if until is None and self.watchdog is not None:
-            until = time.monotonic() + self.watchdog
+        until = self.deadline(until)
+        self.say(lines)
+        return self.hear(until, ends)
+
+    def deadline(self, until: float | None) -> float | None:
+        """If it isn't given, it is the watchdog's time from now on."""
+        return time.monotonic() + self.watchdog if until is None and self.watchdog is not None else until
+
+    def say(self, lines: bytes):
         with contextlib.suppress(BrokenPipeError):  # it has ended: its output says so
             os.write(self.into, lines)
+
+    def hear(self, until: float | None, ends: tuple[bytes, ...]) -> bytes:
         heard = self.read(until)
         while not (heard.endswith(b"\n") and heard.startswith(ends, heard.rfind(b"\n", 0, -1) + 1)):
             heard += self.read(until)

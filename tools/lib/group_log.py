@@ -150,7 +150,7 @@ class GroupLog:
             self.take_refresh(rest)
         elif word == b"P":
             numbers(rest, BYTE, BYTE)  # the answer says what became of it
-        elif word != b"E" or rest:
+        elif word != b"K" and (word != b"E" or rest):  # K has the name of another trace, whatever it is
             raise Damaged
 
     def take_refresh(self, words: list[bytes]):
@@ -171,7 +171,7 @@ class GroupLog:
     def take_output(self, word: bytes, rest: list[bytes]):
         takers = {
             b"outputs": self.take_outputs, b"denied": self.take_denied, b"press": self.take_press,
-            b"entered": self.take_entered, b"told": self.take_told, b"served": self.take_served,
+            b"entered": self.take_entered, b"told": self.take_told, b"served": self.take_served, b"kept": lambda _: None,
         }
         if word not in takers:
             raise Damaged
