@@ -11,7 +11,7 @@ from lib.release import completions, manual
 from lib.release.repository import TOP, Build, Commit, Trouble, files, read, text
 
 HOME = "share/liftplc"
-TOOLS = ("building", "from-plcopen", "group", "monitor", "st", "tee-serve")  # of tools/; each is a command, as is gateways/modbus
+TOOLS = ("building", "chain", "from-plcopen", "group", "monitor", "st", "tee-serve")  # of tools/; each is a command, as is gateways/modbus
 COMMANDS = {f"liftplc-{name}": f"tools/{name}" for name in TOOLS} | {"liftplc-modbus": "gateways/modbus"}
 BESIDE = {  # what files of Python read
     "tools/monitor": ["tools/monitor.html"],
