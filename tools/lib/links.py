@@ -54,7 +54,7 @@ class Program:
 
 
 def text_of(trace: str) -> str:
-    """Of a trace, whatever stands in it."""
+    """Of a trace, whatever is in it."""
     try:
         with open(trace, encoding="ascii", errors="backslashreplace", newline="") as file:
             return file.read()
@@ -81,14 +81,14 @@ def difference(found: str, wanted: str) -> tuple[int, str]:
 
 
 def is_beginning(rest: str) -> bool:
-    """Whether this may stand behind a head: floors are gathered from the lowest on."""
+    """Whether this may come after a head: floors are gathered from the lowest on."""
     found = BEGINNING.fullmatch(rest[: rest.rfind("\n") + 1])
     gathered = re.match(r"(?:P \d+ \d+\n)*((?:G \d+\n)*)", rest)[1].split()[1::2]
     return bool(found or gathered) and gathered == [str(at + 1) for at in range(len(gathered))]
 
 
 def followed(end: End, text: str) -> tuple[str, str]:
-    """How a trace goes on from an end, and what stands behind its head; that is empty where it is cut off within the head."""
+    """How a trace goes on from an end, and what comes after its head; that is empty where it is cut off within the head."""
     heads = end.heads()
     for how, head in heads.items():
         if text.startswith(head) and is_beginning(text[len(head) :]):
