@@ -1,5 +1,5 @@
 -- What the program gives of its words, by what it gives of the words as they are read.
-use Rattle.std.proofs.Common.{◌≡◌, ◌||◌, ℕ, Bool, List, Option, Some, None, IfSome, map, string_bytes, refl, subst}
+use Rattle.std.proofs.Common.{◌≡◌, ◌||◌, ℕ, Bool, List, Option, Some, None, IfSome, map, string_bytes, subst}
 use Rattle.lift_host.specs.declared.files.ReadFault.{ReadFault}
 use Rattle.lift_host.specs.declared.request.Flags.{Flags}
 use Rattle.lift_host.specs.declared.request.Plain.{Plain}
@@ -7,8 +7,8 @@ use Rattle.lift_host.specs.declared.serving.Serving.{Serving}
 use Rattle.lift_host.specs.declared.status.Status.{Status}
 use Rattle.lift_host.specs.Requests.{explains, flags_of, plain_words}
 use Rattle.lift_host.specs.Servings.{Serves}
-use Rattle.lift_shell.specs.Runs.{AskForRun, Held}
-use Rattle.lift_command.specs.Programs.{AreUntouched, HasAnswered, IsPlainAnswer, IsProgramAnswer, IsRunAnswer, IsUnread, plain, printed, printed_run, served, unread, unread_run}
+use Rattle.lift_shell.specs.Runs.{AskForRun}
+use Rattle.lift_command.specs.Programs.{AreUntouched, IsProgramAnswer, IsRunAnswer, plain, printed, printed_run, unread, unread_run}
 use Rattle.lift_command.specs.Servings.{Streams}
 
 pub if_some : {A : Type 0} {P Q : A → Type 0} (o : Option A) → ((x : A) → P x → Q x) → IfSome o P → IfSome o Q

@@ -1,10 +1,8 @@
 -- `run` among the requests.
-use Rattle.std.proofs.Common.{◌≡◌, Bool, true, false, Option, None, refl, sym, subst}
+use Rattle.std.proofs.Common.{◌≡◌, true, false, Option, None, refl, sym, subst}
 use Rattle.lift_host.specs.declared.request.Name.TheVariants as name
 use Rattle.lift_host.specs.declared.request.Request.{Request}
 use Rattle.lift_host.specs.declared.request.Request.TheVariants as request
-use Rattle.lift_host.specs.declared.request.Following.TheVariants as following
-use Rattle.lift_host.specs.declared.request.Showing.TheVariants as showing
 use Rattle.lift_host.specs.declared.request.Simulating.TheVariants as simulating
 use Rattle.lift_host.specs.Requests.{command_of}
 use Rattle.lift_json.specs.declared.form.Form.{Form}

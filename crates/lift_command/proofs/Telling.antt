@@ -1,5 +1,5 @@
 -- What is written whole, or in part.
-use Rattle.std.proofs.Common.{◌≡◌, ℕ, List, Bool, true, false, Option, Result, Ok, Err, OnOk, OnErr, [], ◌++◌, append-nil, refl, sym, ◌∙◌}
+use Rattle.std.proofs.Common.{◌≡◌, ℕ, List, Bool, true, false, Option, Result, Ok, Err, OnOk, OnErr, [], append-nil, sym, ◌∙◌}
 use Rattle.std.specs.Io.KnownBytes.{Appends}
 use Rattle.lift_host.specs.Writes.{AppendsFront, Writes}
 

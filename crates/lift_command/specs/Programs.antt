@@ -12,7 +12,7 @@ use Rattle.lift_host.specs.Requests.{explains, flags_of, plain_words}
 use Rattle.lift_host.specs.Servings.{Serves}
 use Rattle.lift_shell.specs.Runs.{HasPrinted, Held, IsAnswer, stream}
 use Rattle.lift_host.specs.declared.sink.Memory.{Memory}
-use Rattle.lift_host.specs.Files.{Made, unmade}
+use Rattle.lift_host.specs.Files.{unmade}
 use Rattle.lift_host.specs.Writes.{Writes}
 use Rattle.lift_command.specs.declared.memory_trace.MemoryTrace.{MemoryTrace}
 use Rattle.lift_command.specs.declared.program.Outcome.{Outcome}

@@ -1,6 +1,6 @@
 -- What `serve` gives (own rules).
 use Rattle.std.specs.Prelude.{◌≡◌, ◌++◌, ℕ, nat_lt, Bool, true, List, [], Option, Some, None, Ok, Err, string_bytes, if◌then◌else◌}
-use Rattle.std.specs.Io.KnownBytes.{Appends, Consumes}
+use Rattle.std.specs.Io.KnownBytes.{Consumes}
 use Rattle.std.specs.declared.io.traits.Read.{Ghosts as Read}
 use Rattle.il_spec.specs.declared.fault.Refusal.{Refusal}
 use Rattle.il_spec.specs.declared.tree.Config.{Config}
@@ -16,8 +16,8 @@ use Rattle.lift_host.specs.declared.status.Status.{Status}
 use Rattle.lift_host.specs.declared.status.Status.TheVariants as with_status
 use Rattle.lift_host.specs.Servings.{continued_name}
 use Rattle.lift_host.specs.Messages.{fault_of, fault_of_reading, message_of, status_of}
-use Rattle.lift_shell.specs.Runs.{Held, stream, written, IsExplained, IsUnreadBelow, most_bytes}
-use Rattle.lift_host.specs.Writes.{AppendsFront, Writes}
+use Rattle.lift_shell.specs.Runs.{Held, written, IsExplained, IsUnreadBelow, most_bytes}
+use Rattle.lift_host.specs.Writes.{Writes}
 use Rattle.il_reasons.specs.Reasons.{IsReason}
 use Rattle.lift_messages.specs.Places.{IsTextShownBelow}
 use Rattle.lift_blackbox.specs.declared.group.Halt.{Halt}
@@ -27,6 +27,7 @@ use Rattle.lift_blackbox.specs.declared.keep.KeepFault.TheVariants as unkept
 use Rattle.lift_blackbox.specs.Ending.{Final, IsEnded, IsHalted}
 use Rattle.lift_blackbox.specs.Keeping.{IsNew, Spot}
 use Rattle.lift_host.specs.Files.{Made}
+use Rattle.lift_spec.specs.World.{World}
 use Rattle.lift_serve.specs.declared.input.Came.{Came}
 use Rattle.lift_serve.specs.declared.input.Came.TheVariants.{Whole, Ended, TooLong, Failed}
 use Rattle.lift_serve.specs.declared.said.WrongLine.{WrongLine}

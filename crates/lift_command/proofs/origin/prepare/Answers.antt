@@ -1,5 +1,4 @@
-use Rattle.std.proofs.Common.{refl, sym, ap, ◌∙◌, subst, length}
-use Rattle.std.specs.Prelude.{string_bytes}
+use Rattle.std.proofs.Common.{ap, ◌∙◌, subst}
 use Rattle.il_machine.specs.Scanning.{Program}
 use Rattle.lift_blackbox.specs.Heads.{IsAgain, head_text}
 use Rattle.lift_command.proofs.origin.prepare.Goals as goal

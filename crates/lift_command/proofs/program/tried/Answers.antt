@@ -1,6 +1,5 @@
-use Rattle.std.proofs.Common.{List, ℕ, Bool, Some, None, [], map, string_bytes, sym, subst}
+use Rattle.std.proofs.Common.{List, ℕ, Bool, Some, None, map, string_bytes, subst}
 use Rattle.std.specs.Prelude.{false, if◌then◌else◌}
-use Rattle.lift_host.specs.Files.{Made}
 use Rattle.lift_shell.specs.Runs.{stream}
 use Rattle.lift_command.specs.Programs.{IsProgramAnswer, taken_by, traced_by}
 use Rattle.lift_command.specs.Servings.{held_trace, streams}

@@ -1,4 +1,4 @@
-use Rattle.std.proofs.Common.{refl, sym, ap, subst}
+use Rattle.std.proofs.Common.{refl, ap, subst}
 use Rattle.il_machine.specs.Scanning.{Program}
 use Rattle.lift_command.specs.Servings as s
 use Rattle.lift_command.specs.Origins.{IsNoOrigin, IsPrepared}

@@ -1,4 +1,4 @@
-use Rattle.std.proofs.Common.{ℕ, List, refl, sym, ◌∙◌, ap, subst, string_bytes}
+use Rattle.std.proofs.Common.{ℕ, List, refl, sym, ◌∙◌, ap, subst}
 use Rattle.lift_host.specs.Messages.{message_of, status_of}
 use Rattle.lift_host.specs.Writes.{Writes}
 use Rattle.lift_blackbox.specs.Between.{spot, final}
