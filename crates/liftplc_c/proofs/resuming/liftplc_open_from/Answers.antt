@@ -1,0 +1,66 @@
+use Rattle.std.proofs.Common.{◌≡◌, ℕ, arith, subst, sym}
+use Rattle.il_machine.specs.Scanning.{Program}
+use Rattle.il_spec.specs.declared.fault.Refusal.{Refusal}
+use Rattle.il_spec.specs.declared.fault.Refusal.TheVariants.{Fault}
+use Rattle.il_spec.specs.declared.tree.Config.{Config}
+use Rattle.il_spec.specs.declared.tree.Place.{Place}
+use Rattle.lift_blackbox.specs.Resuming.{IsLeft}
+use Rattle.lift_load.specs.Loading.{IsAccepted, IsExplained, IsRefusedFor, IsSpelled, IsSpelledWith}
+use Rattle.lift_run_laws.specs.Runs.{RunsWell}
+use Rattle.liftplc_c.specs.Refusals.{fault_in}
+use Rattle.liftplc_c.proofs.Refusing.{by_fault, reported}
+use Rattle.liftplc_c.proofs.resuming.liftplc_open_from.Goals as goal
+
+-- the text is accepted
+
+pub returns-in-Ok-clause-opened : goal.returns-in-Ok-clause-opened
+returns-in-Ok-clause-opened c zero =
+    let o = c.open_where_left.ensures.opened zero in
+    let same = sym o.2 in
+    (o.0, o.1, subst (λ (p : Program). IsAccepted c.args.text.now p.config) same c.in-Ok.ensures.found,
+    subst (λ (p : Program). IsLeft p.config c.args.text.now c.args.trace.now o.0.world c.open_where_left.new.dropped) same o.3,
+    subst (λ (p : Program). RunsWell p.config) same c.in-Ok.ensures.runs)
+
+pub returns-in-Ok-clause-led : goal.returns-in-Ok-clause-led
+returns-in-Ok-clause-led c zero =
+    let o = c.open_where_left.ensures.opened zero in
+    (o.0, o.1, o.4)
+
+pub returns-in-Ok-clause-no_trace : goal.returns-in-Ok-clause-no_trace
+returns-in-Ok-clause-no_trace c ten = (c.in-Ok.verified.config, c.in-Ok.ensures.found, c.open_where_left.ensures.no_trace ten)
+
+pub returns-in-Ok-clause-bytes : goal.returns-in-Ok-clause-bytes
+returns-in-Ok-clause-bytes c number place is = absurd (c.in-Ok.ensures.bytes number place is)
+
+pub returns-in-Ok-clause-grammar : goal.returns-in-Ok-clause-grammar
+returns-in-Ok-clause-grammar c number place is = absurd (c.in-Ok.ensures.grammar number place is)
+
+-- the text is refused
+
+pub returns-in-Err-clause-refused : goal.returns-in-Err-clause-refused
+returns-in-Err-clause-refused c =
+    by_fault (λ (e : Refusal). (d : Config) → IsAccepted c.args.text.now d → ⊥) c.in-Err.why (fault_in c.refuse_text.new.refusal) c.refuse_text.result
+    c.refuse_text.ensures.status c.refuse_text.ensures.written c.in-Err.ensures.refused
+
+pub returns-in-Err-clause-named : goal.returns-in-Err-clause-named
+returns-in-Err-clause-named c =
+    by_fault (λ (e : Refusal). (d : Config) → IsSpelled c.args.text.now d → IsRefusedFor d e) c.in-Err.why (fault_in c.refuse_text.new.refusal) c.refuse_text.result
+    c.refuse_text.ensures.status c.refuse_text.ensures.written c.in-Err.ensures.named
+
+pub returns-in-Err-clause-number : goal.returns-in-Err-clause-number
+returns-in-Err-clause-number c =
+    by_fault {X = Unit {0}} (IsExplained c.args.text.now) c.in-Err.why (fault_in c.refuse_text.new.refusal) c.refuse_text.result
+    c.refuse_text.ensures.status c.refuse_text.ensures.written (λ _. c.in-Err.ensures.number)
+
+pub returns-in-Err-clause-one : goal.returns-in-Err-clause-one
+returns-in-Err-clause-one c =
+    by_fault (λ (e : Refusal). (n : ℕ) (p : Place) → IsSpelledWith c.args.text.now (Fault n p) → e ≡ Fault n p) c.in-Err.why (fault_in c.refuse_text.new.refusal) c.refuse_text.result
+    c.refuse_text.ensures.status c.refuse_text.ensures.written c.in-Err.ensures.one
+
+pub returns-in-Err-clause-bytes : goal.returns-in-Err-clause-bytes
+returns-in-Err-clause-bytes c number place is =
+    reported c.in-Err.why (fault_in c.refuse_text.new.refusal) number c.refuse_text.result place c.refuse_text.ensures.status c.refuse_text.ensures.written (c.in-Err.ensures.bytes number place is)
+
+pub returns-in-Err-clause-grammar : goal.returns-in-Err-clause-grammar
+returns-in-Err-clause-grammar c number place is =
+    reported c.in-Err.why (fault_in c.refuse_text.new.refusal) number c.refuse_text.result place c.refuse_text.ensures.status c.refuse_text.ensures.written (c.in-Err.ensures.grammar number place is)
