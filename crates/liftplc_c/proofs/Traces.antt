@@ -1,6 +1,5 @@
 -- What can be wrong with a trace.
-use Rattle.std.proofs.Common.{◌≡◌, ℕ, List, Ok, Err, Option, Result, IfErr, subst, sym, inl, inr}
-use Rattle.std.specs.Prelude.{IsErrAnd}
+use Rattle.std.proofs.Common.{ℕ, List, Option, subst, sym, inl, inr}
 use Rattle.il_spec.specs.declared.tree.Config.{Config}
 use Rattle.lift_host.specs.declared.status.Fault.{Fault}
 use Rattle.lift_host.specs.declared.status.Fault.TheVariants.{Misuse, RefusedText, Refused, BadPress, TooManyPresses, BadFire, BadSpan, BadScan, BadName, CannotRead, CannotWrite, NoMemory}
@@ -32,8 +31,3 @@ nowhere c base events lines cut f (inr event) = subst IsOfTrace (sym event.3) tt
 pub of_trace : (c : Config) (source trace : List ℕ) (f : Fault) → IsNotLeft c source trace f → IsOfTrace f
 of_trace c source trace f (inl is) = unbegun c source trace f is
 of_trace c source trace f (inr is) = nowhere c is.0 is.1 is.2 is.3 f is.5
-
--- missing memory says nothing of the trace
-pub memory_left : {X : Type 0} (c : Config) (source trace : List ℕ) (r : Result X Fault) → IsErrAnd r (λ f. f ≡ NoMemory) → IfErr r (IsNotLeft c source trace)
-memory_left c source trace (Ok x) is = tt
-memory_left c source trace (Err f) is = subst (IsNotLeft c source trace) (sym is) (inl tt)

@@ -40,8 +40,10 @@ fn resumed(alloc: Global, verified: Verified, text: &[u8], trace: &[u8]) -> Resu
 {
     let Origin { world, dropped } = resume(alloc, verified, text, trace)?;
     led(&world);
-    let rounds = Box::new(alloc, Rounds::of(world))?;
-    Ok(Resumed { rounds, dropped })
+    match Box::new(alloc, Rounds::of(world)) {
+        Ok(rounds) => Ok(Resumed { rounds, dropped }),
+        Err(_) => Err(Fault::NoMemory),
+    }
 }
 
 // Opens a handle that isn't open where a trace of a configuration ends.
