@@ -68,9 +68,12 @@ fn open_where_left(
     ensures unwritten { result ≢ 10 → refusal.new ≡ refusal.old }
 {
     match resumed(alloc, verified, text, trace) {
-        Ok(resumed) => {
-            handle.put(resumed.rounds);
-            *dropped = resumed.dropped as u64;
+        Ok(Resumed {
+            rounds,
+            dropped: count,
+        }) => {
+            handle.put(rounds);
+            *dropped = count as u64;
             Status::Done as u32
         }
         Err(why) => refuse_trace(why, refusal),
