@@ -12,12 +12,12 @@ use lift_blackbox::head::{TraceHead, head_of};
 use lift_world::World;
 use std::alloc::{AllocError, Global};
 
-// The state of a world as a whole trace without rounds, where the text is that of its configuration.
+// The state of a world between scans as a whole trace without rounds, where the text is that of its configuration.
 #[tactic(auto, unfolding(lift_trace::specs::Text::last_line))]
 fn whole_state(alloc: Global, world: &World, text: &[u8]) -> Result<String, AllocError>
+    requires { Rests world.now.world }
     ensures text { IfOk result (λ whole. string_bytes whole ≡ whole_state text.now world.now) }
-    ensures again { IfOk result (λ _. Rests world.now.world
-        → IsAgain world.now.program.config world.now.world) }
+    ensures again { IfOk result (λ _. IsAgain world.now.program.config world.now.world) }
 {
     let TraceHead {
         text: mut whole,
@@ -51,13 +51,13 @@ fn write(bytes: &[u8], room: &mut [u8], length: &mut u64) -> u32
     Status::Done as u32
 }
 
-// Writes the state of a world, if it has room.
+// Writes the state of a world between scans, if it has room.
 fn save(alloc: Global, world: &World, text: &[u8], state: &mut [u8], length: &mut u64) -> u32
+    requires { Rests world.now.world }
     ensures status { (result ≡ 0) ⊎ (result ≡ 2) ⊎ (result ≡ 11) }
     ensures done { result ≡ 0
         → StandsIn state.old state.new length.new (whole_state text.now world.now) }
-    ensures again { result ≡ 0 → Rests world.now.world
-        → IsAgain world.now.program.config world.now.world }
+    ensures again { result ≡ 0 → IsAgain world.now.program.config world.now.world }
     ensures short { result ≡ 11
         → IsTooShort state.old state.new length.new (whole_state text.now world.now) }
     ensures unwritten { result ≡ 2 → (state.new ≡ state.old) × (length.new ≡ length.old) }
