@@ -55,7 +55,7 @@ typedef struct {
     bool is_open; /* may be read */
 } liftplc_handle;
 
-/* The number of a fault of a text or a trace (docs/FAULTS.md), its line, from 1 on, and how many bytes of the text stand before it: of a trace 0. */
+/* The number of a fault of a text or a trace (docs/FAULTS.md), its line, from 1 on, and how many bytes of the text come before it: of a trace 0. */
 typedef struct {
     uint16_t number;
     uint32_t line;
@@ -122,7 +122,7 @@ typedef struct {
 uint32_t liftplc_open(liftplc_handle *handle, const uint8_t *text, size_t text_length, liftplc_refusal *refusal);
 
 /* The same where a trace of the text ends, of any format, whole or cut off: a state that liftplc_state wrote, or a trace of `liftplc serve`. Each output is still
- * until the first round. OK, and `dropped` is how many events behind the last whole line of the trace are dropped; NO_TRACE and `refusal` says why; or as above.
+ * until the first round. OK, and `dropped` is how many events after the last whole line of the trace are dropped; NO_TRACE and `refusal` says why; or as above.
  * Owed: P, with `text_length` bytes at `text` and `trace_length` at `trace`; H, T, A. */
 uint32_t liftplc_open_from(liftplc_handle *handle, const uint8_t *text, size_t text_length, const uint8_t *trace, size_t trace_length, uint64_t *dropped, liftplc_refusal *refusal);
 
@@ -140,7 +140,7 @@ uint32_t liftplc_press(liftplc_handle *handle, uint8_t from, uint8_t to);
 uint32_t liftplc_round(liftplc_handle *handle, const liftplc_fields *fields, liftplc_outputs *outputs);
 
 /* Writes the state of the controller, as a trace of format 3 without rounds. The text is that with which it was opened: OK, and `length` is how many bytes
- * stand at `state`; SHORT, and `length` is how many bytes it takes; CLOSED or NO_MEMORY.
+ * it has; SHORT, and `length` is how many bytes it takes; CLOSED or NO_MEMORY.
  * Owed: P, with `text_length` bytes at `text` and `room` at `state`; H, T, A. */
 uint32_t liftplc_state(liftplc_handle *handle, const uint8_t *text, size_t text_length, uint8_t *state, size_t room, uint64_t *length);
 

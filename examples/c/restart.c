@@ -1,7 +1,7 @@
 /* A controller that is stopped and goes on. Two controllers of one text make the same rounds, each on a simulated plant. Between reading the plant and a round a file gets the
  * state of the second, which is closed and opened again from the file. That round leaves the same call slots in both, and both serve the same calls.
  *
- * usage: restart FILE CARS FLOORS ROUND STATE [AGAIN]     (ROUND: in which round; AGAIN: a file for the state right behind the start)
+ * usage: restart FILE CARS FLOORS ROUND STATE [AGAIN]     (ROUND: in which round; AGAIN: a file for the state right after the start)
  * status: 0; 1 a file, a text or memory; 2 the words; 3 what isn't the same; 4 a press, a round or a state that is refused */
 #define _XOPEN_SOURCE 700
 #include <fcntl.h>

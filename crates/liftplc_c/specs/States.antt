@@ -10,14 +10,14 @@ use Rattle.lift_world.specs.Worlds.{WorldOf}
 abbrev pub whole_state : List ℕ → WorldOf → List ℕ
 whole_state source w = head_text w.program.config source w.world ++ (last_line (length (waiting_events w.world)) ++ 10 ∷ [])
 
--- So many bytes, and no more, stand at the front of a room. Behind them it is as it was.
+-- These bytes, so many, are at the front of a room. After them it is as it was.
 pub record StandsIn (old new : List ℕ) (count : ℕ) (bytes : List ℕ) : Type 0 where
   pub many : count ≡ length bytes
   pub fits : count ≤ length old
   pub front : take count new ≡ bytes
   pub behind : drop count new ≡ drop count old
 
--- A room is too short for so many bytes, and is as it was.
+-- A room is too short for these bytes, so many, and is as it was.
 pub record IsTooShort (old new : List ℕ) (count : ℕ) (bytes : List ℕ) : Type 0 where
   pub many : count ≡ length bytes
   pub short : length old < count

@@ -8,7 +8,7 @@ use lift_host::status::Fault;
 use lift_world::Refusal;
 
 /// Why a text or a trace is refused: the number of its fault, and its place, as its line, counted from 1, and, of a text, as how many bytes
-/// stand before it.
+/// come before it.
 #[repr(C)]
 #[derive(Clone, Copy)]
 pub struct TextRefusal {

@@ -80,7 +80,7 @@ fn open_where_left(
     }
 }
 
-/// Opens the controller of a text where a trace of the text ends, with every output still: 0, and how many events behind its last whole line are
+/// Opens the controller of a text where a trace of the text ends, with every output still: 0, and how many events after its last whole line are
 /// dropped. 1: the text is refused, and why is written. 2: memory is missing. 3: the handle is open already. 10: the trace is none of the text, and
 /// its fault is written. But for 0 the handle is left as it was.
 #[unsafe(no_mangle)]
