@@ -1,5 +1,5 @@
 -- What is said of a refusal, at its number and its place.
-use Rattle.std.proofs.Common.{◌≡◌, ℕ, Ok, Err, subst, sym, ◌∙◌, inl, inr, arith}
+use Rattle.std.proofs.Common.{◌≡◌, ◌≤◌, ℕ, Ok, Err, subst, sym, ◌∙◌, inl, inr, arith}
 use Rattle.std.specs.Prelude.{◌⊎◌, Result, IsErrAnd}
 use Rattle.il_parse.specs.Refused.{IsFault}
 use Rattle.il_spec.specs.declared.fault.Refusal.{Refusal}
@@ -34,3 +34,47 @@ memory_at (Err e) f is = inr is
 pub no_fault : {X : Type 0} (r : Result X Refusal) → IsErrAnd r (λ e. e ≡ Memory) → IsFault r → ⊥
 no_fault (Ok x) is fault = is
 no_fault {X = X} (Err e) is fault = subst (λ (x : Refusal). IsFault {A = X} (Err x)) is fault
+
+-- STATUSES
+
+-- of a text that is refused
+pub text_few : (n : ℕ) → (n ≡ 1) ⊎ (n ≡ 2) → n ≤ 3
+text_few n (inl one) = omega (arith, one)
+text_few n (inr two) = omega (arith, two)
+
+pub text_not_done : {P : Type 0} (n : ℕ) → (n ≡ 1) ⊎ (n ≡ 2) → n ≡ 0 → P
+text_not_done n (inl one) zero = absurd (omega (arith, one, zero))
+text_not_done n (inr two) zero = absurd (omega (arith, two, zero))
+
+pub text_not_open : {P : Type 0} (n : ℕ) → (n ≡ 1) ⊎ (n ≡ 2) → n ≡ 3 → P
+text_not_open n (inl one) three = absurd (omega (arith, one, three))
+text_not_open n (inr two) three = absurd (omega (arith, two, three))
+
+pub text_not_trace : {P : Type 0} (n : ℕ) → (n ≡ 1) ⊎ (n ≡ 2) → n ≡ 10 → P
+text_not_trace n (inl one) ten = absurd (omega (arith, one, ten))
+text_not_trace n (inr two) ten = absurd (omega (arith, two, ten))
+
+-- of a trace that is refused
+pub trace_status_is : (n : ℕ) → (n ≡ 10) ⊎ (n ≡ 2) → (n ≡ 0) ⊎ ((n ≡ 2) ⊎ (n ≡ 10))
+trace_status_is n (inl ten) = inr (inr ten)
+trace_status_is n (inr two) = inr (inl two)
+
+pub trace_not_done : {P : Type 0} (n : ℕ) → (n ≡ 10) ⊎ (n ≡ 2) → n ≡ 0 → P
+trace_not_done n (inl ten) zero = absurd (omega (arith, ten, zero))
+trace_not_done n (inr two) zero = absurd (omega (arith, two, zero))
+
+-- of a text that is accepted
+pub left_status : (n : ℕ) → (n ≡ 0) ⊎ ((n ≡ 2) ⊎ (n ≡ 10)) → (n ≤ 3) ⊎ (n ≡ 10)
+left_status n (inl zero) = inl (omega (arith, zero))
+left_status n (inr (inl two)) = inl (omega (arith, two))
+left_status n (inr (inr ten)) = inr ten
+
+pub left_not_refused : {P : Type 0} (n : ℕ) → (n ≡ 0) ⊎ ((n ≡ 2) ⊎ (n ≡ 10)) → n ≡ 1 → P
+left_not_refused n (inl zero) one = absurd (omega (arith, zero, one))
+left_not_refused n (inr (inl two)) one = absurd (omega (arith, two, one))
+left_not_refused n (inr (inr ten)) one = absurd (omega (arith, ten, one))
+
+pub left_not_open : {P : Type 0} (n : ℕ) → (n ≡ 0) ⊎ ((n ≡ 2) ⊎ (n ≡ 10)) → n ≡ 3 → P
+left_not_open n (inl zero) three = absurd (omega (arith, zero, three))
+left_not_open n (inr (inl two)) three = absurd (omega (arith, two, three))
+left_not_open n (inr (inr ten)) three = absurd (omega (arith, ten, three))

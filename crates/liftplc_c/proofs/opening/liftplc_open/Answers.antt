@@ -5,7 +5,7 @@ use Rattle.il_spec.specs.declared.tree.Config.{Config}
 use Rattle.il_spec.specs.declared.tree.Place.{Place}
 use Rattle.lift_load.specs.Loading.{IsAccepted, IsExplained, IsRefusedFor, IsSpelled, IsSpelledWith}
 use Rattle.liftplc_c.specs.Refusals.{fault_in}
-use Rattle.liftplc_c.proofs.Refusing.{by_fault, reported}
+use Rattle.liftplc_c.proofs.Refusing.{by_fault, reported, text_few, text_not_done}
 use Rattle.liftplc_c.proofs.opening.liftplc_open.Goals as goal
 
 pub returns-in-Ok-clause-bytes : goal.returns-in-Ok-clause-bytes
@@ -13,6 +13,15 @@ returns-in-Ok-clause-bytes c number place is = absurd (c.in-Ok.ensures.bytes num
 
 pub returns-in-Ok-clause-grammar : goal.returns-in-Ok-clause-grammar
 returns-in-Ok-clause-grammar c number place is = absurd (c.in-Ok.ensures.grammar number place is)
+
+pub returns-in-Err-clause-status : goal.returns-in-Err-clause-status
+returns-in-Err-clause-status c = text_few c.refuse_text.result c.refuse_text.ensures.either
+
+pub returns-in-Err-clause-opened : goal.returns-in-Err-clause-opened
+returns-in-Err-clause-opened c zero = text_not_done c.refuse_text.result c.refuse_text.ensures.either zero
+
+pub returns-in-Err-clause-led : goal.returns-in-Err-clause-led
+returns-in-Err-clause-led c zero = text_not_done c.refuse_text.result c.refuse_text.ensures.either zero
 
 pub returns-in-Err-clause-refused : goal.returns-in-Err-clause-refused
 returns-in-Err-clause-refused c =

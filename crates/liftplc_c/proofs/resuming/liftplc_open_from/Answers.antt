@@ -1,4 +1,4 @@
-use Rattle.std.proofs.Common.{◌≡◌, ℕ, arith, subst, sym}
+use Rattle.std.proofs.Common.{◌≡◌, ℕ, subst, sym, inl}
 use Rattle.il_machine.specs.Scanning.{Program}
 use Rattle.il_spec.specs.declared.fault.Refusal.{Refusal}
 use Rattle.il_spec.specs.declared.fault.Refusal.TheVariants.{Fault}
@@ -8,10 +8,25 @@ use Rattle.lift_blackbox.specs.Resuming.{IsLeft}
 use Rattle.lift_load.specs.Loading.{IsAccepted, IsExplained, IsRefusedFor, IsSpelled, IsSpelledWith}
 use Rattle.lift_run_laws.specs.Runs.{RunsWell}
 use Rattle.liftplc_c.specs.Refusals.{fault_in}
-use Rattle.liftplc_c.proofs.Refusing.{by_fault, reported}
+use Rattle.liftplc_c.proofs.Refusing.{by_fault, reported, text_few, text_not_done, text_not_trace, left_status, left_not_refused}
 use Rattle.liftplc_c.proofs.resuming.liftplc_open_from.Goals as goal
 
 -- the text is accepted
+
+pub returns-in-Ok-clause-status : goal.returns-in-Ok-clause-status
+returns-in-Ok-clause-status c = left_status c.open_where_left.result c.open_where_left.ensures.status
+
+pub returns-in-Ok-clause-refused : goal.returns-in-Ok-clause-refused
+returns-in-Ok-clause-refused c one = left_not_refused c.open_where_left.result c.open_where_left.ensures.status one
+
+pub returns-in-Ok-clause-named : goal.returns-in-Ok-clause-named
+returns-in-Ok-clause-named c one = left_not_refused c.open_where_left.result c.open_where_left.ensures.status one
+
+pub returns-in-Ok-clause-number : goal.returns-in-Ok-clause-number
+returns-in-Ok-clause-number c one = left_not_refused c.open_where_left.result c.open_where_left.ensures.status one
+
+pub returns-in-Ok-clause-one : goal.returns-in-Ok-clause-one
+returns-in-Ok-clause-one c one = left_not_refused c.open_where_left.result c.open_where_left.ensures.status one
 
 pub returns-in-Ok-clause-opened : goal.returns-in-Ok-clause-opened
 returns-in-Ok-clause-opened c zero =
@@ -36,6 +51,21 @@ pub returns-in-Ok-clause-grammar : goal.returns-in-Ok-clause-grammar
 returns-in-Ok-clause-grammar c number place is = absurd (c.in-Ok.ensures.grammar number place is)
 
 -- the text is refused
+
+pub returns-in-Err-clause-status : goal.returns-in-Err-clause-status
+returns-in-Err-clause-status c = inl (text_few c.refuse_text.result c.refuse_text.ensures.either)
+
+pub returns-in-Err-clause-opened : goal.returns-in-Err-clause-opened
+returns-in-Err-clause-opened c zero = text_not_done c.refuse_text.result c.refuse_text.ensures.either zero
+
+pub returns-in-Err-clause-led : goal.returns-in-Err-clause-led
+returns-in-Err-clause-led c zero = text_not_done c.refuse_text.result c.refuse_text.ensures.either zero
+
+pub returns-in-Err-clause-no_trace : goal.returns-in-Err-clause-no_trace
+returns-in-Err-clause-no_trace c ten = text_not_trace c.refuse_text.result c.refuse_text.ensures.either ten
+
+pub returns-in-Err-clause-offset : goal.returns-in-Err-clause-offset
+returns-in-Err-clause-offset c ten = text_not_trace c.refuse_text.result c.refuse_text.ensures.either ten
 
 pub returns-in-Err-clause-refused : goal.returns-in-Err-clause-refused
 returns-in-Err-clause-refused c =
