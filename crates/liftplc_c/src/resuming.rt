@@ -30,7 +30,7 @@ struct Resumed {
 }
 
 // The controller of a configuration where a trace ends.
-fn resumed(alloc: Global, verified: Verified, text: &[u8], trace: &[u8]) -> Result<Resumed, Fault>
+fn rounds_from(alloc: Global, verified: Verified, text: &[u8], trace: &[u8]) -> Result<Resumed, Fault>
     ensures left { IfOk result (λ r. IsLeft verified.config text.now trace.now
         r.rounds.value.world.world r.dropped) }
     ensures same { IfOk result (λ r. r.rounds.value.world.program ≡ verified) }
@@ -67,7 +67,7 @@ fn open_where_left(
     ensures offset { result ≡ 10 → refusal.new.offset ≡ 0 }
     ensures unwritten { result ≢ 10 → refusal.new ≡ refusal.old }
 {
-    match resumed(alloc, verified, text, trace) {
+    match rounds_from(alloc, verified, text, trace) {
         Ok(Resumed {
             rounds,
             dropped: count,

@@ -3,7 +3,7 @@ use Rattle.lift_journal.specs.Closed.{IsClosed}
 use Rattle.lift_world.specs.Worlds.{WorldOf}
 use Rattle.lift_runs.specs.declared.kept.Rounds.{Rounds}
 use Rattle.liftplc_c.specs.Handles.{IsLed}
-use Rattle.liftplc_c.proofs.resuming.resumed.Goals as goal
+use Rattle.liftplc_c.proofs.resuming.rounds_from.Goals as goal
 
 pub returns-in-Ok-clause-led : goal.returns-in-Ok-clause-led
 returns-in-Ok-clause-led c =
