@@ -11,12 +11,12 @@ no_memory : (n : ℕ) (p : Place) → Fault n p ≡ Memory → ⊥
 no_memory n p e = cc
 
 -- the status of a refusal is 1 where it is a fault
-is_fault : {X : Type 0} (why : Refusal) → text_status why ≡ 1 → IsFault {A = X} (Err why)
+is_fault : (why : Refusal) → text_status why ≡ 1 → IsFault {A = Unit {0}} (Err why)
 is_fault (Fault number place) one = tt
 is_fault Memory one = absurd (omega (arith, one))
 
 -- what is so of a fault is so of what is written of it
-pub by_fault : {X : Type 0} (P : Refusal → Type 0) (why written : Refusal) (status : ℕ) → status ≡ text_status why → (status ≡ 1 → written ≡ why) → (IsFault {A = X} (Err why) → P why) → status ≡ 1 → P written
+pub by_fault : (P : Refusal → Type 0) (why written : Refusal) (status : ℕ) → status ≡ text_status why → (status ≡ 1 → written ≡ why) → (IsFault {A = Unit {0}} (Err why) → P why) → status ≡ 1 → P written
 by_fault P why written status is same said one = subst P (sym (same one)) (said (is_fault why (sym is ∙ one)))
 
 -- a text's one fault is written, unless memory is missing

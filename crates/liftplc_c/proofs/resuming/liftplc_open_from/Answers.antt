@@ -79,7 +79,7 @@ returns-in-Err-clause-named c =
 
 pub returns-in-Err-clause-number : goal.returns-in-Err-clause-number
 returns-in-Err-clause-number c =
-    by_fault {X = Unit {0}} (IsExplained c.args.text.now) c.in-Err.why (fault_in c.refuse_text.new.refusal) c.refuse_text.result
+    by_fault (IsExplained c.args.text.now) c.in-Err.why (fault_in c.refuse_text.new.refusal) c.refuse_text.result
     c.refuse_text.ensures.status c.refuse_text.ensures.written (λ _. c.in-Err.ensures.number)
 
 pub returns-in-Err-clause-one : goal.returns-in-Err-clause-one

@@ -1,4 +1,4 @@
-use Rattle.std.proofs.Common.{ap, subst, sym, ◌∙◌, inl}
+use Rattle.std.proofs.Common.{ap, subst, sym, ◌∙◌}
 use Rattle.lift_journal.specs.Closed.{IsClosed}
 use Rattle.lift_world.specs.Worlds.{WorldOf}
 use Rattle.lift_runs.specs.declared.kept.Rounds.{Rounds}
@@ -13,7 +13,4 @@ returns-in-Ok-clause-led c =
 pub returns-in-Ok-clause-rests : goal.returns-in-Ok-clause-rests
 returns-in-Ok-clause-rests c =
     let of = ap (λ (r : Rounds). r.world) c.in-Ok.ensures.ok ∙ c.of.ensures in
-    subst (λ (w : WorldOf). IsClosed w.world) (sym of) c.in_ok-resume.ensures.closed
-
-pub returns-in-Err-clause-fault : goal.returns-in-Err-clause-fault
-returns-in-Err-clause-fault c = inl tt
+    subst (λ (w : WorldOf). IsClosed w.world) (sym of) c.in_ok-world.ensures.closed
