@@ -9,7 +9,7 @@ import time
 
 PERIOD = 0.1  # seconds
 PATIENCE = 0.5
-VERSION = 2
+VERSION = 3
 ENTERED, NO_FLOOR = 1, 7
 
 

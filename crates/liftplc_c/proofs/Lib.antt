@@ -1,5 +1,7 @@
+pub mod Fronts
 pub mod Listed
 pub mod Refusing
 pub mod Resting
 pub mod Slots
 pub mod Taken
+pub mod Traces

@@ -6,3 +6,4 @@ pub mod Outputs
 pub mod Presses
 pub mod Rounds
 pub mod Refusals
+pub mod States

@@ -12,7 +12,7 @@ use il_machine::{TaskInfo, Verified};
 use std::alloc::Global;
 
 // The version of these exports.
-const VERSION: u32 = 2;
+const VERSION: u32 = 3;
 
 // The first task that is listed under the name of a number.
 fn listed(verified: &Verified, task: u8) -> Option<TaskInfo<'_>>
@@ -65,7 +65,7 @@ pub extern "C" fn liftplc_budget(alloc: Global, handle: &mut Handle, task: u8) -
 /// The version of these exports. The header has it too.
 #[unsafe(no_mangle)]
 pub extern "C" fn liftplc_version() -> u32
-    ensures { result ≡ 2 }
+    ensures { result ≡ 3 }
 {
     VERSION
 }

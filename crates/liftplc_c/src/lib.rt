@@ -9,6 +9,9 @@ mod notices;
 mod opening;
 mod outputs;
 mod pressing;
+mod refusal;
+mod resuming;
+mod saving;
 mod status;
 mod stepping;
 #[cfg(test)]

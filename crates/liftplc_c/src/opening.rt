@@ -15,20 +15,12 @@ ghost use Rattle.liftplc_c.specs.Refusals.{fault_in};
 
 use crate::handle::Handle;
 use crate::history::led;
+use crate::refusal::{TextRefusal, refuse_text};
 use crate::status::Status;
 use lift_load::load;
 use lift_runs::kept::Rounds;
 use lift_world::{Refusal, World};
 use std::alloc::Global;
-
-/// Why a text is refused: the number of its fault, and its place, as its line, counted from 1, and as how many bytes stand before it.
-#[repr(C)]
-#[derive(Clone, Copy)]
-pub struct TextRefusal {
-    pub number: u16,
-    pub line: u32,
-    pub offset: u32,
-}
 
 // The world of a text as it opens.
 fn opened(alloc: Global, text: &[u8]) -> Result<Box<Rounds, Global>, Refusal>
@@ -88,15 +80,7 @@ pub extern "C" fn liftplc_open(
             handle.put(rounds);
             Status::Done as u32
         }
-        Err(Refusal::Fault { number, place }) => {
-            *refusal = TextRefusal {
-                number,
-                line: place.line,
-                offset: place.offset,
-            };
-            Status::Refused as u32
-        }
-        Err(Refusal::Memory) => Status::NoMemory as u32,
+        Err(why) => refuse_text(why, refusal),
     }
 }
 

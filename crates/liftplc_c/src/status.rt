@@ -20,4 +20,8 @@ pub enum Status {
     NoFloor = 7,
     /// A call to its own floor.
     SameFloor = 8,
+    /// The trace is none of the text.
+    NoTrace = 10,
+    /// The room is too short.
+    Short = 11,
 }

@@ -4,9 +4,12 @@ use crate::asking::{liftplc_budget, liftplc_version};
 use crate::fields::{CarInput, FieldsInput};
 use crate::handle::Handle;
 use crate::notices::NoticeOutput;
-use crate::opening::{TextRefusal, liftplc_close, liftplc_open};
+use crate::opening::{liftplc_close, liftplc_open};
 use crate::outputs::{CarOutput, RoundOutputs, SlotOutput};
 use crate::pressing::liftplc_press;
+use crate::refusal::TextRefusal;
+use crate::resuming::liftplc_open_from;
+use crate::saving::liftplc_state;
 use crate::stepping::liftplc_round;
 
 // A car that stays where it is, and no GROUP.
@@ -72,18 +75,23 @@ fn no_outputs() -> RoundOutputs {
     }
 }
 
+// What no call has written yet.
+fn no_refusal() -> TextRefusal {
+    TextRefusal {
+        number: 0,
+        line: 0,
+        offset: 0,
+    }
+}
+
 #[test]
 fn a_call_waits_for_a_car_that_stays(rt: HostRuntime) {
     let alloc = rt.alloc();
     let mut handle = Handle::closed();
-    let mut refusal = TextRefusal {
-        number: 0,
-        line: 0,
-        offset: 0,
-    };
+    let mut refusal = no_refusal();
     let mut outputs = no_outputs();
     let fields = fields();
-    assert_eq!(rt; liftplc_version(), 2);
+    assert_eq!(rt; liftplc_version(), 3);
 
     // a text that is refused, and a handle that isn't open
     assert_eq!(rt; liftplc_open(alloc, &mut handle, b"X", &mut refusal), 1);
@@ -140,6 +148,92 @@ fn a_call_waits_for_a_car_that_stays(rt: HostRuntime) {
 
     assert_eq!(rt; liftplc_close(alloc, &mut handle), 0);
     assert_eq!(rt; liftplc_close(alloc, &mut handle), 4);
+    let Handle { held, is_open: _ } = handle;
+    held.end();
+}
+
+#[test]
+fn a_call_is_there_again(rt: HostRuntime) {
+    let alloc = rt.alloc();
+    let mut handle = Handle::closed();
+    let mut refusal = no_refusal();
+    let mut outputs = no_outputs();
+    let fields = fields();
+    let mut state = [0; 512];
+    let mut length = 0;
+    let mut dropped = 9;
+
+    // a handle that isn't open, and a room that is too short
+    assert_eq!(rt; liftplc_state(alloc, &mut handle, IDLE, &mut state, &mut length), 4);
+    assert_eq!(rt; liftplc_open(alloc, &mut handle, IDLE, &mut refusal), 0);
+    assert_eq!(rt; liftplc_press(alloc, &mut handle, 1, 2), 0);
+    assert_eq!(rt; length, 0);
+    assert_eq!(rt; liftplc_state(alloc, &mut handle, IDLE, &mut state[..9], &mut length), 11);
+    let short = length;
+    assert!(rt; state[0] == 0);
+
+    // the state, with the call that waits
+    assert_eq!(rt; liftplc_state(alloc, &mut handle, IDLE, &mut state, &mut length), 0);
+    let end = length as usize;
+    assert_eq!(rt; length, short);
+    assert!(rt; end > 40 && end <= 512);
+    let first = b"LIFTTRACE 3\nCONFIGURATION ";
+    let last = b"EVENTS\nP 1 2\nE 1\n";
+    assert!(rt; &state[..26] == first.as_slice());
+    assert!(rt; &state[end - 17..end] == last.as_slice());
+
+    // a handle that is open, a text that is refused, and traces that are none of the text
+    let trace = &state[..end];
+    assert_eq!(rt;
+        liftplc_open_from(alloc, &mut handle, IDLE, trace, &mut dropped, &mut refusal),
+        3
+    );
+    assert_eq!(rt; liftplc_close(alloc, &mut handle), 0);
+    assert_eq!(rt;
+        liftplc_open_from(alloc, &mut handle, b"X", trace, &mut dropped, &mut refusal),
+        1
+    );
+    assert_eq!(rt; (refusal.number, refusal.line), (10, 1));
+    assert_eq!(rt;
+        liftplc_open_from(alloc, &mut handle, IDLE, b"E 1\n", &mut dropped, &mut refusal),
+        10
+    );
+    assert_eq!(rt; (refusal.number, refusal.line, refusal.offset), (80, 1, 0));
+    assert_eq!(rt; dropped, 9);
+
+    // where the state was written the call waits, and a round enters it
+    assert_eq!(rt;
+        liftplc_open_from(alloc, &mut handle, IDLE, trace, &mut dropped, &mut refusal),
+        0
+    );
+    assert_eq!(rt; dropped, 0);
+    assert_eq!(rt; liftplc_press(alloc, &mut handle, 1, 2), 6);
+    assert_eq!(rt; liftplc_round(alloc, &mut handle, &fields, &mut outputs), 0);
+    let slot = outputs.slots[0];
+    assert_eq!(rt;
+        (slot.ticket, slot.state, slot.from, slot.to),
+        (1, 1, 1, 2)
+    );
+
+    // a state of another text is refused
+    assert_eq!(rt; liftplc_state(alloc, &mut handle, b"X", &mut state, &mut length), 0);
+    assert_eq!(rt; liftplc_close(alloc, &mut handle), 0);
+    let other = &state[..length as usize];
+    assert_eq!(rt;
+        liftplc_open_from(alloc, &mut handle, IDLE, other, &mut dropped, &mut refusal),
+        10
+    );
+    assert_eq!(rt; (refusal.number, refusal.line, refusal.offset), (85, 2, 0));
+
+    // of a trace that is cut off the events behind its last whole line are dropped
+    let cut = b"LIFTTRACE 2\nP 2 1\nG 2\n";
+    assert_eq!(rt;
+        liftplc_open_from(alloc, &mut handle, IDLE, cut, &mut dropped, &mut refusal),
+        0
+    );
+    assert_eq!(rt; dropped, 1);
+    assert_eq!(rt; liftplc_press(alloc, &mut handle, 2, 1), 6);
+    assert_eq!(rt; liftplc_close(alloc, &mut handle), 0);
     let Handle { held, is_open: _ } = handle;
     held.end();
 }

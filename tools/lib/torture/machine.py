@@ -13,7 +13,7 @@ from lib.building import Controller, Trouble
 
 CarFields = tuple[int, bool, bool, bool, bool, bool]  # POS, LEVEL, TOP, BOTTOM, LOCKED, OPENED
 Call = tuple[int, int]  # from, to
-VERSION = 2  # of include/liftplc.h
+VERSION = 3  # of include/liftplc.h
 OK, ALREADY = 0, 6  # statuses of the C library
 STRUCTS = {"fields": 56, "outputs": 3736}  # bytes
 CARS_AT, NOTICES_AT, NOTICE = 3, 1048, struct.Struct("<QBBBBBBxx")  # in liftplc_outputs
