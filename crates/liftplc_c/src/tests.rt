@@ -8,6 +8,7 @@ use crate::opening::{TextRefusal, liftplc_close, liftplc_open};
 use crate::outputs::{CarOutput, RoundOutputs, SlotOutput};
 use crate::pressing::liftplc_press;
 use crate::stepping::liftplc_round;
+use std::alloc::Global;
 
 // A car that stays where it is, and no GROUP.
 const IDLE: &[u8] = b"PROGRAM IDLE
@@ -21,8 +22,8 @@ END_RESOURCE
 END_CONFIGURATION
 ";
 
-// A car at floor 1, shut and locked.
-fn fields() -> FieldsInput {
+// So many cars at floor 1, shut and locked.
+fn fields(car_count: u8) -> FieldsInput {
     let car = CarInput {
         pos: 1,
         level: true,
@@ -35,7 +36,7 @@ fn fields() -> FieldsInput {
         time: 100,
         run_limit: 1,
         fire: false,
-        car_count: 1,
+        car_count,
         cars: [car; 8],
     }
 }
@@ -72,6 +73,63 @@ fn no_outputs() -> RoundOutputs {
     }
 }
 
+// What a handle that isn't open answers to a press, a round and a question for a budget.
+fn when_closed(alloc: Global, handle: &mut Handle, outputs: &mut RoundOutputs) -> [u32; 3] {
+    [
+        liftplc_press(alloc, handle, 1, 2),
+        liftplc_round(alloc, handle, &fields(1), outputs),
+        liftplc_budget(alloc, handle, 1),
+    ]
+}
+
+// What is answered to a text that is opened twice; then the budgets of CAR1 and of GROUP.
+fn when_opened(alloc: Global, handle: &mut Handle, refusal: &mut TextRefusal) -> [u32; 4] {
+    [
+        liftplc_open(alloc, handle, IDLE, refusal),
+        liftplc_open(alloc, handle, IDLE, refusal),
+        liftplc_budget(alloc, handle, 1),
+        liftplc_budget(alloc, handle, 0),
+    ]
+}
+
+// What is answered to a call, to the same call again, to one to a floor that isn't there, and to one to its own floor.
+fn pressed(alloc: Global, handle: &mut Handle) -> [u32; 4] {
+    [
+        liftplc_press(alloc, handle, 1, 2),
+        liftplc_press(alloc, handle, 1, 2),
+        liftplc_press(alloc, handle, 1, 3),
+        liftplc_press(alloc, handle, 2, 2),
+    ]
+}
+
+// Whether the call from 1 to 2 waits in slot 1 under ticket 1, and the car stays.
+fn has_waiting_call(outputs: &RoundOutputs) -> bool {
+    let (car, slot) = (outputs.cars[0], outputs.slots[0]);
+    (outputs.car_count, outputs.slot_count) == (1, 1)
+        && (car.motor, car.opens) == (0, false)
+        && (slot.ticket, slot.state, slot.from, slot.to, slot.car) == (1, 1, 1, 2, 0)
+}
+
+// Whether there is one notice: that the call has entered.
+fn has_entering(outputs: &RoundOutputs) -> bool {
+    let notice = outputs.notices[0];
+    outputs.notice_count == 1
+        && (notice.ticket, notice.kind, notice.slot) == (1, 1, 1)
+        && (notice.from, notice.to, notice.car, notice.rule) == (1, 2, 0, 0)
+}
+
+// A round that enters the call: its status, or none where it doesn't.
+fn first_round(alloc: Global, handle: &mut Handle, outputs: &mut RoundOutputs) -> Option<u32> {
+    let status = liftplc_round(alloc, handle, &fields(1), outputs);
+    (has_waiting_call(outputs) && has_entering(outputs)).then_some(status)
+}
+
+// A round in which the call waits on, without a notice: its status, or none.
+fn second_round(alloc: Global, handle: &mut Handle, outputs: &mut RoundOutputs) -> Option<u32> {
+    let status = liftplc_round(alloc, handle, &fields(1), outputs);
+    (outputs.slots[0].state == 1 && outputs.notice_count == 0).then_some(status)
+}
+
 #[test]
 fn a_call_waits_for_a_car_that_stays(rt: HostRuntime) {
     let alloc = rt.alloc();
@@ -82,64 +140,26 @@ fn a_call_waits_for_a_car_that_stays(rt: HostRuntime) {
         offset: 0,
     };
     let mut outputs = no_outputs();
-    let fields = fields();
-    assert_eq!(rt; liftplc_version(), 2);
+    assert!(rt; liftplc_version() == 2);
 
     // a text that is refused, and a handle that isn't open
-    assert_eq!(rt; liftplc_open(alloc, &mut handle, b"X", &mut refusal), 1);
-    assert_eq!(rt; (refusal.number, refusal.line), (10, 1));
-    assert_eq!(rt; liftplc_press(alloc, &mut handle, 1, 2), 4);
-    assert_eq!(rt; liftplc_round(alloc, &mut handle, &fields, &mut outputs), 4);
-    assert_eq!(rt; liftplc_budget(alloc, &mut handle, 1), 0);
+    assert!(rt; liftplc_open(alloc, &mut handle, b"X", &mut refusal) == 1);
+    assert!(rt; (refusal.number, refusal.line) == (10, 1));
+    assert!(rt; when_closed(alloc, &mut handle, &mut outputs) == [4, 4, 0]);
 
     // a text that opens, once
-    assert_eq!(rt; liftplc_open(alloc, &mut handle, IDLE, &mut refusal), 0);
-    assert_eq!(rt; liftplc_open(alloc, &mut handle, IDLE, &mut refusal), 3);
-    assert_eq!(rt; liftplc_budget(alloc, &mut handle, 1), 1);
-    assert_eq!(rt; liftplc_budget(alloc, &mut handle, 0), 0);
-
-    // presses
-    assert_eq!(rt; liftplc_press(alloc, &mut handle, 1, 2), 0);
-    assert_eq!(rt; liftplc_press(alloc, &mut handle, 1, 2), 6);
-    assert_eq!(rt; liftplc_press(alloc, &mut handle, 1, 3), 7);
-    assert_eq!(rt; liftplc_press(alloc, &mut handle, 2, 2), 8);
+    assert!(rt; when_opened(alloc, &mut handle, &mut refusal) == [0, 3, 1, 0]);
+    assert!(rt; pressed(alloc, &mut handle) == [0, 6, 7, 8]);
 
     // the first round enters the call, and no later one does
-    assert_eq!(rt; liftplc_round(alloc, &mut handle, &fields, &mut outputs), 0);
-    assert_eq!(rt;
-        (outputs.car_count, outputs.slot_count, outputs.notice_count),
-        (1, 1, 1)
-    );
-    assert_eq!(rt; (outputs.cars[0].motor, outputs.cars[0].opens), (0, false));
-    let slot = outputs.slots[0];
-    assert_eq!(rt;
-        (slot.ticket, slot.state, slot.from, slot.to, slot.car),
-        (1, 1, 1, 2, 0)
-    );
-    let notice = outputs.notices[0];
-    assert_eq!(rt;
-        (
-            notice.ticket,
-            notice.kind,
-            notice.slot,
-            notice.from,
-            notice.to
-        ),
-        (1, 1, 1, 1, 2)
-    );
-    assert_eq!(rt; (notice.car, notice.rule), (0, 0));
-    assert_eq!(rt; liftplc_round(alloc, &mut handle, &fields, &mut outputs), 0);
-    assert_eq!(rt; (outputs.slots[0].state, outputs.notice_count), (1, 0));
+    assert!(rt; first_round(alloc, &mut handle, &mut outputs) == Some(0));
+    assert!(rt; second_round(alloc, &mut handle, &mut outputs) == Some(0));
 
     // fields out of range
-    let early = FieldsInput {
-        car_count: 2,
-        ..fields
-    };
-    assert_eq!(rt; liftplc_round(alloc, &mut handle, &early, &mut outputs), 5);
+    assert!(rt; liftplc_round(alloc, &mut handle, &fields(2), &mut outputs) == 5);
 
-    assert_eq!(rt; liftplc_close(alloc, &mut handle), 0);
-    assert_eq!(rt; liftplc_close(alloc, &mut handle), 4);
+    assert!(rt; liftplc_close(alloc, &mut handle) == 0);
+    assert!(rt; liftplc_close(alloc, &mut handle) == 4);
     let Handle { held, is_open: _ } = handle;
     held.end();
 }
