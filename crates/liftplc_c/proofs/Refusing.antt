@@ -46,10 +46,6 @@ pub text_not_done : {P : Type 0} (n : ℕ) → (n ≡ 1) ⊎ (n ≡ 2) → n ≡
 text_not_done n (inl one) zero = absurd (omega (arith, one, zero))
 text_not_done n (inr two) zero = absurd (omega (arith, two, zero))
 
-pub text_not_open : {P : Type 0} (n : ℕ) → (n ≡ 1) ⊎ (n ≡ 2) → n ≡ 3 → P
-text_not_open n (inl one) three = absurd (omega (arith, one, three))
-text_not_open n (inr two) three = absurd (omega (arith, two, three))
-
 pub text_not_trace : {P : Type 0} (n : ℕ) → (n ≡ 1) ⊎ (n ≡ 2) → n ≡ 10 → P
 text_not_trace n (inl one) ten = absurd (omega (arith, one, ten))
 text_not_trace n (inr two) ten = absurd (omega (arith, two, ten))
@@ -73,8 +69,3 @@ pub left_not_refused : {P : Type 0} (n : ℕ) → (n ≡ 0) ⊎ ((n ≡ 2) ⊎ (
 left_not_refused n (inl zero) one = absurd (omega (arith, zero, one))
 left_not_refused n (inr (inl two)) one = absurd (omega (arith, two, one))
 left_not_refused n (inr (inr ten)) one = absurd (omega (arith, ten, one))
-
-pub left_not_open : {P : Type 0} (n : ℕ) → (n ≡ 0) ⊎ ((n ≡ 2) ⊎ (n ≡ 10)) → n ≡ 3 → P
-left_not_open n (inl zero) three = absurd (omega (arith, zero, three))
-left_not_open n (inr (inl two)) three = absurd (omega (arith, two, three))
-left_not_open n (inr (inr ten)) three = absurd (omega (arith, ten, three))

@@ -30,7 +30,12 @@ struct Resumed {
 }
 
 // The controller of a configuration where a trace ends.
-fn rounds_from(alloc: Global, verified: Verified, text: &[u8], trace: &[u8]) -> Result<Resumed, Fault>
+fn rounds_from(
+    alloc: Global,
+    verified: Verified,
+    text: &[u8],
+    trace: &[u8],
+) -> Result<Resumed, Fault>
     ensures left { IfOk result (λ r. IsLeft verified.config text.now trace.now
         r.rounds.value.world.world r.dropped) }
     ensures same { IfOk result (λ r. r.rounds.value.world.program ≡ verified) }
@@ -68,10 +73,12 @@ fn open_where_left(
     ensures unwritten { result ≢ 10 → refusal.new ≡ refusal.old }
 {
     match rounds_from(alloc, verified, text, trace) {
-        Ok(Resumed {
-            rounds,
-            dropped: count,
-        }) => {
+        Ok(
+            Resumed {
+                rounds,
+                dropped: count,
+            },
+        ) => {
             handle.put(rounds);
             *dropped = count as u64;
             Status::Done as u32
@@ -119,9 +126,7 @@ pub extern "C" fn liftplc_open_from(
         return Status::Open as u32;
     }
     match load(alloc, text) {
-        Ok(verified) => {
-            open_where_left(alloc, handle, verified, text, trace, dropped, refusal)
-        }
+        Ok(verified) => { open_where_left(alloc, handle, verified, text, trace, dropped, refusal) }
         Err(why) => refuse_text(why, refusal),
     }
 }

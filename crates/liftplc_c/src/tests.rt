@@ -164,16 +164,25 @@ fn a_call_is_there_again(rt: HostRuntime) {
     let mut dropped = 9;
 
     // a handle that isn't open, and a room that is too short
-    assert_eq!(rt; liftplc_state(alloc, &mut handle, IDLE, &mut state, &mut length), 4);
+    assert_eq!(rt;
+        liftplc_state(alloc, &mut handle, IDLE, &mut state, &mut length),
+        4
+    );
     assert_eq!(rt; liftplc_open(alloc, &mut handle, IDLE, &mut refusal), 0);
     assert_eq!(rt; liftplc_press(alloc, &mut handle, 1, 2), 0);
     assert_eq!(rt; length, 0);
-    assert_eq!(rt; liftplc_state(alloc, &mut handle, IDLE, &mut state[..9], &mut length), 11);
+    assert_eq!(rt;
+        liftplc_state(alloc, &mut handle, IDLE, &mut state[..9], &mut length),
+        11
+    );
     let short = length;
     assert!(rt; state[0] == 0);
 
     // the state, with the call that waits
-    assert_eq!(rt; liftplc_state(alloc, &mut handle, IDLE, &mut state, &mut length), 0);
+    assert_eq!(rt;
+        liftplc_state(alloc, &mut handle, IDLE, &mut state, &mut length),
+        0
+    );
     let end = length as usize;
     assert_eq!(rt; length, short);
     assert!(rt; end > 40 && end <= 512);
@@ -195,7 +204,14 @@ fn a_call_is_there_again(rt: HostRuntime) {
     );
     assert_eq!(rt; (refusal.number, refusal.line), (10, 1));
     assert_eq!(rt;
-        liftplc_open_from(alloc, &mut handle, IDLE, b"E 1\n", &mut dropped, &mut refusal),
+        liftplc_open_from(
+            alloc,
+            &mut handle,
+            IDLE,
+            b"E 1\n",
+            &mut dropped,
+            &mut refusal
+        ),
         10
     );
     assert_eq!(rt; (refusal.number, refusal.line, refusal.offset), (80, 1, 0));
@@ -210,13 +226,13 @@ fn a_call_is_there_again(rt: HostRuntime) {
     assert_eq!(rt; liftplc_press(alloc, &mut handle, 1, 2), 6);
     assert_eq!(rt; liftplc_round(alloc, &mut handle, &fields, &mut outputs), 0);
     let slot = outputs.slots[0];
-    assert_eq!(rt;
-        (slot.ticket, slot.state, slot.from, slot.to),
-        (1, 1, 1, 2)
-    );
+    assert_eq!(rt; (slot.ticket, slot.state, slot.from, slot.to), (1, 1, 1, 2));
 
     // a state of another text is refused
-    assert_eq!(rt; liftplc_state(alloc, &mut handle, b"X", &mut state, &mut length), 0);
+    assert_eq!(rt;
+        liftplc_state(alloc, &mut handle, b"X", &mut state, &mut length),
+        0
+    );
     assert_eq!(rt; liftplc_close(alloc, &mut handle), 0);
     let other = &state[..length as usize];
     assert_eq!(rt;

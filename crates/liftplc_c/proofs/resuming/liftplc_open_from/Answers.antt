@@ -31,10 +31,13 @@ returns-in-Ok-clause-one c one = left_not_refused c.open_where_left.result c.ope
 pub returns-in-Ok-clause-opened : goal.returns-in-Ok-clause-opened
 returns-in-Ok-clause-opened c zero =
     let o = c.open_where_left.ensures.opened zero in
-    let same = sym o.2 in
-    (o.0, o.1, subst (λ (p : Program). IsAccepted c.args.text.now p.config) same c.in-Ok.ensures.found,
-    subst (λ (p : Program). IsLeft p.config c.args.text.now c.args.trace.now o.0.world c.open_where_left.new.dropped) same o.3,
-    subst (λ (p : Program). RunsWell p.config) same c.in-Ok.ensures.runs)
+    let same = sym o.2 in (
+      o.0,
+      o.1,
+      subst (λ (p : Program). IsAccepted c.args.text.now p.config) same c.in-Ok.ensures.found,
+      subst (λ (p : Program). IsLeft p.config c.args.text.now c.args.trace.now o.0.world c.open_where_left.new.dropped) same o.3,
+      subst (λ (p : Program). RunsWell p.config) same c.in-Ok.ensures.runs,
+    )
 
 pub returns-in-Ok-clause-led : goal.returns-in-Ok-clause-led
 returns-in-Ok-clause-led c zero =
