@@ -1,5 +1,7 @@
 // Each export once, called as C calls them.
 
+ghost use Rattle.std.specs.Prelude.{◌≡◌, None};
+
 use crate::asking::{liftplc_budget, liftplc_version};
 use crate::fields::{CarInput, FieldsInput};
 use crate::handle::Handle;
@@ -11,6 +13,7 @@ use crate::refusal::TextRefusal;
 use crate::resuming::liftplc_open_from;
 use crate::saving::liftplc_state;
 use crate::stepping::liftplc_round;
+use std::alloc::Global;
 
 // A car that stays where it is, and no GROUP.
 const IDLE: &[u8] = b"PROGRAM IDLE
@@ -152,103 +155,49 @@ fn a_call_waits_for_a_car_that_stays(rt: HostRuntime) {
     held.end();
 }
 
+// The answers to calls that write a state: of a handle that isn't open, of one that opens and has a call pressed, into a room that is too short, and into
+// one that isn't.
+fn saved(alloc: Global, handle: &mut Handle, state: &mut [u8; 512], length: &mut u64) -> [u32; 5] {
+    let mut refusal = no_refusal();
+    [
+        liftplc_state(alloc, handle, IDLE, state, length),
+        liftplc_open(alloc, handle, IDLE, &mut refusal),
+        liftplc_press(alloc, handle, 1, 2),
+        liftplc_state(alloc, handle, IDLE, &mut state[..9], length),
+        liftplc_state(alloc, handle, IDLE, state, length),
+    ]
+}
+
+// The answers to calls that open where a state leads: of a handle that is open, of a text that is refused, of a trace that is none, and of the
+// state, whose call waits.
+fn resumed(alloc: Global, handle: &mut Handle, state: &[u8], dropped: &mut u64) -> [u32; 7]
+    ensures { handle.new.held.world ≡ None }
+{
+    let mut refusal = no_refusal();
+    [
+        liftplc_open_from(alloc, handle, IDLE, state, dropped, &mut refusal),
+        liftplc_close(alloc, handle),
+        liftplc_open_from(alloc, handle, b"X", state, dropped, &mut refusal),
+        liftplc_open_from(alloc, handle, IDLE, b"E 1\n", dropped, &mut refusal),
+        liftplc_open_from(alloc, handle, IDLE, state, dropped, &mut refusal),
+        liftplc_press(alloc, handle, 1, 2),
+        liftplc_close(alloc, handle),
+    ]
+}
+
 #[test]
 fn a_call_is_there_again(rt: HostRuntime) {
     let alloc = rt.alloc();
     let mut handle = Handle::closed();
-    let mut refusal = no_refusal();
-    let mut outputs = no_outputs();
-    let fields = fields();
     let mut state = [0; 512];
     let mut length = 0;
     let mut dropped = 9;
-
-    // a handle that isn't open, and a room that is too short
-    assert_eq!(rt;
-        liftplc_state(alloc, &mut handle, IDLE, &mut state, &mut length),
-        4
-    );
-    assert_eq!(rt; liftplc_open(alloc, &mut handle, IDLE, &mut refusal), 0);
-    assert_eq!(rt; liftplc_press(alloc, &mut handle, 1, 2), 0);
-    assert_eq!(rt; length, 0);
-    assert_eq!(rt;
-        liftplc_state(alloc, &mut handle, IDLE, &mut state[..9], &mut length),
-        11
-    );
-    let short = length;
-    assert!(rt; state[0] == 0);
-
-    // the state, with the call that waits
-    assert_eq!(rt;
-        liftplc_state(alloc, &mut handle, IDLE, &mut state, &mut length),
-        0
-    );
-    let end = length as usize;
-    assert_eq!(rt; length, short);
-    assert!(rt; end > 40 && end <= 512);
-    let first = b"LIFTTRACE 3\nCONFIGURATION ";
-    let last = b"EVENTS\nP 1 2\nE 1\n";
-    let trace = &state[..end];
-    assert!(rt; trace.starts_with(first) && trace.ends_with(last));
-
-    // a handle that is open, a text that is refused, and traces that are none of the text
-    assert_eq!(rt;
-        liftplc_open_from(alloc, &mut handle, IDLE, trace, &mut dropped, &mut refusal),
-        3
-    );
-    assert_eq!(rt; liftplc_close(alloc, &mut handle), 0);
-    assert_eq!(rt;
-        liftplc_open_from(alloc, &mut handle, b"X", trace, &mut dropped, &mut refusal),
-        1
-    );
-    assert_eq!(rt; (refusal.number, refusal.line), (10, 1));
-    assert_eq!(rt;
-        liftplc_open_from(
-            alloc,
-            &mut handle,
-            IDLE,
-            b"E 1\n",
-            &mut dropped,
-            &mut refusal
-        ),
-        10
-    );
-    assert_eq!(rt; (refusal.number, refusal.line, refusal.offset), (80, 1, 0));
-    assert_eq!(rt; dropped, 9);
-
-    // where the state was written the call waits, and a round enters it
-    assert_eq!(rt;
-        liftplc_open_from(alloc, &mut handle, IDLE, trace, &mut dropped, &mut refusal),
-        0
-    );
-    assert_eq!(rt; dropped, 0);
-    assert_eq!(rt; liftplc_press(alloc, &mut handle, 1, 2), 6);
-    assert_eq!(rt; liftplc_round(alloc, &mut handle, &fields, &mut outputs), 0);
-    let slot = outputs.slots[0];
-    assert_eq!(rt; (slot.ticket, slot.state, slot.from, slot.to), (1, 1, 1, 2));
-
-    // a state of another text is refused
-    assert_eq!(rt;
-        liftplc_state(alloc, &mut handle, b"X", &mut state, &mut length),
-        0
-    );
-    assert_eq!(rt; liftplc_close(alloc, &mut handle), 0);
-    let other = &state[..length as usize];
-    assert_eq!(rt;
-        liftplc_open_from(alloc, &mut handle, IDLE, other, &mut dropped, &mut refusal),
-        10
-    );
-    assert_eq!(rt; (refusal.number, refusal.line, refusal.offset), (85, 2, 0));
-
-    // of a trace that is cut off the events behind its last whole line are dropped
-    let cut = b"LIFTTRACE 2\nP 2 1\nG 2\n";
-    assert_eq!(rt;
-        liftplc_open_from(alloc, &mut handle, IDLE, cut, &mut dropped, &mut refusal),
-        0
-    );
-    assert_eq!(rt; dropped, 1);
-    assert_eq!(rt; liftplc_press(alloc, &mut handle, 2, 1), 6);
-    assert_eq!(rt; liftplc_close(alloc, &mut handle), 0);
+    let written = saved(alloc, &mut handle, &mut state, &mut length);
+    let end = (length as usize).min(512);
+    let opened = resumed(alloc, &mut handle, &state[..end], &mut dropped);
     let Handle { held, is_open: _ } = handle;
     held.end();
+    assert!(rt; written == [4, 0, 0, 11, 0]);
+    assert!(rt; opened == [3, 0, 1, 10, 0, 6, 0]);
+    assert!(rt; dropped == 0);
 }
