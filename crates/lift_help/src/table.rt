@@ -2,8 +2,8 @@
 
 use clap::{Arg, ArgAction, Command};
 use lift_host::request::{
-    ALL, CALLS, CUT, FIRE, FROM, Following, JSON, LEFT, LIMITS, Name, ROUND, ROUNDS, SUMMARY,
-    Showing, Simulating, TOGETHER, TRACE, UNTIL, WARN,
+    ALL, CALLS, CHANGES, CUT, FIRE, FROM, Following, JSON, LEFT, LIMITS, Name, PATHS, ROUND, ROUNDS,
+    SUMMARY, Showing, Simulating, TEXT, TOGETHER, TRACE, UNTIL, WARN,
 };
 use lift_host::serving::SYNC;
 use std::alloc::{AllocError, Global};
@@ -78,6 +78,18 @@ const LIMITS_FLAG: Argument = Argument {
     help: "Also shows how much of each limit FILE uses",
 };
 
+const PATHS_FLAG: Argument = Argument {
+    name: PATHS,
+    standing: Standing::Alone,
+    help: "Shows lines of a path that follow one another as a range, as 144-247; not with --json",
+};
+
+const TEXT_FLAG: Argument = Argument {
+    name: TEXT,
+    standing: Standing::Alone,
+    help: "Also shows the text of each instruction; not with --json",
+};
+
 const JSON_FLAG: Argument = Argument {
     name: JSON,
     standing: Standing::Alone,
@@ -136,6 +148,12 @@ const ALL_FLAG: Argument = Argument {
     name: ALL,
     standing: Standing::Alone,
     help: "Also shows each stop at the top or the bottom, which no program can avoid",
+};
+
+const CHANGES_FLAG: Argument = Argument {
+    name: CHANGES,
+    standing: Standing::Alone,
+    help: "Leaves out a round whose values are those of the round before",
 };
 
 const TRACE_WORD: Argument = Argument {
@@ -209,12 +227,12 @@ static COMMANDS: [Row; 13] = [
     Row {
         name: Named::Of(Name::Check),
         about: "Verifies FILE and shows its tasks and units",
-        arguments: &[FILE_WORD, WARN_FLAG, LIMITS_FLAG, JSON_FLAG],
+        arguments: &[FILE_WORD, WARN_FLAG, LIMITS_FLAG, PATHS_FLAG, JSON_FLAG],
     },
     Row {
         name: Named::Of(Name::Show(Showing::Ranges)),
         about: "Shows the ranges that the verifier finds for each instruction of FILE",
-        arguments: &[FILE_WORD, JSON_FLAG],
+        arguments: &[FILE_WORD, TEXT_FLAG, JSON_FLAG],
     },
     Row {
         name: Named::Of(Name::Show(Showing::Xref)),
@@ -262,6 +280,7 @@ static COMMANDS: [Row; 13] = [
             NAMES,
             FIRE_OPTION,
             CALLS_OPTION,
+            CHANGES_FLAG,
             CUT_FLAG,
         ],
     },

@@ -246,19 +246,22 @@ pub record Asks (words : List (List ℕ)) (request : Request) : Type 0 where
 
 -- WORDS AS THEY ARE READ
 
--- the flag of a command's own: `--limits` of `check`, `--all` of `denials`, `--together` of `run`, `--summary` of `calls`
+-- the flag of a command's own: `--limits` of `check`, `--text` of `ranges`, `--all` of `denials`, `--changes` of `watch`, `--together` of `run`, `--summary` of `calls`
 abbrev pub flag_of : List ℕ → Option (List ℕ)
 flag_of command =
     if bytes_eq command (codes "check") then Some (codes "--limits")
+    else if bytes_eq command (codes "ranges") then Some (codes "--text")
     else if bytes_eq command (codes "denials") then Some (codes "--all")
+    else if bytes_eq command (codes "watch") then Some (codes "--changes")
     else if bytes_eq command (codes "run") then Some (codes "--together")
     else if bytes_eq command (codes "calls") then Some (codes "--summary")
     else None
 
--- a second flag: `--left` of `run`, `--cut` of a command that is always over a trace
+-- a second flag: `--paths` of `check`, `--left` of `run`, `--cut` of a command that is always over a trace
 abbrev pub second_of : List ℕ → Option (List ℕ)
 second_of command =
-    if bytes_eq command (codes "run") then Some (codes "--left")
+    if bytes_eq command (codes "check") then Some (codes "--paths")
+    else if bytes_eq command (codes "run") then Some (codes "--left")
     else if bytes_eq command (codes "replay") || bytes_eq command (codes "draw") || bytes_eq command (codes "calls") || bytes_eq command (codes "scan") then Some (codes "--cut") else None
 
 -- the flag of the command of words: this is the first word but `--explain`
@@ -294,9 +297,13 @@ is_flag (Some flag) word = bytes_eq word flag
 abbrev pub names_flag : Option (List ℕ) → List (List ℕ) → Bool
 names_flag flag words = list_any (is_flag flag) words
 
--- `--json` of words, where `--summary` isn't among them
+-- whether a flag is among words that has no JSON
+abbrev pub excludes_json : List (List ℕ) → Bool
+excludes_json words = names_flag (Some (codes "--summary")) words || names_flag (Some (codes "--paths")) words || names_flag (Some (codes "--text")) words
+
+-- `--json` of words, where no such flag is among them
 abbrev pub asked_json : List (List ℕ) → Option (List ℕ)
-asked_json words = if names_flag (Some (codes "--summary")) words then None else own_json words
+asked_json words = if excludes_json words then None else own_json words
 
 -- which flags of their command are
 abbrev pub flags_of : List (List ℕ) → Flags
@@ -334,7 +341,7 @@ plain_words words = flat_map (plain_word (own_flag words) (own_second words) (as
 
 -- a request with the flags of its command that stand among the words
 abbrev pub with_flags : Flags → Request → Request
-with_flags flags (request.Check checked) = request.Check (record checked { limits = flags.own; json = flags.json })
-with_flags flags (request.Show command shown) = request.Show command (record shown { json = flags.json })
+with_flags flags (request.Check checked) = request.Check (record checked { limits = flags.own; paths = flags.second; json = flags.json })
+with_flags flags (request.Show command shown) = request.Show command (record shown { text = flags.own; json = flags.json })
 with_flags flags (request.Rounds command rounds) = request.Rounds command (record rounds { flag = flags.own; left = flags.second; json = flags.json })
 with_flags flags (request.Trace command traced) = request.Trace command (record traced { flag = flags.own; cut = flags.second || traced.cut; json = flags.json })

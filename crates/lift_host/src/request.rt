@@ -1,7 +1,7 @@
 // What the words ask for.
 
 ghost use Rattle.std.specs.Prelude.{◌≡◌, ◌≤◌, ◌<◌, ◌∷◌, ◌++◌, ◌↔◌, [], ℕ, Bool, List, Option, Some, true, false, IfSome, IfOk, IsNone, IsTrue, MatchOption, OnOk, codes, bytes_eq, flat_map, length, map, option_map, slice_get, string_bytes};
-ghost use Rattle.lift_host.specs.Requests.{IsNumberTo, IsDigits, IsOption, AreNoOptions, LeaveOut, IsApart, IsOnlyApart, AreApart, AreOnlyApart, IsBehind, IsOnlyBehind, IsFlagApart, IsFile, IsFileBeside, IsFileWith, AreFiles, GiveRounds, GiveTrace, GiveDrawing, GiveFollowed, GiveScan, AreNames, Takes, TakesTrace, Asks, BeginsWithDigit, BeginWithName, NeedsName, AreNamesFirst, plain_words, plain_word, cut_word, cut_scan_word, cut_serve_word, flag_of, second_of, json_of, own_flag, own_second, own_json, asked_json, is_flag, explains, names_flag, flags_of, with_flags, command_of, name_of, word_of, words_of};
+ghost use Rattle.lift_host.specs.Requests.{IsNumberTo, IsDigits, IsOption, AreNoOptions, LeaveOut, IsApart, IsOnlyApart, AreApart, AreOnlyApart, IsBehind, IsOnlyBehind, IsFlagApart, IsFile, IsFileBeside, IsFileWith, AreFiles, GiveRounds, GiveTrace, GiveDrawing, GiveFollowed, GiveScan, AreNames, Takes, TakesTrace, Asks, BeginsWithDigit, BeginWithName, NeedsName, AreNamesFirst, plain_words, plain_word, cut_word, cut_scan_word, cut_serve_word, flag_of, second_of, json_of, own_flag, own_second, own_json, asked_json, excludes_json, is_flag, explains, names_flag, flags_of, with_flags, command_of, name_of, word_of, words_of};
 ghost use Rattle.lift_host.specs.declared.request.Name.{Name};
 ghost use Rattle.lift_host.specs.declared.request.Request.{Request};
 ghost use Rattle.lift_host.specs.declared.request.Rounds.{Rounds};
@@ -54,6 +54,9 @@ pub const FROM: &str = "--from";
 // The same option, where its value stands in one word with it.
 const FROM_IS: &str = "--from=";
 
+/// The flag of `watch` that has it leave out a round whose values are those of the round before.
+pub const CHANGES: &str = "--changes";
+
 /// The flag of `denials` that has it show all denials.
 pub const ALL: &str = "--all";
 
@@ -77,6 +80,12 @@ pub const WARN: &str = "--warn";
 
 /// The flag of `check` that has it print how much of each limit is used.
 pub const LIMITS: &str = "--limits";
+
+/// The flag of `check` that has it print lines of a path that follow one another as a range.
+pub const PATHS: &str = "--paths";
+
+/// The flag of `ranges` that has it print the text of each instruction.
+pub const TEXT: &str = "--text";
 
 /// The flag of the commands that print lines that has them print JSON, an object a line.
 pub const JSON: &str = "--json";
@@ -146,6 +155,8 @@ pub struct Checked<'w> {
     pub warns: bool,
     /// Whether how much of each limit is used is to be printed too.
     pub limits: bool,
+    /// Whether lines of a path that follow one another are to be printed as a range.
+    pub paths: bool,
     /// Whether JSON is to be printed.
     pub json: bool,
 }
@@ -155,6 +166,8 @@ pub struct Checked<'w> {
 pub struct Shown<'w> {
     /// The name of the file.
     pub file: &'w str,
+    /// Whether `ranges` is to print the text of each instruction.
+    pub text: bool,
     /// Whether JSON is to be printed.
     pub json: bool,
 }
@@ -172,8 +185,8 @@ pub struct Rounds<'w> {
     pub fire: Option<&'w str>,
     /// The word behind `--calls`, the name of a file.
     pub calls: Option<&'w str>,
-    /// Whether the command's own flag stands among the words: `denials` is to show all, also the stops at the ends of the shaft; a round of `run` is to end for
-    /// all before the next begins.
+    /// Whether the command's own flag stands among the words: `denials` is to show all, also the stops at the ends of the shaft; `watch` is to
+    /// leave out what doesn't change; a round of `run` is to end for all before the next begins.
     pub flag: bool,
     /// Whether `run` is to print how many calls are left.
     pub left: bool,
@@ -196,7 +209,8 @@ pub struct Traced<'w> {
     pub round: Option<&'w str>,
     /// The word behind `--until`, which is to be the line behind which `scan` shows nothing more.
     pub until: Option<&'w str>,
-    /// Whether the command's own flag stands among the words: `calls` is to print a summary, `denials` is to show all.
+    /// Whether the command's own flag stands among the words: `calls` is to print a summary, `denials` is to show all, `watch` is to leave out
+    /// what doesn't change.
     pub flag: bool,
     /// Whether the trace may be cut off, and is taken up to its last whole line.
     pub cut: bool,
@@ -339,8 +353,7 @@ impl<'w> Words<'w> {
 }
 
 impl<'w> Request<'w> {
-    /// The same, with the flags of its command or without: `check` is to print limits, `denials` is to show all, the rounds of `run` are to be together,
-    /// `calls` is to print a summary; a trace may be cut off, `run` is to print how many calls are left; JSON is to be printed.
+    /// The same, with the flags of its command or without.
     pub fn with_flags(self, flags: Flags) -> Request<'w>
         ensures { result ≡ with_flags flags self.entry }
     {
@@ -349,11 +362,21 @@ impl<'w> Request<'w> {
             Request::Check(checked) => {
                 Request::Check(Checked {
                     limits: flags.own,
+                    paths: flags.second,
                     json,
                     ..checked
                 })
             }
-            Request::Show(command, shown) => Request::Show(command, Shown { json, ..shown }),
+            Request::Show(command, shown) => {
+                Request::Show(
+                    command,
+                    Shown {
+                        text: flags.own,
+                        json,
+                        ..shown
+                    },
+                )
+            }
             Request::Rounds(command, rounds) => {
                 Request::Rounds(
                     command,
@@ -484,7 +507,11 @@ fn shown_given(rest: &[String]) -> Option<Shown<'_>>
     ensures none { IsNone result → (file : List ℕ) → IsFile (map string_bytes rest.now) file → ⊥ }
 {
     match rest {
-        [file] if !is_option(file) => Some(Shown { file, json: false }),
+        [file] if !is_option(file) => Some(Shown {
+            file,
+            text: false,
+            json: false,
+        }),
         _ => None,
     }
 }
@@ -558,6 +585,7 @@ fn check_given(rest: &[String]) -> Option<Checked<'_>>
         file,
         warns: has_option,
         limits: false,
+        paths: false,
         json: false,
     })
 }
@@ -1045,11 +1073,12 @@ fn is_explain(word: &str) -> bool
 /// Which flags of a command stand among its words.
 #[derive(Clone, Copy)]
 pub struct Flags {
-    /// That of the command's own: `--limits` of `check`, `--all` of `denials`, `--together` of `run`, `--summary` of `calls`.
+    /// That of the command's own: `--limits` of `check`, `--text` of `ranges`, `--all` of `denials`, `--changes` of `watch`, `--together` of `run`,
+    /// `--summary` of `calls`.
     pub own: bool,
-    /// A second one: `--left` of `run`, `--cut` of `replay`, `draw`, `calls` and `scan`; that of `denials` and `watch` over a trace is one of the words.
+    /// A second one: `--paths` of `check`, `--left` of `run`, `--cut` of `replay`, `draw`, `calls` and `scan`; that of `denials` and `watch` over a trace is one of the words.
     pub second: bool,
-    /// `--json` of `check`, `ranges`, `xref`, `calls` and `denials`. Beside `--summary` it stays one of the words.
+    /// `--json` of `check`, `ranges`, `xref`, `calls` and `denials`. Beside `--summary`, `--paths` or `--text` it stays one of the words.
     pub json: bool,
 }
 
@@ -1123,15 +1152,24 @@ fn own_json(words: &[String]) -> Option<&'static str>
     None
 }
 
-// The same, where `--summary` isn't one of the words.
+// The same, where no flag is one of the words that has no JSON.
 fn asked_json(words: &[String]) -> Option<&'static str>
     ensures { option_map (λ f. f.now) result ≡ asked_json (map string_bytes words.now) }
 {
-    if names_flag(Some(SUMMARY), words) {
+    if excludes_json(words) {
         None
     } else {
         own_json(words)
     }
+}
+
+// Whether a flag is one of the words that has no JSON.
+fn excludes_json(words: &[String]) -> bool
+    ensures { result ≡ excludes_json (map string_bytes words.now) }
+{
+    names_flag(Some(SUMMARY), words)
+        || names_flag(Some(PATHS), words)
+        || names_flag(Some(TEXT), words)
 }
 
 // The flag of a command's own.
@@ -1140,18 +1178,21 @@ fn flag_of(command: &str) -> Option<&'static str>
 {
     match command {
         "check" => Some(LIMITS),
+        "ranges" => Some(TEXT),
         "denials" => Some(ALL),
+        "watch" => Some(CHANGES),
         "run" => Some(TOGETHER),
         "calls" => Some(SUMMARY),
         _ => None,
     }
 }
 
-// The second flag of a command: `--left` of `run`, `--cut` of one that is always over a trace.
+// The second flag of a command: `--paths` of `check`, `--left` of `run`, `--cut` of one that is always over a trace.
 fn second_of(command: &str) -> Option<&'static str>
     ensures { option_map (λ f. f.now) result ≡ second_of command.now }
 {
     match command {
+        "check" => Some(PATHS),
         "run" => Some(LEFT),
         "replay" | "draw" | "calls" | "scan" => Some(CUT),
         _ => None,
