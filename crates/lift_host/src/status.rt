@@ -34,9 +34,11 @@ pub enum Status {
 pub enum ScanFault {
     /// TASK is no task of the group.
     Task,
+    /// The name after the period of TASK is no unit of the text.
+    Unit,
     /// The word behind `--round` is no number from 1 to 65535.
     Round,
-    /// The word behind `--until` is no number from 1 to 65535.
+    /// The word behind `--until` is no line, and no two lines.
     Line,
     /// The trace commits no scan of TASK.
     Uncommitted,
@@ -51,8 +53,9 @@ impl ScanFault {
     {
         match self {
             ScanFault::Task => "the group has no such task",
+            ScanFault::Unit => "the text has no such unit",
             ScanFault::Round => "no round: a number from 1 to 65535",
-            ScanFault::Line => "no line: a number from 1 to 65535",
+            ScanFault::Line => "no lines: LINE, FROM:LINE or FROM:, numbers from 1 to 65535",
             ScanFault::Uncommitted => "the trace commits no scan of this task",
             ScanFault::UncommittedInRound => "the trace commits no scan of the task in this round",
         }
