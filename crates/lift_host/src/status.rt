@@ -114,8 +114,8 @@ pub enum Fault {
     BadSpan(String),
     /// There is no such scan, for what this word says.
     BadScan(ScanFault, String),
-    /// This NAME of `watch` names nothing that has a value.
-    BadName(String),
+    /// This NAME of `watch` names nothing that has a value, and what is said of it.
+    BadName { name: String, says: String },
     CannotRead(Cause),
     CannotWrite,
     NoMemory,
@@ -201,7 +201,7 @@ impl Fault {
             Fault::BadFire(_) => Status::Refused,
             Fault::BadSpan(_) => Status::Refused,
             Fault::BadScan(_, _) => Status::Refused,
-            Fault::BadName(_) => Status::Refused,
+            Fault::BadName { .. } => Status::Refused,
             Fault::CannotRead(_) => Status::CannotRead,
             Fault::CannotWrite => Status::CannotWrite,
             Fault::NoMemory => Status::NoMemory,
@@ -225,7 +225,7 @@ impl Fault {
             Fault::BadFire(_) => put_all(sink, b"bad fire\n"),
             Fault::BadSpan(_) => put_all(sink, b"bad rounds\n"),
             Fault::BadScan(_, _) => put_all(sink, b"bad scan\n"),
-            Fault::BadName(_) => put_all(sink, b"bad name\n"),
+            Fault::BadName { .. } => put_all(sink, b"bad name\n"),
             Fault::CannotRead(_) => put_all(sink, b"cannot read\n"),
             Fault::CannotWrite => put_all(sink, b"cannot write\n"),
             Fault::NoMemory => put_all(sink, b"no memory\n"),
