@@ -183,7 +183,7 @@ const SUMMARY_FLAG: Argument = Argument {
 const TASK: Argument = Argument {
     name: "TASK",
     standing: Standing::Once,
-    help: "A task: GROUP, or CAR1 and so on",
+    help: "A task: GROUP, or CAR1 and so on; CAR1.UNIT shows the instructions of that unit alone",
 };
 
 const ROUND_OPTION: Argument = Argument {
@@ -195,7 +195,7 @@ const ROUND_OPTION: Argument = Argument {
 const UNTIL_OPTION: Argument = Argument {
     name: UNTIL,
     standing: Standing::Behind("LINE"),
-    help: "Shows nothing behind the first instruction of LINE",
+    help: "Shows nothing after the first instruction of LINE; with FROM:LINE nothing before that of FROM",
 };
 
 const FROM_OPTION: Argument = Argument {
