@@ -41,10 +41,14 @@ COMMANDS = (
         (
             Option("--warn", "", "Also tells, on standard error, what an accepted FILE declares or stores in vain"),
             Option("--limits", "", "Also shows how much of each limit FILE uses"),
+            Option("--paths", "", "Shows lines of a path that follow one another as a range, as 144-247; not with --json"),
             JSON,
         ),
     ),
-    Command("ranges", "Shows the ranges that the verifier finds for each instruction of FILE", "<FILE>", (JSON,)),
+    Command(
+        "ranges", "Shows the ranges that the verifier finds for each instruction of FILE", "<FILE>",
+        (Option("--text", "", "Also shows the text of each instruction; not with --json"), JSON),
+    ),
     Command("xref", "Shows where FILE declares, reads, writes and calls each name", "<FILE>", (JSON,)),
     Command("sim", "Runs FILE on a simulated plant and prints the trace", "<FILE> <ROUNDS> [PRESS]...", (FIRE, CALLS)),
     Command(
@@ -62,7 +66,7 @@ COMMANDS = (
     ),
     Command(
         "watch", "Runs FILE as `sim` does, or replays a trace on it, and prints values behind each round, as CSV", "<FILE> <ROUNDS|TRACE> <NAME>...",
-        (FIRE, CALLS, CUT),
+        (FIRE, CALLS, Option("--changes", "", "Leaves out a round whose values are those of the round before"), CUT),
     ),
     Command("replay", "Replays a trace on FILE and prints the image", "<FILE> <TRACE>", (CUT,)),
     Command(
@@ -78,7 +82,7 @@ COMMANDS = (
         (
             CUT,
             Option("--round", "N", "Shows the scan that is committed in round N"),
-            Option("--until", "LINE", "Shows nothing behind the first instruction of LINE"),
+            Option("--until", "LINE", "Shows nothing after the first instruction of LINE; with FROM:LINE nothing before that of FROM"),
         ),
     ),
     Command(
