@@ -13,18 +13,11 @@ use Rattle.lift_host.specs.declared.status.ScanFault.TheVariants.{Round, Line}
 use Rattle.lift_messages.specs.Outputs.{Outcome}
 use Rattle.lift_output.specs.Outcomes.{IsScanned, IsScanOutcome}
 use Rattle.lift_output.specs.Parts.{AreScanned, IsTraceUnread}
-use Rattle.lift_output.specs.Scans.{HasTask, HasRound, IsAsked, IsTaskWord, IsUnasked, IsUnaskedBy, IsBadNumber, round_word, until_word}
+use Rattle.lift_output.specs.Scans.{HasPart, HasRound, IsAsked, IsUnasked, IsUnaskedBy, IsBadScan, IsPartFault, IsRoundFault, IsLinesFault, task_word, round_word, until_word}
 use Rattle.lift_output.specs.Traces.{IsRead}
 use Rattle.lift_scan.specs.declared.chosen.Asked.{Asked}
 use Rattle.lift_spec.specs.Snapshot.{has_task, task_name}
 use Rattle.lift_watch.specs.Names.{upper_case}
-
--- a name of no task of the group is none of another
-pub names_none : (p : Program) (word : List ℕ) (task other : ℕ) → upper_case word ≡ task_name task → has_task p.config task ≡ false → IsTaskWord p word other → ⊥
-names_none p word task other named lacks is =
-    let same : task_name task ≡ task_name other = sym named ∙ is.named in
-    let no : false ≡ true = sym lacks ∙ ap (λ (n : List ℕ). is_some (task_program p.config n)) same ∙ is.has in
-    cc
 
 module _ (traced : Traced) (p : Program) (asked : Asked) (source text : List ℕ) (of : IsAsked traced p asked) where
   pub scanned_is : (read : IsRead p source text) (outcome : Outcome) → AreScanned traced p asked source read.from read.events read.lines outcome → IsScanned traced p source text outcome
@@ -48,7 +41,7 @@ module _ (traced : Traced) (p : Program) (asked : Asked) (source text : List ℕ
   unscanned_is fault.NoMemory is = tt
   unscanned_is (fault.BadScan kind word) is = absurd is
   unscanned_is (fault.BadSpan word) is = absurd is
-  unscanned_is (fault.BadName word) is = absurd is
+  unscanned_is (fault.BadName word says) is = absurd is
   unscanned_is (fault.Misuse words) is = absurd is
   unscanned_is (fault.RefusedText number place) is = absurd is
   unscanned_is (fault.BadPress word) is = absurd is
@@ -64,7 +57,7 @@ unasked_is traced p source (Text text) (fault.BadScan kind word) is = inl is
 unasked_is traced p source (Text text) fault.NoMemory is = tt
 unasked_is traced p source (Text text) (fault.Refused number line) is = absurd is
 unasked_is traced p source (Text text) (fault.BadSpan word) is = absurd is
-unasked_is traced p source (Text text) (fault.BadName word) is = absurd is
+unasked_is traced p source (Text text) (fault.BadName word says) is = absurd is
 unasked_is traced p source (Text text) (fault.Misuse words) is = absurd is
 unasked_is traced p source (Text text) (fault.RefusedText number place) is = absurd is
 unasked_is traced p source (Text text) (fault.BadPress word) is = absurd is
@@ -78,7 +71,7 @@ unasked_unwritten traced p (fault.BadScan kind word) is e = cc
 unasked_unwritten traced p fault.NoMemory is e = cc
 unasked_unwritten traced p (fault.Refused number line) is e = absurd is
 unasked_unwritten traced p (fault.BadSpan word) is e = absurd is
-unasked_unwritten traced p (fault.BadName word) is e = absurd is
+unasked_unwritten traced p (fault.BadName word says) is e = absurd is
 unasked_unwritten traced p (fault.Misuse words) is e = absurd is
 unasked_unwritten traced p (fault.RefusedText number place) is e = absurd is
 unasked_unwritten traced p (fault.BadPress word) is e = absurd is
@@ -87,30 +80,27 @@ unasked_unwritten traced p (fault.BadFire word) is e = absurd is
 unasked_unwritten traced p (fault.CannotRead cause) is e = absurd is
 unasked_unwritten traced p fault.CannotWrite is e = absurd is
 
-pub no_round : (traced : Traced) (p : Program) (why : Fault) → HasTask traced p → IsBadNumber Round (round_word traced) why → IsUnasked traced p why
-no_round traced p (fault.BadScan kind word) has is = subst (λ (k : ScanFault). IsUnaskedBy traced p k (string_bytes word)) (sym is.0) (has, is.1)
-no_round traced p fault.NoMemory has is = tt
-no_round traced p (fault.Refused number line) has is = absurd is
-no_round traced p (fault.BadSpan word) has is = absurd is
-no_round traced p (fault.BadName word) has is = absurd is
-no_round traced p (fault.Misuse words) has is = absurd is
-no_round traced p (fault.RefusedText number place) has is = absurd is
-no_round traced p (fault.BadPress word) has is = absurd is
-no_round traced p fault.TooManyPresses has is = absurd is
-no_round traced p (fault.BadFire word) has is = absurd is
-no_round traced p (fault.CannotRead cause) has is = absurd is
-no_round traced p fault.CannotWrite has is = absurd is
+-- what one says of a bad word, another says of it too
+pub weaken : (Is Js : ScanFault → List ℕ → Type 0) → ((kind : ScanFault) (named : List ℕ) → Is kind named → Js kind named) → (why : Fault) → IsBadScan Is why → IsBadScan Js why
+weaken Is Js leads (fault.BadScan kind word) is = leads kind (string_bytes word) is
+weaken Is Js leads fault.NoMemory is = tt
+weaken Is Js leads (fault.Refused number line) is = absurd is
+weaken Is Js leads (fault.BadSpan word) is = absurd is
+weaken Is Js leads (fault.BadName word says) is = absurd is
+weaken Is Js leads (fault.Misuse words) is = absurd is
+weaken Is Js leads (fault.RefusedText number place) is = absurd is
+weaken Is Js leads (fault.BadPress word) is = absurd is
+weaken Is Js leads fault.TooManyPresses is = absurd is
+weaken Is Js leads (fault.BadFire word) is = absurd is
+weaken Is Js leads (fault.CannotRead cause) is = absurd is
+weaken Is Js leads fault.CannotWrite is = absurd is
 
-pub no_line : (traced : Traced) (p : Program) (why : Fault) → HasTask traced p → HasRound traced → IsBadNumber Line (until_word traced) why → IsUnasked traced p why
-no_line traced p (fault.BadScan kind word) has round is = subst (λ (k : ScanFault). IsUnaskedBy traced p k (string_bytes word)) (sym is.0) (has, round, is.1)
-no_line traced p fault.NoMemory has round is = tt
-no_line traced p (fault.Refused number line) has round is = absurd is
-no_line traced p (fault.BadSpan word) has round is = absurd is
-no_line traced p (fault.BadName word) has round is = absurd is
-no_line traced p (fault.Misuse words) has round is = absurd is
-no_line traced p (fault.RefusedText number place) has round is = absurd is
-no_line traced p (fault.BadPress word) has round is = absurd is
-no_line traced p fault.TooManyPresses has round is = absurd is
-no_line traced p (fault.BadFire word) has round is = absurd is
-no_line traced p (fault.CannotRead cause) has round is = absurd is
-no_line traced p fault.CannotWrite has round is = absurd is
+module _ (traced : Traced) (p : Program) (why : Fault) where
+  pub no_part : IsBadScan (IsPartFault p (task_word traced)) why → IsUnasked traced p why
+  no_part is = weaken (IsPartFault p (task_word traced)) (IsUnaskedBy traced p) (λ kind named said. inl said) why is
+
+  pub no_round : HasPart traced p → IsBadScan (IsRoundFault (round_word traced)) why → IsUnasked traced p why
+  no_round has is = weaken (IsRoundFault (round_word traced)) (IsUnaskedBy traced p) (λ kind named said. inr (inl (has, said))) why is
+
+  pub no_lines : HasPart traced p → HasRound traced → IsBadScan (IsLinesFault (until_word traced)) why → IsUnasked traced p why
+  no_lines has round is = weaken (IsLinesFault (until_word traced)) (IsUnaskedBy traced p) (λ kind named said. inr (inr (has, round, said))) why is
