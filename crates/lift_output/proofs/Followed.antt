@@ -1,5 +1,5 @@
 -- What is followed of a trace that was read.
-use Rattle.std.proofs.Common.{ℕ, List, Ok, Err, map, inl, inr}
+use Rattle.std.proofs.Common.{ℕ, Bool, List, Ok, Err, map, inl, inr}
 use Rattle.il_machine.specs.Scanning.{Program}
 use Rattle.lift_host.specs.declared.request.Words.{Words}
 use Rattle.lift_host.specs.declared.status.Fault.{Fault}
@@ -47,17 +47,17 @@ module _ (telling : Telling) (p : Program) (source text : List ℕ) where
   unread_is fault.CannotWrite is = absurd is
 
 -- names that are watched along events
-pub valued_is : (names : Words) (p : Program) (from : World) (events : List TraceEvent) (lines : ℕ) (outcome : Outcome) → AreValued (map upper_case (words_of names)) p from events lines outcome → AreFollowed (Values names) p from events lines outcome
-valued_is names p from events lines (Ok output) is = is
-valued_is names p from events lines (Err (fault.Refused number line)) is = is
-valued_is names p from events lines (Err (fault.BadSpan word)) is = absurd is
-valued_is names p from events lines (Err (fault.BadScan kind word)) is = absurd is
-valued_is names p from events lines (Err (fault.BadName word)) is = is
-valued_is names p from events lines (Err fault.NoMemory) is = tt
-valued_is names p from events lines (Err (fault.Misuse words)) is = absurd is
-valued_is names p from events lines (Err (fault.RefusedText number place)) is = absurd is
-valued_is names p from events lines (Err (fault.BadPress word)) is = absurd is
-valued_is names p from events lines (Err fault.TooManyPresses) is = absurd is
-valued_is names p from events lines (Err (fault.BadFire word)) is = absurd is
-valued_is names p from events lines (Err (fault.CannotRead cause)) is = absurd is
-valued_is names p from events lines (Err fault.CannotWrite) is = absurd is
+pub valued_is : (names : Words) (changes : Bool) (p : Program) (from : World) (events : List TraceEvent) (lines : ℕ) (outcome : Outcome) → AreValued (map upper_case (words_of names)) changes p from events lines outcome → AreFollowed (Values names changes) p from events lines outcome
+valued_is names changes p from events lines (Ok output) is = is
+valued_is names changes p from events lines (Err (fault.Refused number line)) is = is
+valued_is names changes p from events lines (Err (fault.BadSpan word)) is = absurd is
+valued_is names changes p from events lines (Err (fault.BadScan kind word)) is = absurd is
+valued_is names changes p from events lines (Err (fault.BadName word)) is = is
+valued_is names changes p from events lines (Err fault.NoMemory) is = tt
+valued_is names changes p from events lines (Err (fault.Misuse words)) is = absurd is
+valued_is names changes p from events lines (Err (fault.RefusedText number place)) is = absurd is
+valued_is names changes p from events lines (Err (fault.BadPress word)) is = absurd is
+valued_is names changes p from events lines (Err fault.TooManyPresses) is = absurd is
+valued_is names changes p from events lines (Err (fault.BadFire word)) is = absurd is
+valued_is names changes p from events lines (Err (fault.CannotRead cause)) is = absurd is
+valued_is names changes p from events lines (Err fault.CannotWrite) is = absurd is

@@ -18,7 +18,7 @@ use Rattle.lift_spec.specs.Image.{sizes_of}
 module _ (program : Program) (asked : Rounds) (calls : Reading) (names : List (List ℕ)) (behind : Words) (split : AreNamesFirst (words_of asked.presses) names (words_of behind)) where
   -- the rounds of names and presses
   pub watched_is : (presses : List Press) (settings : List Setting) → AreDriven (sizes_of program.config) (record asked { presses = behind }) calls presses settings
-      → (outcome : Outcome) → IsWatched program.config (map upper_case names) presses settings asked.rounds outcome → IsWatchOutcome program asked calls outcome
+      → (outcome : Outcome) → IsWatched program.config (map upper_case names) presses settings asked.rounds asked.flag outcome → IsWatchOutcome program asked calls outcome
   watched_is presses settings driven (Ok output) is = record {
     names = names;
     behind = behind;

@@ -56,6 +56,7 @@ use Rattle.il_reports.specs.Warnings.{warnings_text}
 use Rattle.il_reports.specs.Xref.{xref_text}
 use Rattle.lift_watch.specs.declared.names.Watched.{Watched}
 use Rattle.lift_watch.specs.Calls.{IsLogOf}
+use Rattle.lift_watch.specs.Changes.{shown_text}
 use Rattle.lift_watch.specs.Denials.{denied}
 use Rattle.lift_watch.specs.Following.{IsDeniedAlong, AreRowsAlong}
 use Rattle.lift_watch.specs.Names.{upper_case}
@@ -261,7 +262,7 @@ IsDenialsOutcome program asked calls (Err why) = IsUndriven (sizes_of program.co
 -- WATCH
 
 -- The words behind ROUNDS are names in any letter case, which have values as the program opens, and then presses. The lines are that of the names, and
--- those of a simulation.
+-- those of a simulation; with `--changes` without the rows that repeat the values of the row before them.
 pub record IsWatchOf (program : Program) (asked : Rounds) (calls : Reading) (text : List ℕ) : Type 0 where
   pub names : List (List ℕ)
   pub behind : Words
@@ -274,7 +275,7 @@ pub record IsWatchOf (program : Program) (asked : Rounds) (calls : Reading) (tex
   pub entries : List Entry
   pub rows : List ℕ
   pub shown : IsShown (watching watched) program.config presses settings asked.rounds entries rows
-  pub lines : text ≡ header_text (map upper_case names) ++ rows
+  pub lines : text ≡ shown_text asked.flag (header_text (map upper_case names) ++ rows)
 
 -- The words are names and then presses, they and the file are good, and this name, in upper case, has no value as the program opens.
 pub record HasUnknown (program : Program) (asked : Rounds) (calls : Reading) (word : List ℕ) : Type 0 where
@@ -312,13 +313,14 @@ pub record IsTextOfCalls (c : Config) (summary : Bool) (from : World) (events : 
   pub known : IsLogOf c from events after log
   pub is : IsCallsText summary log text
 
--- the text of the values of names behind each round of a trace's events, from a world on; the names are in upper case
-pub record IsTextOfValues (c : Config) (names : List (List ℕ)) (from : World) (events : List TraceEvent) (after : World) (text : List ℕ) : Type 0 where
+-- the text of the values of names behind each round of a trace's events, from a world on, with `--changes` without the rows that repeat; the names are in
+-- upper case
+pub record IsTextOfValues (c : Config) (names : List (List ℕ)) (changes : Bool) (from : World) (events : List TraceEvent) (after : World) (text : List ℕ) : Type 0 where
   pub watched : List Watched
   pub known : AreWatched from names watched
   pub rows : List ℕ
   pub are : AreRowsAlong watched c from events after rows
-  pub lines : text ≡ header_text names ++ rows
+  pub lines : text ≡ shown_text changes (header_text names ++ rows)
 
 -- what is told of a trace's events, which lead from a world to the one behind them: the image, some picture, the calls or a summary of them, what the
 -- interlock denied, or values behind each round
@@ -327,7 +329,7 @@ Says Image program from events after text = text ≡ image_text program.config a
 Says (Picture span) program from events after text = Unit {0}
 Says (Calls summary) program from events after text = IsTextOfCalls program.config summary from events after text
 Says (Denials all) program from events after text = IsDeniedAlong all program.config from events after text
-Says (Values names) program from events after text = IsTextOfValues program.config (map upper_case (words_of names)) from events after text
+Says (Values names changes) program from events after text = IsTextOfValues program.config (map upper_case (words_of names)) changes from events after text
 
 -- the word behind `--rounds` says no rounds
 abbrev pub IsBadSpan : Telling → Fault → Type 0
@@ -336,7 +338,7 @@ IsBadSpan _ why = ⊥
 
 -- this name, in upper case, has no value in the world from which a trace begins
 abbrev pub IsBadName : Telling → World → List ℕ → Type 0
-IsBadName (Values names) from word = IsUnknown from (map upper_case (words_of names)) word
+IsBadName (Values names changes) from word = IsUnknown from (map upper_case (words_of names)) word
 IsBadName _ from word = ⊥
 
 -- it is told so of a trace's events, from the world from which it begins
@@ -356,7 +358,7 @@ HasGoodWords Image from = Unit {0}
 HasGoodWords (Picture span) from = (rounds : Span) × IsSpanWord (option_map (λ word. word.now) span) rounds
 HasGoodWords (Calls summary) from = Unit {0}
 HasGoodWords (Denials all) from = Unit {0}
-HasGoodWords (Values names) from = HaveValues from (map upper_case (words_of names))
+HasGoodWords (Values names changes) from = HaveValues from (map upper_case (words_of names))
 
 -- the words beside a trace are good, and an event of it is refused, with this number, at its line
 pub record IsEventRefused (telling : Telling) (program : Program) (source trace : List ℕ) (number line : ℕ) : Type 0 where

@@ -1,5 +1,5 @@
 -- What parts of a request's outcome are; no public contract but these crate's own functions names them (own rules).
-use Rattle.std.specs.Prelude.{◌≡◌, ◌⊎◌, ℕ, ◌+◌, ◌++◌, List, None, Ok, Err, string_bytes}
+use Rattle.std.specs.Prelude.{◌≡◌, ◌⊎◌, ℕ, ◌+◌, ◌++◌, Bool, List, None, Ok, Err, string_bytes}
 use Rattle.il_machine.specs.Scanning.{Program}
 use Rattle.il_spec.specs.declared.tree.Config.{Config}
 use Rattle.lift_host.specs.declared.press.Press.{Press}
@@ -7,6 +7,7 @@ use Rattle.lift_host.specs.declared.press.Setting.{Setting}
 use Rattle.lift_runs.specs.Shown.{IsShown}
 use Rattle.lift_spec.specs.declared.journal.Entry.{Entry}
 use Rattle.lift_watch.specs.declared.names.Watched.{Watched}
+use Rattle.lift_watch.specs.Changes.{shown_text}
 use Rattle.lift_watch.specs.Values.{AreWatched, IsUnknown, header_text, watching}
 use Rattle.lift_host.specs.declared.status.Fault.{Fault}
 use Rattle.lift_host.specs.declared.status.Fault.TheVariants as fault
@@ -66,17 +67,17 @@ AreScanned traced program asked source from events lines (Err fault.NoMemory) = 
 AreScanned traced program asked source from events lines (Err _) = ⊥
 
 -- the values of names along events are told from a world on, or one of the names has no value; so many lines stand before the first event
-abbrev pub AreValued : List (List ℕ) → Program → World → List TraceEvent → ℕ → Outcome → Type 0
-AreValued names program from events lines (Ok output) = (after : World) × TakesAll program.config from events after × IsTextOfValues program.config names from events after (bytes_of output)
-AreValued names program from events lines (Err (fault.Refused number line)) = HaveValues from names × (index : ℕ) × (why : EventFault) × IsRefusedAt program.config from events index why × (number ≡ event_fault_number why) × (line ≡ lines + 1 + index)
-AreValued names program from events lines (Err (fault.BadName word)) = IsUnknown from names (string_bytes word)
-AreValued names program from events lines (Err fault.NoMemory) = Unit {0}
-AreValued names program from events lines (Err _) = ⊥
+abbrev pub AreValued : List (List ℕ) → Bool → Program → World → List TraceEvent → ℕ → Outcome → Type 0
+AreValued names changes program from events lines (Ok output) = (after : World) × TakesAll program.config from events after × IsTextOfValues program.config names changes from events after (bytes_of output)
+AreValued names changes program from events lines (Err (fault.Refused number line)) = HaveValues from names × (index : ℕ) × (why : EventFault) × IsRefusedAt program.config from events index why × (number ≡ event_fault_number why) × (line ≡ lines + 1 + index)
+AreValued names changes program from events lines (Err (fault.BadName word)) = IsUnknown from names (string_bytes word)
+AreValued names changes program from events lines (Err fault.NoMemory) = Unit {0}
+AreValued names changes program from events lines (Err _) = ⊥
 
--- names are watched in so many rounds from the opening, or one of them has no value
-abbrev pub IsWatched : Config → List (List ℕ) → List Press → List Setting → ℕ → Outcome → Type 0
-IsWatched c names presses settings rounds (Ok output) =
-    (watched : List Watched) × AreWatched (opening c) names watched × (entries : List Entry) × (rows : List ℕ) × IsShown (watching watched) c presses settings rounds entries rows × (bytes_of output ≡ header_text names ++ rows)
-IsWatched c names presses settings rounds (Err (fault.BadName word)) = IsUnknown (opening c) names (string_bytes word)
-IsWatched c names presses settings rounds (Err fault.NoMemory) = Unit {0}
-IsWatched c names presses settings rounds (Err _) = ⊥
+-- names are watched in so many rounds from the opening, with `--changes` or without, or one of them has no value
+abbrev pub IsWatched : Config → List (List ℕ) → List Press → List Setting → ℕ → Bool → Outcome → Type 0
+IsWatched c names presses settings rounds changes (Ok output) =
+    (watched : List Watched) × AreWatched (opening c) names watched × (entries : List Entry) × (rows : List ℕ) × IsShown (watching watched) c presses settings rounds entries rows × (bytes_of output ≡ shown_text changes (header_text names ++ rows))
+IsWatched c names presses settings rounds changes (Err (fault.BadName word)) = IsUnknown (opening c) names (string_bytes word)
+IsWatched c names presses settings rounds changes (Err fault.NoMemory) = Unit {0}
+IsWatched c names presses settings rounds changes (Err _) = ⊥

@@ -12,5 +12,5 @@ telling_of following.Replay traced = Some Image
 telling_of following.Draw traced = Some (Picture traced.span)
 telling_of following.Calls traced = Some (Calls traced.flag)
 telling_of following.Denials traced = Some (Denials traced.flag)
-telling_of following.Watch traced = Some (Values traced.names)
+telling_of following.Watch traced = Some (Values traced.names traced.flag)
 telling_of following.Scan traced = None

@@ -49,6 +49,7 @@ use lift_spec::Sizes;
 use lift_spec::trace::TraceEvent;
 use lift_state::begin::{Beginning, begin};
 use lift_watch::calls::call_log;
+use lift_watch::changes::shown_text;
 use lift_watch::denials::Denials;
 use lift_watch::following::{denied_along, rows_along};
 use lift_watch::names::upper_names;
@@ -403,7 +404,7 @@ fn watched(
         Ok(driven) => {
             let drive = driven.drive();
             let mut world = World::new(alloc, verified)?;
-            let output = watched_names(alloc, &mut world, names, drive, asked.rounds);
+            let output = watched_names(alloc, &mut world, names, drive, asked.rounds, asked.flag);
             world.release();
             output
         }
@@ -414,23 +415,24 @@ fn watched(
     }
 }
 
-// The values of names, in upper case, behind each of so many rounds of a world that opens.
+// The values of names, in upper case, behind each of so many rounds of a world that opens; with `--changes` only those that change.
 fn watched_names(
     alloc: Global,
     world: &mut World,
     names: Words<'_>,
     drive: Drive<'_>,
     rounds: u16,
+    changes: bool,
 ) -> Result<Output, Fault>
     requires opening { world.old.world ≡ opening world.old.program.config }
     requires calls { ArePressed (sizes_of world.old.program.config) drive.presses.now }
     requires settings { AreSettings (sizes_of world.old.program.config).cars drive.settings.now }
     ensures is { IsWatched world.old.program.config (map upper_case (words_of names.entry))
-        drive.entry.presses.now drive.entry.settings.now rounds result }
+        drive.entry.presses.now drive.entry.settings.now rounds changes result }
     ensures warned { HasWarnings None result }
 {
     let names = upper_names(alloc, names)?;
-    watched_world(alloc, world, &names, drive, rounds)
+    watched_world(alloc, world, &names, drive, rounds, changes)
 }
 
 // The values of names behind each of so many rounds of a world that opens.
@@ -440,17 +442,18 @@ fn watched_world(
     names: &[String],
     drive: Drive<'_>,
     rounds: u16,
+    changes: bool,
 ) -> Result<Output, Fault>
     requires opening { world.old.world ≡ opening world.old.program.config }
     requires calls { ArePressed (sizes_of world.old.program.config) drive.presses.now }
     requires settings { AreSettings (sizes_of world.old.program.config).cars drive.settings.now }
     ensures is { IsWatched world.old.program.config (map string_bytes names.now)
-        drive.entry.presses.now drive.entry.settings.now rounds result }
+        drive.entry.presses.now drive.entry.settings.now rounds changes result }
     ensures warned { HasWarnings None result }
 {
     let mut watch = Watch::of(alloc, world, names)?;
     simulate_on(alloc, world, drive, rounds, &mut watch)?;
-    Ok(Output::Text(watch.text))
+    Ok(Output::Text(shown_text(alloc, changes, watch.text)?))
 }
 
 // How many tasks the group has.
@@ -599,7 +602,9 @@ fn told_of(
         Telling::Picture(span) => picture_of(alloc, world, events, lines, span),
         Telling::Calls(summary) => calls_of(alloc, world, events, lines, summary),
         Telling::Denials(all) => denials_along(alloc, world, events, lines, all),
-        Telling::Values(names) => values_along(alloc, world, events, lines, names),
+        Telling::Values(names, changes) => {
+            values_along(alloc, world, events, lines, names, changes)
+        }
     }
 }
 
@@ -669,14 +674,15 @@ fn values_along(
     events: &[TraceEvent],
     lines: u32,
     names: Words<'_>,
+    changes: bool,
 ) -> Result<Output, Fault>
     requires few { lines + length events.now ≤ greatest_trace }
-    ensures is { AreFollowed (Telling.Values names.entry) world.old.program world.old.world
-        events.now lines result }
+    ensures is { AreFollowed (Telling.Values names.entry changes) world.old.program
+        world.old.world events.now lines result }
     ensures warned { HasWarnings None result }
 {
     let names = upper_names(alloc, names)?;
-    values_of(alloc, world, events, lines, &names)
+    values_of(alloc, world, events, lines, &names, changes)
 }
 
 // The values of names behind each round of events.
@@ -686,9 +692,10 @@ fn values_of(
     events: &[TraceEvent],
     lines: u32,
     names: &[String],
+    changes: bool,
 ) -> Result<Output, Fault>
     requires few { lines + length events.now ≤ greatest_trace }
-    ensures is { AreValued (map string_bytes names.now) world.old.program world.old.world
+    ensures is { AreValued (map string_bytes names.now) changes world.old.program world.old.world
         events.now lines result }
     ensures warned { HasWarnings None result }
 {
@@ -698,7 +705,7 @@ fn values_of(
         ..
     } = Watch::of(alloc, world, names)?;
     match rows_along(world, events, watched.as_slice(), &mut text) {
-        Ok(()) => Ok(Output::Text(text)),
+        Ok(()) => Ok(Output::Text(shown_text(alloc, changes, text)?)),
         Err(along::Stop::Refused(refused)) => Err(fault_of_event(refused, lines)),
         Err(along::Stop::Memory) => Err(Fault::NoMemory),
     }

@@ -16,8 +16,8 @@ pub enum Telling<'w> {
     Calls(bool),
     /// What the interlock denied along it; where `true` also the stops at the ends of the shaft.
     Denials(bool),
-    /// The values of names behind each of its rounds.
-    Values(Words<'w>),
+    /// The values of names behind each of its rounds; where `true` without the rounds that repeat those of the round before.
+    Values(Words<'w>, bool),
 }
 
 impl<'w> Telling<'w> {
@@ -30,7 +30,7 @@ impl<'w> Telling<'w> {
             Following::Draw => Some(Telling::Picture(traced.span)),
             Following::Calls => Some(Telling::Calls(traced.flag)),
             Following::Denials => Some(Telling::Denials(traced.flag)),
-            Following::Watch => Some(Telling::Values(traced.names)),
+            Following::Watch => Some(Telling::Values(traced.names, traced.flag)),
             Following::Scan => None,
         }
     }

@@ -1,5 +1,6 @@
 pub mod Asked
 pub mod Calls
+pub mod Changes
 pub mod Denials
 pub mod Following
 pub mod Names

@@ -3,6 +3,7 @@
 
 pub mod asked;
 pub mod calls;
+pub mod changes;
 pub mod denials;
 pub mod following;
 pub mod names;

@@ -17,9 +17,9 @@ returns-in_ok-world-in-Ok-clause-is c =
     let driven = c.in-Ok.driven in
     watched_is c.args.verified c.args.asked c.args.calls.now names behind c.names_first.ensures driven.presses driven.settings
     (subst (λ (s : Sizes). AreDriven s (record c.args.asked { presses = behind }) c.args.calls.now driven.presses driven.settings) c.sizes.ensures c.in-Ok.ensures.ok) c.watched_names-output.result
-    (subst (λ (l : List Press). IsWatched c.args.verified.config (map upper_case names) l driven.settings c.args.asked.rounds c.watched_names-output.result) c.drive-drive.ensures.presses
-    (subst (λ (l : List Setting). IsWatched c.args.verified.config (map upper_case names) c.drive-drive.result.presses.now l c.args.asked.rounds c.watched_names-output.result) c.drive-drive.ensures.settings
-    (subst (λ (p : Program). IsWatched p.config (map upper_case names) c.drive-drive.result.presses.now c.drive-drive.result.settings.now c.args.asked.rounds c.watched_names-output.result) c.in_ok-world-in-Ok.ensures.same c.watched_names-output.ensures.is)))
+    (subst (λ (l : List Press). IsWatched c.args.verified.config (map upper_case names) l driven.settings c.args.asked.rounds c.args.asked.flag c.watched_names-output.result) c.drive-drive.ensures.presses
+    (subst (λ (l : List Setting). IsWatched c.args.verified.config (map upper_case names) c.drive-drive.result.presses.now l c.args.asked.rounds c.args.asked.flag c.watched_names-output.result) c.drive-drive.ensures.settings
+    (subst (λ (p : Program). IsWatched p.config (map upper_case names) c.drive-drive.result.presses.now c.drive-drive.result.settings.now c.args.asked.rounds c.args.asked.flag c.watched_names-output.result) c.in_ok-world-in-Ok.ensures.same c.watched_names-output.ensures.is)))
 
 pub returns-in-Err-clause-is : goal.returns-in-Err-clause-is
 returns-in-Err-clause-is c =
