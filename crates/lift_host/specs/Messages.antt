@@ -15,7 +15,7 @@ use Rattle.lift_host.specs.declared.press.PressFault.TheVariants as press
 use Rattle.lift_host.specs.declared.status.Status.{Status}
 use Rattle.lift_host.specs.declared.status.Status.TheVariants as status
 use Rattle.lift_host.specs.declared.status.ScanFault.{ScanFault}
-use Rattle.lift_host.specs.declared.status.ScanFault.TheVariants.{Task, Round, Line, Uncommitted, UncommittedInRound}
+use Rattle.lift_host.specs.declared.status.ScanFault.TheVariants.{Task, Unit as NoUnit, Round, Line, Uncommitted, UncommittedInRound}
 use Rattle.lift_host.specs.declared.status.LineFault.{LineFault}
 use Rattle.lift_host.specs.declared.status.LineFault.TheVariants.{OutOfRange, Full, BadLine, Truncated, BadCall, TooManyCalls}
 use Rattle.lift_host.specs.declared.status.Fault.{Fault}
@@ -48,7 +48,7 @@ status_of TooManyPresses = status.Refused
 status_of (BadFire word) = status.Refused
 status_of (BadSpan word) = status.Refused
 status_of (BadScan why word) = status.Refused
-status_of (BadName word) = status.Refused
+status_of (BadName name says) = status.Refused
 status_of (CannotRead cause) = status.CannotRead
 status_of CannotWrite = status.CannotWrite
 status_of NoMemory = status.NoMemory
@@ -67,7 +67,7 @@ message_of TooManyPresses = codes "bad press\n"
 message_of (BadFire word) = codes "bad fire\n"
 message_of (BadSpan word) = codes "bad rounds\n"
 message_of (BadScan why word) = codes "bad scan\n"
-message_of (BadName word) = codes "bad name\n"
+message_of (BadName name says) = codes "bad name\n"
 message_of (CannotRead cause) = codes "cannot read\n"
 message_of CannotWrite = codes "cannot write\n"
 message_of NoMemory = codes "no memory\n"
@@ -87,8 +87,9 @@ cause_sentence Other = codes "the file can't be read"
 -- why there is no scan
 abbrev pub scan_sentence : ScanFault → List ℕ
 scan_sentence Task = codes "the group has no such task"
+scan_sentence NoUnit = codes "the text has no such unit"
 scan_sentence Round = codes "no round: a number from 1 to 65535"
-scan_sentence Line = codes "no line: a number from 1 to 65535"
+scan_sentence Line = codes "no lines: LINE, FROM:LINE or FROM:, numbers from 1 to 65535"
 scan_sentence Uncommitted = codes "the trace commits no scan of this task"
 scan_sentence UncommittedInRound = codes "the trace commits no scan of the task in this round"
 

@@ -34,9 +34,11 @@ pub enum Status {
 pub enum ScanFault {
     /// TASK is no task of the group.
     Task,
+    /// The name after the period of TASK is no unit of the text.
+    Unit,
     /// The word behind `--round` is no number from 1 to 65535.
     Round,
-    /// The word behind `--until` is no number from 1 to 65535.
+    /// The word behind `--until` is no line, and no two lines.
     Line,
     /// The trace commits no scan of TASK.
     Uncommitted,
@@ -51,8 +53,9 @@ impl ScanFault {
     {
         match self {
             ScanFault::Task => "the group has no such task",
+            ScanFault::Unit => "the text has no such unit",
             ScanFault::Round => "no round: a number from 1 to 65535",
-            ScanFault::Line => "no line: a number from 1 to 65535",
+            ScanFault::Line => "no lines: LINE, FROM:LINE or FROM:, numbers from 1 to 65535",
             ScanFault::Uncommitted => "the trace commits no scan of this task",
             ScanFault::UncommittedInRound => "the trace commits no scan of the task in this round",
         }
@@ -111,8 +114,8 @@ pub enum Fault {
     BadSpan(String),
     /// There is no such scan, for what this word says.
     BadScan(ScanFault, String),
-    /// This NAME of `watch` names nothing that has a value.
-    BadName(String),
+    /// This NAME of `watch` names nothing that has a value, and what is said of it.
+    BadName { name: String, says: String },
     CannotRead(Cause),
     CannotWrite,
     NoMemory,
@@ -198,7 +201,7 @@ impl Fault {
             Fault::BadFire(_) => Status::Refused,
             Fault::BadSpan(_) => Status::Refused,
             Fault::BadScan(_, _) => Status::Refused,
-            Fault::BadName(_) => Status::Refused,
+            Fault::BadName { .. } => Status::Refused,
             Fault::CannotRead(_) => Status::CannotRead,
             Fault::CannotWrite => Status::CannotWrite,
             Fault::NoMemory => Status::NoMemory,
@@ -222,7 +225,7 @@ impl Fault {
             Fault::BadFire(_) => put_all(sink, b"bad fire\n"),
             Fault::BadSpan(_) => put_all(sink, b"bad rounds\n"),
             Fault::BadScan(_, _) => put_all(sink, b"bad scan\n"),
-            Fault::BadName(_) => put_all(sink, b"bad name\n"),
+            Fault::BadName { .. } => put_all(sink, b"bad name\n"),
             Fault::CannotRead(_) => put_all(sink, b"cannot read\n"),
             Fault::CannotWrite => put_all(sink, b"cannot write\n"),
             Fault::NoMemory => put_all(sink, b"no memory\n"),

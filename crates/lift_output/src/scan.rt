@@ -1,11 +1,11 @@
 // What `scan` prints.
 
-ghost use Rattle.std.specs.Prelude.{◌≡◌, ◌≢◌, ◌≤◌, ◌+◌, ℕ, Some, None, Err, IfOk, IfErr, length, option_map, string_bytes};
+ghost use Rattle.std.specs.Prelude.{◌≡◌, ◌≢◌, ◌≤◌, ◌<◌, ◌+◌, ℕ, None, Err, IfOk, IfErr, IfSome, IsNone, length, option_map, string_bytes};
 ghost use Rattle.lift_host.specs.Requests.{words_of};
 ghost use Rattle.lift_trace.specs.Reading.{greatest_trace};
 ghost use Rattle.lift_output.specs.Outcomes.{HasWarnings, IsScanned, IsScanOutcome};
 ghost use Rattle.lift_output.specs.Parts.{AreScanned};
-ghost use Rattle.lift_output.specs.Scans.{first_word, IsTaskWord, IsNumberWord, IsAsked, IsUnasked, IsUncommittedBy, IsBadNumber};
+ghost use Rattle.lift_output.specs.Scans.{first_word, IsCut, IsTask, IsPart, IsPartFault, IsRoundWord, IsRoundFault, IsLast, IsNoLast, AreLines, AreNoLines, AreLinesOf, IsLinesFault, IsBadScan, IsAsked, IsUnasked, IsUncommittedBy};
 
 use crate::outcome::{Whole, fault_of_event, whole_of};
 use il_machine::Verified;
@@ -13,7 +13,7 @@ use lift_host::files::Reading;
 use lift_host::request::{Traced, Words, number_to};
 use lift_host::status::{Fault, ScanFault};
 use lift_messages::output::Output;
-use lift_scan::{Asked, ScanStop, scan_text};
+use lift_scan::{Asked, Lines, ScanStop, lines_of_unit, scan_text};
 use lift_watch::names::task_of;
 use std::alloc::{AllocError, Global};
 
@@ -46,13 +46,16 @@ fn asked_of(alloc: Global, verified: &Verified, traced: Traced<'_>) -> Result<As
     ensures ok { IfOk result (IsAsked traced.entry verified.now) }
     ensures err { IfErr result (IsUnasked traced.entry verified.now) }
 {
-    let word = first_word(traced.names);
-    let Some(task) = task_named(alloc, verified, word)? else {
-        return Err(Fault::BadScan(ScanFault::Task, String::from_str(alloc, word)?));
-    };
-    let round = number_of(alloc, ScanFault::Round, traced.round)?;
-    let until = number_of(alloc, ScanFault::Line, traced.until)?;
-    Ok(Asked { task, round, until })
+    let Part { task, unit } = part_named(alloc, verified, first_word(traced.names))?;
+    let round = round_of(alloc, traced.round)?;
+    let Spread { from, until } = spread_of(alloc, traced.until)?;
+    Ok(Asked {
+        task,
+        round,
+        unit,
+        from,
+        until,
+    })
 }
 
 // The first of the words.
@@ -65,36 +68,127 @@ fn first_word<'w>(words: Words<'w>) -> &'w str
     }
 }
 
-// The task of the group that a word names, in any letter case.
-fn task_named(alloc: Global, verified: &Verified, word: &str) -> Result<Option<u8>, AllocError>
-    ensures some { IfOk result (λ o. (task : ℕ) → o ≡ Some task
-        → IsTaskWord verified.now word.now task) }
-    ensures none { IfOk result (λ o. o ≡ None → (task : ℕ)
-        → IsTaskWord verified.now word.now task → ⊥) }
+// A task of the group, and the lines of the unit of which it is to be shown, if it is one alone.
+#[derive(Clone, Copy)]
+struct Part {
+    task: u8,
+    unit: Option<Lines>,
+}
+
+// The line before which nothing is shown, and that behind which nothing more is.
+#[derive(Clone, Copy)]
+struct Spread {
+    from: Option<u32>,
+    until: Option<u32>,
+}
+
+// What a word says before the first of a byte of ASCII, and behind it; without one, the word alone.
+fn cut_at(byte: char, word: &str) -> (&str, Option<&str>)
+    requires { byte < 128 }
+    ensures { IsCut byte word.now result.0.now (option_map (λ w. w.now) result.1) }
 {
-    let word = word.to_ascii_uppercase(alloc)?;
-    let Some(task) = task_of(word.as_str()) else {
-        return Ok(None);
-    };
-    if verified.has_task(task) {
-        Ok(Some(task))
-    } else {
-        Ok(None)
+    match word.split_once(byte) {
+        Some((front, rest)) => (front, Some(rest)),
+        None => (word, None),
     }
 }
 
-// The number of a word, if there is one, or the fault of this kind.
-fn number_of(alloc: Global, why: ScanFault, word: Option<&str>) -> Result<Option<u32>, Fault>
-    ensures ok { IfOk result (IsNumberWord (option_map (λ w. w.now) word.entry)) }
-    ensures err { IfErr result (IsBadNumber why (option_map (λ w. w.now) word.entry)) }
+// The task of the group of a name.
+fn task_in(verified: &Verified, name: &str) -> Option<u8>
+    ensures some { IfSome result (IsTask verified.now name.now) }
+    ensures none { IsNone result → (task : ℕ) → IsTask verified.now name.now task → ⊥ }
+{
+    let task = task_of(name)?;
+    if verified.has_task(task) {
+        Some(task)
+    } else {
+        None
+    }
+}
+
+// What a word names, in any letter case: a task, and behind a period maybe a unit.
+fn part_named(alloc: Global, verified: &Verified, word: &str) -> Result<Part, Fault>
+    ensures ok { IfOk result (λ part. IsPart verified.now word.now part.task part.unit) }
+    ensures err { IfErr result (IsBadScan (IsPartFault verified.now word.now)) }
+{
+    let upper = word.to_ascii_uppercase(alloc)?;
+    let (front, name) = cut_at('.', upper.as_str());
+    let Some(task) = task_in(verified, front) else {
+        return Err(Fault::BadScan(ScanFault::Task, String::from_str(alloc, word)?));
+    };
+    let Some(name) = name else {
+        return Ok(Part { task, unit: None });
+    };
+    match lines_of_unit(verified, name) {
+        Some(lines) => Ok(Part {
+            task,
+            unit: Some(lines),
+        }),
+        None => Err(Fault::BadScan(ScanFault::Unit, String::from_str(alloc, word)?)),
+    }
+}
+
+// The round of a word, if there is one.
+fn round_of(alloc: Global, word: Option<&str>) -> Result<Option<u32>, Fault>
+    ensures ok { IfOk result (IsRoundWord (option_map (λ w. w.now) word.entry)) }
+    ensures err { IfErr result (IsBadScan (IsRoundFault (option_map (λ w. w.now) word.entry))) }
 {
     match word {
         None => Ok(None),
         Some(word) => match number_to(MOST, word) {
             Some(number) => Ok(Some(u32::from(number))),
-            None => Err(Fault::BadScan(why, String::from_str(alloc, word)?)),
+            None => Err(Fault::BadScan(ScanFault::Round, String::from_str(alloc, word)?)),
         },
     }
+}
+
+// The lines of a word, if there is one.
+fn spread_of(alloc: Global, word: Option<&str>) -> Result<Spread, Fault>
+    ensures ok { IfOk result (λ spread. AreLinesOf (option_map (λ w. w.now) word.entry)
+        spread.from spread.until) }
+    ensures err { IfErr result (IsBadScan (IsLinesFault (option_map (λ w. w.now) word.entry))) }
+{
+    match word {
+        None => Ok(Spread {
+            from: None,
+            until: None,
+        }),
+        Some(word) => match spread(word) {
+            Some(spread) => Ok(spread),
+            None => Err(Fault::BadScan(ScanFault::Line, String::from_str(alloc, word)?)),
+        },
+    }
+}
+
+// `LINE`, `FROM:LINE` or `FROM:`.
+fn spread(word: &str) -> Option<Spread>
+    ensures some { IfSome result (λ spread. AreLines word.now spread.from spread.until) }
+    ensures none { IsNone result → AreNoLines word.now }
+{
+    let (front, rest) = cut_at(':', word);
+    let line = u32::from(number_to(MOST, front)?);
+    match rest {
+        None => Some(Spread {
+            from: None,
+            until: Some(line),
+        }),
+        Some(rest) => Some(Spread {
+            from: Some(line),
+            until: last_of(rest)?,
+        }),
+    }
+}
+
+// The last line, if one is written; none where what is written is no line.
+fn last_of(word: &str) -> Option<Option<u32>>
+    ensures some { IfSome result (IsLast word.now) }
+    ensures none { IsNone result → IsNoLast word.now }
+{
+    if word.is_empty() {
+        return Some(None);
+    }
+    let line = number_to(MOST, word)?;
+    Some(Some(u32::from(line)))
 }
 
 // What was read of a trace has it, or reading failed.

@@ -17,9 +17,14 @@ use Rattle.il_run.specs.State.{Values, State}
 use Rattle.il_run.specs.Meaning.{under, member_path}
 use Rattle.lift_messages.specs.Places.{shown}
 use Rattle.lift_scan.specs.declared.before.Before.{Before}
+use Rattle.lift_scan.specs.declared.chosen.Lines.{Lines as LinesOf}
 use Rattle.lift_scan.specs.Stands.{StandOf, of_stand, stand_at, step_at, result_text, named_text, there_text, reference_text}
 
 -- WHERE A STEP STANDS
+
+-- the lines of a unit, from its heading to its END word
+abbrev pub lines_of : UnitOf → LinesOf
+lines_of u = record { first = u.place.line; last = u.body.end.line }
 
 -- the place of a step; that of the END word, where there is none
 abbrev pub place_of_step : UnitOf → Option Step → Place

@@ -5,14 +5,25 @@ ghost use Rattle.lift_scan.specs.Chosen.{is_asked, committed, found_behind, note
 
 use lift_spec::trace::TraceEvent;
 
-/// Which scan is asked for.
+/// Lines of a text that follow one another, the last with them.
+#[derive(Clone, Copy)]
+pub struct Lines {
+    pub first: u32,
+    pub last: u32,
+}
+
+/// Which scan is asked for, and what of it.
 #[derive(Clone, Copy)]
 pub struct Asked {
     /// Its task: 0 is GROUP, k is CARk.
     pub task: u8,
     /// The round in which it was committed; none: the last one of the trace.
     pub round: Option<u32>,
-    /// The line behind which nothing more is shown.
+    /// The lines of the unit whose instructions alone are shown; none: those of all units are.
+    pub unit: Option<Lines>,
+    /// The line before which nothing is shown; none: it was there already.
+    pub from: Option<u32>,
+    /// The line after which nothing more is shown.
     pub until: Option<u32>,
 }
 

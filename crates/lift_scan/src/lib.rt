@@ -8,5 +8,6 @@ pub mod shown;
 mod values;
 mod view;
 
-pub use chosen::Asked;
+pub use chosen::{Asked, Lines};
 pub use shown::{ScanStop, scan_text};
+pub use view::lines_of_unit;

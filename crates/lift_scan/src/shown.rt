@@ -5,10 +5,10 @@ ghost use Rattle.base_texts.specs.Puts.{Puts};
 ghost use Rattle.lift_spec.specs.Snapshot.{task_name};
 ghost use Rattle.lift_spec.specs.World.{scan_at};
 ghost use Rattle.lift_scan.specs.Lines.{of_before};
-ghost use Rattle.lift_scan.specs.Shown.{is_last, seen_in, line_by, lines_text, heading, ShowsNext, IsScanShown, IsScanStopped};
+ghost use Rattle.lift_scan.specs.Shown.{from_behind, asked_at, is_of_unit, is_shown, is_until, is_last, asked_more, seen_in, line_by, line_of, lines_text, heading, ShowsNext, IsScanShown, IsScanStopped};
 
 use crate::before::{Before, next_step};
-use crate::chosen::{Asked, Chosen, choose};
+use crate::chosen::{Asked, Chosen, Lines, choose};
 use crate::line::put_line;
 use crate::view::View;
 use lift_runs::replay::{Refused, replay};
@@ -43,8 +43,8 @@ impl From<AllocError> for ScanStop {
     }
 }
 
-/// The last scan of a task that a trace commits, or that of a round, instruction by instruction: a line for each, with its place in `source`,
-/// the text of the configuration, the current result before and behind it, and the values that it names, as they stand behind it.
+/// The last scan of a task that a trace commits, or that of a round, instruction by instruction: a line for each that is asked for, with its place in
+/// `source`, the text of the configuration, the current result before and behind it, and the values that it names, as they stand behind it.
 pub fn scan_text(
     alloc: Global,
     world: &mut World,
@@ -98,7 +98,7 @@ fn put_task(text: &mut String, task: u8) -> Result<(), AllocError>
     }
 }
 
-// The lines of the open scan of a task, up to its end or the line behind which nothing more is shown.
+// What is asked for of the lines of the open scan of a task.
 fn put_lines(
     alloc: Global,
     world: &mut World,
@@ -107,20 +107,22 @@ fn put_lines(
     text: &mut String,
 ) -> Result<(), AllocError>
     ensures lines { OnOk result (Puts text.old text.new
-        (lines_text world.old.program.config asked.task asked.until source.now 1000000
-        world.old.world)) }
+        (lines_text world.old.program.config source.now 1000000 asked world.old.world)) }
     ensures same { world.new.program ≡ world.old.program }
 {
     let mut report = Report::new();
+    let mut asked = asked;
     'steps: for _ in 0..MOST {
-        if !put_next(alloc, world, asked, source, text, &mut report)? {
-            return Ok(());
+        match put_next(alloc, world, asked, source, text, &mut report)? {
+            Some(more) => asked = more,
+            None => return Ok(()),
         }
     }
     Ok(())
 }
 
-// Takes the next instruction of a task's open scan, if one is left, and writes its line. The answer is whether more may be shown.
+// Takes the next instruction of a task's open scan, if one is left, and writes its line, if that is shown. The answer is what is asked for then, if more
+// may be shown.
 fn put_next(
     alloc: Global,
     world: &mut World,
@@ -128,24 +130,25 @@ fn put_next(
     source: &[u8],
     text: &mut String,
     report: &mut Report,
-) -> Result<bool, AllocError>
+) -> Result<Option<Asked>, AllocError>
     ensures shown { IfOk result (ShowsNext world.old.program.config asked source.now world.old.world
         world.new.world (string_bytes text.old) (string_bytes text.new)) }
     ensures same { world.new.program ≡ world.old.program }
 {
     let Some(seen) = seen(alloc, world, asked.task)? else {
-        return Ok(false);
+        return Ok(None);
     };
+    let asked = asked_at(asked, seen.place.line);
     match world.apply(&Event::Instruction(asked.task), report) {
         Reply::More => {
-            put_step(alloc, text, source, world, asked.task, &seen)?;
-            Ok(!is_last(asked.until, seen.place.line))
+            put_asked(alloc, text, source, world, asked, &seen)?;
+            Ok(asked_more(asked, seen.place.line))
         }
         Reply::End => {
-            put_step(alloc, text, source, world, asked.task, &seen)?;
-            Ok(false)
+            put_asked(alloc, text, source, world, asked, &seen)?;
+            Ok(None)
         }
-        _ => Ok(false),
+        _ => Ok(None),
     }
 }
 
@@ -157,6 +160,26 @@ fn seen(alloc: Global, world: &World, task: u8) -> Result<Option<Before>, AllocE
     match View::of(world, task) {
         Some(view) => next_step(alloc, &view),
         None => Ok(None),
+    }
+}
+
+// The line of a step that was taken, if it is shown.
+fn put_asked(
+    alloc: Global,
+    text: &mut String,
+    source: &[u8],
+    world: &World,
+    asked: Asked,
+    before: &Before,
+) -> Result<(), AllocError>
+    ensures { OnOk result (Puts text.old text.new
+        (line_of world.now.program.config source.now asked (of_before before.now)
+        world.now.world)) }
+{
+    if is_shown(asked, before.place.line) {
+        put_step(alloc, text, source, world, asked.task, before)
+    } else {
+        Ok(())
     }
 }
 
@@ -179,9 +202,64 @@ fn put_step(
     }
 }
 
-// Whether nothing more is shown behind a line.
-fn is_last(until: Option<u32>, line: u32) -> bool
-    ensures { result ≡ is_last until line }
+// What is asked for once a step at a line is there.
+fn asked_at(asked: Asked, line: u32) -> Asked
+    ensures { result ≡ asked_at asked line }
+{
+    Asked {
+        from: from_behind(asked.from, line),
+        ..asked
+    }
+}
+
+// The line before which nothing is shown, once a step at a line is there.
+fn from_behind(from: Option<u32>, line: u32) -> Option<u32>
+    ensures { result ≡ from_behind from line }
+{
+    match from {
+        Some(from) if from != line => Some(from),
+        _ => None,
+    }
+}
+
+// Whether a line is one of the unit's that is asked for.
+fn is_of_unit(unit: Option<Lines>, line: u32) -> bool
+    ensures { result ≡ is_of_unit unit line }
+{
+    match unit {
+        None => true,
+        Some(lines) => lines.first <= line && line <= lines.last,
+    }
+}
+
+// Whether a step at a line is shown.
+fn is_shown(asked: Asked, line: u32) -> bool
+    ensures { result ≡ is_shown asked line }
+{
+    asked.from.is_none() && is_of_unit(asked.unit, line)
+}
+
+// What is asked for behind a step at a line, if more is shown.
+fn asked_more(asked: Asked, line: u32) -> Option<Asked>
+    ensures { result ≡ asked_more asked line }
+{
+    if is_last(asked, line) {
+        None
+    } else {
+        Some(asked)
+    }
+}
+
+// Whether nothing more is shown behind a step at a line.
+fn is_last(asked: Asked, line: u32) -> bool
+    ensures { result ≡ is_last asked line }
+{
+    asked.from.is_none() && is_until(asked.until, line)
+}
+
+// Whether a line is the one that is asked for.
+fn is_until(until: Option<u32>, line: u32) -> bool
+    ensures { result ≡ is_until until line }
 {
     match until {
         None => false,

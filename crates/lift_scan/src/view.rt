@@ -8,7 +8,9 @@ ghost use Rattle.il_run.specs.State.{Frame};
 ghost use Rattle.il_exec.specs.Framing.{path_in, path_over, instruction_in};
 ghost use Rattle.lift_spec.specs.World.{scan_at};
 ghost use Rattle.lift_scan.specs.Stands.{of_stand, stand_at, step_at, path_of_step};
+ghost use Rattle.lift_scan.specs.Lines.{lines_of};
 
+use crate::chosen::Lines;
 use il_machine::{Store, Value, Verified};
 use il_run::value::Content;
 use il_spec::tree::{Instruction, Step, Unit};
@@ -82,10 +84,7 @@ impl<'v> View<'v> {
     pub fn unit(&self, name: &str) -> Option<&'v Unit>
         ensures { option_copied result ≡ unit_named self.now.config name.now }
     {
-        if self.verified.names().is_predeclared(name) {
-            return None;
-        }
-        unit_in(self.verified.config().units.as_slice(), name)
+        unit_named(self.verified, name)
     }
 
     /// The instruction of a unit at a place, if it is no implicit RET.
@@ -135,6 +134,27 @@ impl<'v> View<'v> {
             None => Ok(String::new(alloc)),
         }
     }
+}
+
+/// The lines of the unit of a name, from its heading to its END word, if the text has one.
+pub fn lines_of_unit(verified: &Verified, name: &str) -> Option<Lines>
+    ensures { result ≡ option_map lines_of (unit_named verified.now.config name.now) }
+{
+    let unit = unit_named(verified, name)?;
+    Some(Lines {
+        first: unit.place.line,
+        last: unit.body.end.line,
+    })
+}
+
+// The unit of a name.
+fn unit_named<'v>(verified: &'v Verified, name: &str) -> Option<&'v Unit>
+    ensures { option_copied result ≡ unit_named verified.now.config name.now }
+{
+    if verified.names().is_predeclared(name) {
+        return None;
+    }
+    unit_in(verified.config().units.as_slice(), name)
 }
 
 // The first unit of a name.

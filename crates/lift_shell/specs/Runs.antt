@@ -110,9 +110,6 @@ fire_sentence = codes "no round of the run"
 abbrev pub span_sentence : List ℕ
 span_sentence = codes "no rounds: A:B, A: or :B, a first and a last round from 1 to 65535"
 
-abbrev pub name_sentence : List ℕ
-name_sentence = codes "no field, variable of a task or global has this name"
-
 abbrev pub too_many_sentence : List ℕ
 too_many_sentence = codes "there are more than 1000 presses"
 
@@ -127,7 +124,7 @@ IsFaultBelow reasons request text trace fault.TooManyPresses below = below ≡ p
 IsFaultBelow reasons request text trace (fault.BadFire word) below = below ≡ word_notice (string_bytes word) fire_sentence
 IsFaultBelow reasons request text trace (fault.BadSpan word) below = below ≡ word_notice (string_bytes word) span_sentence
 IsFaultBelow reasons request text trace (fault.BadScan why word) below = below ≡ word_notice (string_bytes word) (scan_sentence why)
-IsFaultBelow reasons request text trace (fault.BadName word) below = below ≡ word_notice (string_bytes word) name_sentence
+IsFaultBelow reasons request text trace (fault.BadName name says) below = below ≡ word_notice (string_bytes name) (string_bytes says)
 IsFaultBelow reasons request text trace (fault.CannotRead cause) below = below ≡ file_notice (other_name request) (cause_sentence cause)
 IsFaultBelow reasons request text trace fault.CannotWrite below = below ≡ []
 IsFaultBelow reasons request text trace fault.NoMemory below = below ≡ []

@@ -370,7 +370,7 @@ fn fault_below<C: Commands>(
         Fault::BadFire(word) => word_notice(alloc, word, NO_ROUND),
         Fault::BadSpan(word) => word_notice(alloc, word, NO_SPAN),
         Fault::BadScan(why, word) => word_notice(alloc, word, why.sentence()),
-        Fault::BadName(word) => word_notice(alloc, word, NO_NAME),
+        Fault::BadName { name, says } => word_notice(alloc, name, says),
         Fault::CannotRead(cause) => file_notice(alloc, other_name(request), cause.sentence()),
         Fault::CannotWrite => Ok(Vec::new(alloc)),
         Fault::NoMemory => Ok(Vec::new(alloc)),
@@ -382,8 +382,6 @@ const TOO_MANY: &str = "there are more than 1000 presses";
 const NO_ROUND: &str = "no round of the run";
 
 const NO_SPAN: &str = "no rounds: A:B, A: or :B, a first and a last round from 1 to 65535";
-
-const NO_NAME: &str = "no field, variable of a task or global has this name";
 
 const NO_PRESS: &str =
     "no press: ROUND:FROM:TO or ROUND:FROM:TO:PANEL, a round of the run, two floors of the group, a panel from 1 to 4";

@@ -242,6 +242,6 @@ module _ (c : Config) (source text state : List ℕ) (of : IsStateOf text state)
     no_events_there (status.BadFire word) h = absurd h
     no_events_there (status.BadSpan word) h = absurd h
     no_events_there (status.BadScan why word) h = absurd h
-    no_events_there (status.BadName word) h = absurd h
+    no_events_there (status.BadName word says) h = absurd h
     no_events_there (status.CannotRead cause) h = absurd h
     no_events_there status.CannotWrite h = absurd h

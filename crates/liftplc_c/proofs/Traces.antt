@@ -19,7 +19,7 @@ unbegun c source trace TooManyPresses is = is
 unbegun c source trace (BadFire word) is = is
 unbegun c source trace (BadSpan word) is = is
 unbegun c source trace (BadScan why word) is = is
-unbegun c source trace (BadName word) is = is
+unbegun c source trace (BadName word says) is = is
 unbegun c source trace (CannotRead cause) is = is
 unbegun c source trace CannotWrite is = is
 

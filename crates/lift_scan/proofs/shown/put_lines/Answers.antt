@@ -6,13 +6,13 @@ use Rattle.lift_scan.proofs.shown.put_lines.Goals as goal
 pub returns-then-not-branch-clause-lines : goal.returns-then-not-branch-clause-lines
 returns-then-not-branch-clause-lines c =
     let left : c.steps.counter < 1000000 = search rules in
-    stops c.args.world.now.program.config c.args.asked.task c.args.asked.until c.args.source.now 1000000 c.steps.counter _ _ c.steps.world.world c.steps.invariant.0
+    stops c.args.world.now.program.config c.args.source.now 1000000 c.steps.counter _ _ c.steps.asked c.steps.world.world c.steps.invariant.0
     c.steps.world.program (ap (λ (p : Program). p.config) c.steps.invariant.1) _ c.put_next.new.world.world c.in_ok-put_next.field-0 c.in_ok-put_next.ensures.shown left c.if-not-branch.true
 
 pub steps-preserved : goal.steps-preserved
 steps-preserved c =
     let left : c.steps.counter < 1000000 = search rules in (
-      goes_on c.args.world.now.program.config c.args.asked.task c.args.asked.until c.args.source.now 1000000 c.steps.counter _ _ c.steps.world.world c.steps.invariant.0
+      goes_on c.args.world.now.program.config c.args.source.now 1000000 c.steps.counter _ _ c.steps.asked c.steps.world.world c.steps.invariant.0
           c.steps.world.program (ap (λ (p : Program). p.config) c.steps.invariant.1) _ c.put_next.new.world.world c.in_ok-put_next.field-0 c.in_ok-put_next.ensures.shown left c.if-not-branch.false,
       c.put_next.ensures.same ∙ c.steps.invariant.1,
     )
@@ -20,4 +20,4 @@ steps-preserved c =
 pub returns-clause-lines : goal.returns-clause-lines
 returns-clause-lines c =
     let past : 1000000 ≤ c.steps.counter = search rules in
-    none_left c.args.world.now.program.config c.args.asked.task c.args.asked.until c.args.source.now 1000000 c.steps.counter _ _ c.steps.world.world c.steps.invariant.0 past
+    none_left c.args.world.now.program.config c.args.source.now 1000000 c.steps.counter _ _ c.steps.asked c.steps.world.world c.steps.invariant.0 past

@@ -27,6 +27,6 @@ returns-clause-shown c = record {
   takes = subst (λ es. TakesAll c.args.world.now.program.config c.args.world.now.world es c.replay.new.world.world) c.front_of.ensures c.in_default-replay.ensures.taken;
   text_is =
       c.in_ok-put_lines.ensures.lines
-      ∙ ap (λ t. t ++ lines_text c.replay.new.world.program.config c.args.asked.task c.args.asked.until c.args.source.now 1000000 c.replay.new.world.world) c.in_ok-text.ensures
-      ∙ ap (λ (p : Program). heading c.args.asked c.in-Some.it ++ lines_text p.config c.args.asked.task c.args.asked.until c.args.source.now 1000000 c.replay.new.world.world) c.replay.ensures.same;
+      ∙ ap (λ t. t ++ lines_text c.replay.new.world.program.config c.args.source.now 1000000 c.args.asked c.replay.new.world.world) c.in_ok-text.ensures
+      ∙ ap (λ (p : Program). heading c.args.asked c.in-Some.it ++ lines_text p.config c.args.source.now 1000000 c.args.asked c.replay.new.world.world) c.replay.ensures.same;
 }
