@@ -1,5 +1,6 @@
 -- What is told of the current result (own rules).
-use Rattle.std.specs.Prelude.{◌≡◌, ℕ, Bool, true, false, List, [], ◌++◌, Option, Some, None, codes}
+use Rattle.std.specs.Prelude.{◌≡◌, ℕ, ◌==◌, if◌then◌else◌, Bool, true, false, List, [], ◌∷◌, ◌++◌, Option, Some, None, codes, decimal}
+use Rattle.il_spec.specs.declared.tree.Body.{Body}
 use Rattle.il_spec.specs.declared.tree.Condition.{Condition}
 use Rattle.il_spec.specs.declared.tree.Condition.TheVariants.{Always, WhenTrue, WhenFalse}
 use Rattle.il_spec.specs.declared.tree.Config.{Config}
@@ -8,13 +9,47 @@ use Rattle.il_spec.specs.declared.tree.Instruction.{Instruction}
 use Rattle.il_spec.specs.declared.tree.Instruction.TheVariants.{Load, Evaluate, Jump, Return, Call}
 use Rattle.il_spec.specs.declared.tree.Step.{Step}
 use Rattle.il_spec.specs.declared.tree.Unit.{Unit as ProgramUnit}
-use Rattle.il_rules.specs.Types.{Deferred, opener, IsResultAt, IsDeferredAt, IsStep}
+use Rattle.il_rules.specs.Types.{Deferred, label_place, opener, IsResultAt, IsDeferredAt, IsStep}
 use Rattle.il_type_reasons.specs.TypeWords.{type_word}
 
--- `the current result is INT`, or that no one type comes to the place on all paths: because none does, or different ones (3.2.2)
-abbrev pub result_line : Option Elementary → List ℕ
-result_line None = codes "there is no current result of one type on all paths: none is there at the start, after a CAL, and where a JMP without condition comes from\n"
-result_line (Some found) = codes "the current result is " ++ (type_word found ++ codes "\n")
+-- JUMPS THAT BRING NO RESULT
+
+-- whether the place that a label names is this one
+abbrev pub is_place : ℕ → Option ℕ → Bool
+is_place at None = false
+is_place at (Some to) = to == at
+
+-- whether an instruction is a JMP without condition to a place of a body (3.2.2)
+abbrev pub jumps_to : Body → ℕ → Instruction → Bool
+jumps_to body at (Jump Always label) = is_place at (label_place body label.name)
+jumps_to body at (Jump WhenTrue label) = false
+jumps_to body at (Jump WhenFalse label) = false
+jumps_to body at _ = false
+
+-- the line of the first such JMP among some steps
+abbrev pub jump_among : Body → ℕ → List Step → Option ℕ
+jump_among body at [] = None
+jump_among body at (s ∷ steps) = if jumps_to body at s.instruction then Some s.place.line else jump_among body at steps
+
+-- that of the body
+abbrev pub jump_to : Body → ℕ → Option ℕ
+jump_to body at = jump_among body at body.steps
+
+-- `the JMP in line 6 leads here, and a JMP brings no current result` (3.2.2)
+unfoldable pub jump_line : ℕ → List ℕ
+jump_line line = codes "the JMP in line " ++ (decimal line ++ codes " leads here, and a JMP brings no current result\n")
+
+abbrev pub jump_lines : Option ℕ → List ℕ
+jump_lines None = []
+jump_lines (Some line) = jump_line line
+
+-- THE CURRENT RESULT
+
+-- `the current result is INT`, or that no one type comes to the place on all paths: because none does, or different ones (3.2.2); and the line of a
+-- JMP that leads to the place
+abbrev pub result_line : Option ℕ → Option Elementary → List ℕ
+result_line jump None = codes "there is no current result of one type on all paths: none is there at the start, after a CAL, and where a JMP without condition comes from\n" ++ jump_lines jump
+result_line jump (Some found) = codes "the current result is " ++ (type_word found ++ codes "\n")
 
 -- the same of the result that was set aside at `OP(`
 abbrev pub aside_line : Option Elementary → List ℕ
@@ -27,19 +62,19 @@ deferred_lines None = []
 deferred_lines (Some deferred) = aside_line deferred.1
 
 -- the same, where a condition tests the current result (3.2.2)
-abbrev pub tested_line : Condition → Option Elementary → List ℕ
-tested_line Always before = []
-tested_line WhenTrue before = result_line before
-tested_line WhenFalse before = result_line before
+abbrev pub tested_line : Option ℕ → Condition → Option Elementary → List ℕ
+tested_line jump Always before = []
+tested_line jump WhenTrue before = result_line jump before
+tested_line jump WhenFalse before = result_line jump before
 
--- of an instruction, with the current result and what waits for a `)` there; LD takes none (3.2.2)
-abbrev pub result_lines : Instruction → Option Elementary → Option Deferred → List ℕ
-result_lines (Load negated operand) before deferred = []
-result_lines Evaluate before deferred = result_line before ++ deferred_lines deferred
-result_lines (Jump condition label) before deferred = tested_line condition before
-result_lines (Return condition) before deferred = tested_line condition before
-result_lines (Call condition instance arguments) before deferred = tested_line condition before
-result_lines _ before deferred = result_line before
+-- of an instruction, with the line of a JMP to it, the current result and what waits for a `)` there; LD takes none (3.2.2)
+abbrev pub result_lines : Option ℕ → Instruction → Option Elementary → Option Deferred → List ℕ
+result_lines jump (Load negated operand) before deferred = []
+result_lines jump Evaluate before deferred = result_line jump before ++ deferred_lines deferred
+result_lines jump (Jump condition label) before deferred = tested_line jump condition before
+result_lines jump (Return condition) before deferred = tested_line jump condition before
+result_lines jump (Call condition instance arguments) before deferred = tested_line jump condition before
+result_lines jump _ before deferred = result_line jump before
 
 -- what is told of an instruction at a place of a unit, by the types that all paths give (3.2.2)
 pub record IsResultOf (c : Config) (unit : ProgramUnit) (at : ℕ) (instruction : Instruction) (lines : List ℕ) : Type 0 where
@@ -47,7 +82,7 @@ pub record IsResultOf (c : Config) (unit : ProgramUnit) (at : ℕ) (instruction 
   pub deferred : Option Deferred
   pub result : IsResultAt c unit at before
   pub waits : IsDeferredAt c unit (opener unit.body at) deferred
-  pub is : lines ≡ result_lines instruction before deferred
+  pub is : lines ≡ result_lines (jump_to unit.body at) instruction before deferred
 
 -- an instruction stands at a place of a unit, behind so many bytes of the text
 abbrev pub IsStepBehind : Config → ℕ → ProgramUnit → ℕ → Step → Type 0

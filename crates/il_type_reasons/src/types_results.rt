@@ -4,7 +4,7 @@ ghost use Rattle.std.specs.Prelude.{◌≡◌, ◌<◌, ℕ, None, Some, Option,
 ghost use Rattle.base_texts.specs.Puts.{Puts};
 ghost use Rattle.il_spec.specs.declared.tree.Step.{Step as StepOf};
 ghost use Rattle.il_rules.specs.Types.{opener, IsResultAt, IsDeferredAt};
-ghost use Rattle.il_type_reasons.specs.ResultReasons.{result_line, aside_line, deferred_lines, tested_line, result_lines, IsResultOf, IsResultTold};
+ghost use Rattle.il_type_reasons.specs.ResultReasons.{jumps_to, jump_among, jump_to, jump_line, jump_lines, result_line, aside_line, deferred_lines, tested_line, result_lines, IsResultOf, IsResultTold};
 
 use crate::types_operands::type_word;
 use il_name_reasons::writing::put_three;
@@ -54,15 +54,73 @@ fn types_at<S: Scope>(
     })
 }
 
+// Whether an instruction is a JMP without condition to a place of its body.
+fn jumps_to(scope: &UnitScope<'_>, place: usize, instruction: &Instruction) -> bool
+    ensures { result ≡ jumps_to scope.now.unit.body place instruction.now }
+{
+    match instruction {
+        Instruction::Jump {
+            condition: Condition::Always,
+            label,
+        } => scope.label(label.name.as_str()) == Some(place),
+        _ => false,
+    }
+}
+
+// The line of the first such JMP.
+fn jump_among(scope: &UnitScope<'_>, place: usize, steps: &[Step]) -> Option<u32>
+    ensures { result ≡ jump_among scope.now.unit.body place steps.now }
+{
+    for step in steps {
+        if jumps_to(scope, place, &step.instruction) {
+            return Some(step.place.line);
+        }
+    }
+    None
+}
+
+// That of the body.
+fn jump_to(scope: &UnitScope<'_>, place: usize) -> Option<u32>
+    ensures { result ≡ jump_to scope.now.unit.body place }
+{
+    jump_among(scope, place, scope.tree().body.steps.as_slice())
+}
+
+// `the JMP in line 6 leads here, and a JMP brings no current result`
+#[tactic(auto, unfolding(crate::specs::ResultReasons::jump_line))]
+fn put_jump_line(text: &mut String, line: u32) -> Result<(), AllocError>
+    ensures { OnOk result (Puts text.old text.new (jump_line line)) }
+{
+    write!(text, "the JMP in line {}", line)?;
+    text.push_str(" leads here, and a JMP brings no current result\n")
+}
+
+// The same, where a JMP leads to the place.
+fn put_jump(text: &mut String, jump: Option<u32>) -> Result<(), AllocError>
+    ensures { OnOk result (Puts text.old text.new (jump_lines jump)) }
+{
+    match jump {
+        Some(line) => put_jump_line(text, line),
+        None => Ok(()),
+    }
+}
+
 // `the current result is INT`
-fn put_result(text: &mut String, found: Option<Elementary>) -> Result<(), AllocError>
-    ensures { OnOk result (Puts text.old text.new (result_line found)) }
+fn put_result(
+    text: &mut String,
+    jump: Option<u32>,
+    found: Option<Elementary>,
+) -> Result<(), AllocError>
+    ensures { OnOk result (Puts text.old text.new (result_line jump found)) }
 {
     match found {
         Some(found) => put_three(text, "the current result is ", type_word(found), "\n"),
-        None => text.push_str(
-            "there is no current result of one type on all paths: none is there at the start, after a CAL, and where a JMP without condition comes from\n",
-        ),
+        None => {
+            text.push_str(
+                "there is no current result of one type on all paths: none is there at the start, after a CAL, and where a JMP without condition comes from\n",
+            )?;
+            put_jump(text, jump)
+        }
     }
 }
 
@@ -97,32 +155,38 @@ fn put_deferred(
 // The current result, where a condition tests it.
 fn put_tested(
     text: &mut String,
+    jump: Option<u32>,
     condition: Condition,
     found: Option<Elementary>,
 ) -> Result<(), AllocError>
-    ensures { OnOk result (Puts text.old text.new (tested_line condition found)) }
+    ensures { OnOk result (Puts text.old text.new (tested_line jump condition found)) }
 {
     match condition {
         Condition::Always => Ok(()),
-        _ => put_result(text, found),
+        _ => put_result(text, jump, found),
     }
 }
 
 // What an instruction takes of the current result.
-fn put_taken(text: &mut String, instruction: &Instruction, types: Types) -> Result<(), AllocError>
+fn put_taken(
+    text: &mut String,
+    jump: Option<u32>,
+    instruction: &Instruction,
+    types: Types,
+) -> Result<(), AllocError>
     ensures { OnOk result (Puts text.old text.new
-        (result_lines instruction.now types.result types.deferred)) }
+        (result_lines jump instruction.now types.result types.deferred)) }
 {
     match instruction {
         Instruction::Load { .. } => Ok(()),
         Instruction::Evaluate => {
-            put_result(text, types.result)?;
+            put_result(text, jump, types.result)?;
             put_deferred(text, types.deferred)
         }
-        Instruction::Jump { condition, .. } => put_tested(text, *condition, types.result),
-        Instruction::Return { condition } => put_tested(text, *condition, types.result),
-        Instruction::Call { condition, .. } => put_tested(text, *condition, types.result),
-        _ => put_result(text, types.result),
+        Instruction::Jump { condition, .. } => put_tested(text, jump, *condition, types.result),
+        Instruction::Return { condition } => put_tested(text, jump, *condition, types.result),
+        Instruction::Call { condition, .. } => put_tested(text, jump, *condition, types.result),
+        _ => put_result(text, jump, types.result),
     }
 }
 
@@ -140,7 +204,7 @@ fn told_at(
 {
     let types = types_at(alloc, scope, &scope.tree().body, place)?;
     let mut text = String::new(alloc);
-    put_taken(&mut text, instruction, types)?;
+    put_taken(&mut text, jump_to(scope, place), instruction, types)?;
     Ok(text)
 }
 

@@ -7,3 +7,4 @@ pub mod Watching
 pub mod Slots
 pub mod Threaded
 pub mod Scanned
+pub mod Stretches

@@ -3,6 +3,7 @@ pub mod Limits
 pub mod Listing
 pub mod Outcomes
 pub mod Parts
+pub mod Paths
 pub mod Spans
 pub mod Tellings
 pub mod Traces

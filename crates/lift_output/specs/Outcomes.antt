@@ -11,6 +11,7 @@ use Rattle.lift_host.specs.declared.files.Reading.TheVariants.{Text, Failed}
 use Rattle.lift_host.specs.declared.press.Press.{Press}
 use Rattle.lift_host.specs.declared.press.Set.TheVariants.{Fire}
 use Rattle.lift_host.specs.declared.press.Setting.{Setting}
+use Rattle.lift_host.specs.declared.request.Checked.{Checked}
 use Rattle.lift_host.specs.declared.request.Request.{Request}
 use Rattle.lift_host.specs.declared.request.Rounds.{Rounds}
 use Rattle.lift_host.specs.declared.request.Request.TheVariants as request
@@ -71,14 +72,15 @@ IsPrinted text (Ok output) = bytes_of output ≡ text
 IsPrinted text (Err fault.NoMemory) = Unit {0}
 IsPrinted text (Err _) = ⊥
 
--- what `check` shows of a program whose text has so many bytes: its listing, and behind it limits, where they are asked for
-abbrev pub check_shown : Bool → Program → ℕ → List ℕ
-check_shown false program bytes = listing program
-check_shown true program bytes = listing program ++ limits_text program bytes
+-- what `check` shows of a program whose text has so many bytes: its listing, with ranges of lines where they are asked for, and behind it limits,
+-- where those are
+abbrev pub check_shown : Bool → Bool → Program → ℕ → List ℕ
+check_shown ranged false program bytes = listing ranged program
+check_shown ranged true program bytes = listing ranged program ++ limits_text program bytes
 
 -- `check` of a verified program prints that.
-abbrev pub IsCheckOutcome : Bool → Program → ℕ → Outcome → Type 0
-IsCheckOutcome limits program bytes = IsPrinted (check_shown limits program bytes)
+abbrev pub IsCheckOutcome : Checked → Program → ℕ → Outcome → Type 0
+IsCheckOutcome asked program bytes = IsPrinted (check_shown asked.paths asked.limits program bytes)
 
 -- what a request warns of: `check` of what is in vain, where that is asked for
 abbrev pub asked_warnings : Bool → Program → Option (List ℕ)
@@ -429,7 +431,7 @@ IsToldOutcome (Some telling) traced program source trace outcome = IsTraceOutcom
 -- A verified program of a text gives what its command prints, with what was read of its other file: the trace, or the file behind `--calls`. This is without
 -- `--json`.
 abbrev pub IsProgramOutcome : Request → Program → List ℕ → Reading → Outcome → Type 0
-IsProgramOutcome (request.Check checked) program source other outcome = IsCheckOutcome checked.limits program (length source) outcome
+IsProgramOutcome (request.Check checked) program source other outcome = IsCheckOutcome checked program (length source) outcome
 IsProgramOutcome (request.Show command shown) program source other outcome = IsShowOutcome command program outcome
 IsProgramOutcome (request.Rounds command asked) program source other outcome = IsRoundsOutcome command program asked other outcome
 IsProgramOutcome (request.Trace command traced) program source other outcome = IsToldOutcome (telling_of command traced) traced program source other outcome

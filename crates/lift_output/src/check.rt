@@ -3,21 +3,21 @@
 ghost use Rattle.std.specs.Prelude.{◌≡◌, flat_map, IfOk, OnOk, string_bytes};
 ghost use Rattle.base_texts.specs.Puts.{Puts};
 ghost use Rattle.il_machine.specs.Listing.{task_lines, unit_lines, task_shown, unit_shown};
-ghost use Rattle.lift_output.specs.Listing.{task_text, unit_text, path_text, listing};
+ghost use Rattle.lift_output.specs.Listing.{task_text, unit_text, path_shown, listing};
 
+use crate::path::{put_path, put_ranged};
 use il_machine::{TaskInfo, UnitInfo, Verified};
-use itoa::Buffer;
 use std::alloc::{AllocError, Global};
 
 /// The output of `check`: that the text is accepted, then its tasks, CAR1 to CARn and then GROUP,
 /// with their intervals in milliseconds, then what each unit costs and the lines of its most
-/// expensive path.
-pub fn check_text(alloc: Global, verified: &Verified) -> Result<String, AllocError>
-    ensures { IfOk result (λ text. string_bytes text ≡ listing verified.now) }
+/// expensive path, where it is `ranged` those that follow one another as a range.
+pub fn check_text(alloc: Global, verified: &Verified, ranged: bool) -> Result<String, AllocError>
+    ensures { IfOk result (λ text. string_bytes text ≡ listing ranged verified.now) }
 {
     let mut text = String::from_str(alloc, "accepted\n")?;
     put_tasks(&mut text, verified)?;
-    put_units(&mut text, verified)?;
+    put_units(&mut text, verified, ranged)?;
     Ok(text)
 }
 
@@ -30,12 +30,12 @@ fn put_tasks(text: &mut String, verified: &Verified) -> Result<(), AllocError>
     Ok(())
 }
 
-fn put_units(text: &mut String, verified: &Verified) -> Result<(), AllocError>
+fn put_units(text: &mut String, verified: &Verified, ranged: bool) -> Result<(), AllocError>
     ensures { OnOk result (Puts text.old text.new
-        (flat_map unit_text (unit_lines verified.now.config.units verified.now.costs))) }
+        (flat_map (unit_text ranged) (unit_lines verified.now.config.units verified.now.costs))) }
 {
     'units: for unit in verified.units() {
-        put_unit(text, unit)?;
+        put_unit(text, unit, ranged)?;
     }
     Ok(())
 }
@@ -50,21 +50,21 @@ fn put_task(text: &mut String, task: TaskInfo<'_>) -> Result<(), AllocError>
 }
 
 #[tactic(auto, unfolding(crate::specs::Listing::unit_text))]
-fn put_unit(text: &mut String, unit: UnitInfo<'_>) -> Result<(), AllocError>
-    ensures { OnOk result (Puts text.old text.new (unit_text (unit_shown unit.entry))) }
+fn put_unit(text: &mut String, unit: UnitInfo<'_>, ranged: bool) -> Result<(), AllocError>
+    ensures { OnOk result (Puts text.old text.new (unit_text ranged (unit_shown unit.entry))) }
 {
     write!(text, "unit {} cost {} path", unit.name, unit.cost)?;
-    put_path(text, unit.path)?;
+    put_lines(text, unit.path, ranged)?;
     text.push_str("\n")
 }
 
-fn put_path(text: &mut String, path: &[u32]) -> Result<(), AllocError>
-    ensures { OnOk result (Puts text.old text.new (path_text path.now)) }
+// The lines of a path, where it is `ranged` those that follow one another as a range.
+fn put_lines(text: &mut String, path: &[u32], ranged: bool) -> Result<(), AllocError>
+    ensures { OnOk result (Puts text.old text.new (path_shown ranged path.now)) }
 {
-    let mut digits = Buffer::new();
-    'lines: for line in path {
-        text.push_str(" ")?;
-        text.push_str(digits.format(*line))?;
+    if ranged {
+        put_ranged(text, path)
+    } else {
+        put_path(text, path)
     }
-    Ok(())
 }

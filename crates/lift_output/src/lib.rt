@@ -5,6 +5,7 @@ pub mod check;
 pub mod image;
 pub mod limits;
 pub mod outcome;
+mod path;
 pub mod scan;
 pub mod span;
 pub mod telling;

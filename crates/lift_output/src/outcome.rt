@@ -134,7 +134,7 @@ fn check_outcome(
     asked: Checked<'_>,
     bytes: usize,
 ) -> Result<Output, Fault>
-    ensures is { IsCheckOutcome asked.entry.limits verified bytes result }
+    ensures is { IsCheckOutcome asked.entry verified bytes result }
     ensures warned { HasWarnings (asked_warnings asked.entry.warns verified) result }
     ensures unwritten { result ≢ Err Fault.CannotWrite }
 {
@@ -150,11 +150,11 @@ fn listed(
     asked: Checked<'_>,
     bytes: usize,
 ) -> Result<Output, Fault>
-    ensures is { IsCheckOutcome asked.entry.limits verified.now bytes result }
+    ensures is { IsCheckOutcome asked.entry verified.now bytes result }
     ensures warned { HasWarnings (asked_warnings asked.entry.warns verified.now) result }
     ensures unwritten { result ≢ Err Fault.CannotWrite }
 {
-    let text = check_shown(alloc, verified, asked.limits, bytes)?;
+    let text = check_shown(alloc, verified, asked, bytes)?;
     if !asked.warns {
         return Ok(Output::Text(text));
     }
@@ -166,13 +166,14 @@ fn listed(
 fn check_shown(
     alloc: Global,
     verified: &Verified,
-    limits: bool,
+    asked: Checked<'_>,
     bytes: usize,
 ) -> Result<String, AllocError>
-    ensures { IfOk result (λ text. string_bytes text ≡ check_shown limits verified.now bytes) }
+    ensures { IfOk result (λ text. string_bytes text
+        ≡ check_shown asked.entry.paths asked.entry.limits verified.now bytes) }
 {
-    let mut text = check_text(alloc, verified)?;
-    if !limits {
+    let mut text = check_text(alloc, verified, asked.paths)?;
+    if !asked.limits {
         return Ok(text);
     }
     put_limits(alloc, &mut text, verified, bytes)?;

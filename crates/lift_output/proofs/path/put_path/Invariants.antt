@@ -1,6 +1,6 @@
 use Rattle.std.proofs.Common.{◌≡◌, ◌++◌, string_bytes, take}
-use Rattle.lift_output.specs.Listing.{path_text}
-use Rattle.lift_output.proofs.check.put_path.Given as goal
+use Rattle.lift_output.specs.Paths.{path_text}
+use Rattle.lift_output.proofs.path.put_path.Given as goal
 
 abbrev pub invariant-lines : goal.invariant-lines
 invariant-lines l = string_bytes l.text ≡ string_bytes l.initial.text ++ path_text (take l.line-index l.path)
