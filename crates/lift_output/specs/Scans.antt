@@ -1,6 +1,6 @@
 -- What `scan` shows (own rules).
 use Rattle.std.specs.Prelude.{◌≡◌, ◌≤◌, ◌<◌, ◌⊎◌, ◌==◌, ℕ, ◌+◌, true, List, [], ◌∷◌, length, Option, Some, None, option_map, string_bytes}
-use Rattle.core.specs.List.{position_or_len, before_first, after_first}
+use Rattle.std.specs.List.{position_or_len, before_first, after_first}
 use Rattle.il_machine.specs.Scanning.{Program}
 use Rattle.il_rules.specs.Names.{unit_named}
 use Rattle.lift_host.specs.declared.request.Traced.{Traced}

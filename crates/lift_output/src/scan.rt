@@ -153,16 +153,16 @@ fn spread_of(alloc: Global, word: Option<&str>) -> Result<Spread, Fault>
             from: None,
             until: None,
         }),
-        Some(word) => match spread(word) {
-            Some(spread) => Ok(spread),
+        Some(word) => match lines_in(word) {
+            Some(lines) => Ok(lines),
             None => Err(Fault::BadScan(ScanFault::Line, String::from_str(alloc, word)?)),
         },
     }
 }
 
 // `LINE`, `FROM:LINE` or `FROM:`.
-fn spread(word: &str) -> Option<Spread>
-    ensures some { IfSome result (λ spread. AreLines word.now spread.from spread.until) }
+fn lines_in(word: &str) -> Option<Spread>
+    ensures some { IfSome result (λ lines. AreLines word.now lines.from lines.until) }
     ensures none { IsNone result → AreNoLines word.now }
 {
     let (front, rest) = cut_at(':', word);
