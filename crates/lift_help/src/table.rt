@@ -2,8 +2,8 @@
 
 use clap::{Arg, ArgAction, Command};
 use lift_host::request::{
-    ALL, CALLS, CHANGES, CUT, FIRE, FROM, Following, JSON, LEFT, LIMITS, Name, PATHS, ROUND, ROUNDS,
-    SUMMARY, Showing, Simulating, TEXT, TOGETHER, TRACE, UNTIL, WARN,
+    ALL, CALLS, CHANGES, CUT, FIRE, FROM, Following, JSON, LEFT, LIMITS, Name, PATHS, ROUND,
+    ROUNDS, SUMMARY, Showing, Simulating, TEXT, TOGETHER, TRACE, UNTIL, WARN,
 };
 use lift_host::serving::SYNC;
 use std::alloc::{AllocError, Global};
