@@ -13,7 +13,7 @@ module _ (p : Program) (source text : List ℕ) where
   unbegun_is (fault.Refused number line) is = inl is
   unbegun_is fault.NoMemory is = tt
   unbegun_is (fault.BadSpan word) is = absurd is
-  unbegun_is (fault.BadName word) is = absurd is
+  unbegun_is (fault.BadName word says) is = absurd is
   unbegun_is (fault.BadScan kind word) is = absurd is
   unbegun_is (fault.Misuse words) is = absurd is
   unbegun_is (fault.RefusedText number place) is = absurd is

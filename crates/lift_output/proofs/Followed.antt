@@ -13,14 +13,14 @@ use Rattle.lift_output.specs.Traces.{IsRead}
 use Rattle.lift_messages.specs.Outputs.{Outcome}
 use Rattle.lift_spec.specs.declared.trace.TraceEvent.{TraceEvent}
 use Rattle.lift_spec.specs.World.{World}
-use Rattle.lift_watch.specs.Names.{upper_case}
+use Rattle.lift_watch.specs.Words.{meant}
 
 module _ (telling : Telling) (p : Program) (source text : List ℕ) where
   pub followed_is : (read : IsRead p source text) (outcome : Outcome) → AreFollowed telling p read.from read.events read.lines outcome → IsFollowed telling p source text outcome
   followed_is read (Ok output) is = record { read = read; after = is.0; taken = is.1; is = is.2 }
   followed_is read (Err (fault.Refused number line)) is = inr (record { read = read; good = is.0; index = is.1; why = is.2; refused = is.3; numbered = is.4; lined = is.5 })
   followed_is read (Err (fault.BadSpan word)) is = (read, is)
-  followed_is read (Err (fault.BadName word)) is = (read, is)
+  followed_is read (Err (fault.BadName word says)) is = (read, is)
   followed_is read (Err fault.NoMemory) is = tt
   followed_is read (Err (fault.Misuse words)) is = absurd is
   followed_is read (Err (fault.RefusedText number place)) is = absurd is
@@ -36,7 +36,7 @@ module _ (telling : Telling) (p : Program) (source text : List ℕ) where
   unread_is (fault.Refused number line) is = inl is
   unread_is fault.NoMemory is = tt
   unread_is (fault.BadSpan word) is = absurd is
-  unread_is (fault.BadName word) is = absurd is
+  unread_is (fault.BadName word says) is = absurd is
   unread_is (fault.Misuse words) is = absurd is
   unread_is (fault.RefusedText number place) is = absurd is
   unread_is (fault.BadPress word) is = absurd is
@@ -47,12 +47,12 @@ module _ (telling : Telling) (p : Program) (source text : List ℕ) where
   unread_is fault.CannotWrite is = absurd is
 
 -- names that are watched along events
-pub valued_is : (names : Words) (changes : Bool) (p : Program) (from : World) (events : List TraceEvent) (lines : ℕ) (outcome : Outcome) → AreValued (map upper_case (words_of names)) changes p from events lines outcome → AreFollowed (Values names changes) p from events lines outcome
+pub valued_is : (names : Words) (changes : Bool) (p : Program) (from : World) (events : List TraceEvent) (lines : ℕ) (outcome : Outcome) → AreValued (meant p.config (words_of names)) changes p from events lines outcome → AreFollowed (Values names changes) p from events lines outcome
 valued_is names changes p from events lines (Ok output) is = is
 valued_is names changes p from events lines (Err (fault.Refused number line)) is = is
 valued_is names changes p from events lines (Err (fault.BadSpan word)) is = absurd is
 valued_is names changes p from events lines (Err (fault.BadScan kind word)) is = absurd is
-valued_is names changes p from events lines (Err (fault.BadName word)) is = is
+valued_is names changes p from events lines (Err (fault.BadName word says)) is = is
 valued_is names changes p from events lines (Err fault.NoMemory) is = tt
 valued_is names changes p from events lines (Err (fault.Misuse words)) is = absurd is
 valued_is names changes p from events lines (Err (fault.RefusedText number place)) is = absurd is

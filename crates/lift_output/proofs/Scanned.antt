@@ -26,7 +26,7 @@ module _ (traced : Traced) (p : Program) (asked : Asked) (source text : List ℕ
   scanned_is read (Err (fault.BadScan kind word)) is = inr (record { read = read; asked = asked; is = of; none = is.0; word = is.1 })
   scanned_is read (Err fault.NoMemory) is = tt
   scanned_is read (Err (fault.BadSpan word)) is = absurd is
-  scanned_is read (Err (fault.BadName word)) is = absurd is
+  scanned_is read (Err (fault.BadName word says)) is = absurd is
   scanned_is read (Err (fault.Misuse words)) is = absurd is
   scanned_is read (Err (fault.RefusedText number place)) is = absurd is
   scanned_is read (Err (fault.BadPress word)) is = absurd is

@@ -60,7 +60,7 @@ use Rattle.lift_watch.specs.Calls.{IsLogOf}
 use Rattle.lift_watch.specs.Changes.{shown_text}
 use Rattle.lift_watch.specs.Denials.{denied}
 use Rattle.lift_watch.specs.Following.{IsDeniedAlong, AreRowsAlong}
-use Rattle.lift_watch.specs.Names.{upper_case}
+use Rattle.lift_watch.specs.Words.{meant}
 use Rattle.lift_watch.specs.Values.{AreWatched, IsUnknown, header_text, watching}
 use Rattle.lift_workers.specs.Ran.{IsRun}
 
@@ -263,31 +263,31 @@ IsDenialsOutcome program asked calls (Err why) = IsUndriven (sizes_of program.co
 
 -- WATCH
 
--- The words behind ROUNDS are names in any letter case, which have values as the program opens, and then presses. The lines are that of the names, and
+-- The words behind ROUNDS stand for names, which have values as the program opens, and behind them are presses. The lines are that of the names, and
 -- those of a simulation; with `--changes` without the rows that repeat the values of the row before them.
 pub record IsWatchOf (program : Program) (asked : Rounds) (calls : Reading) (text : List ℕ) : Type 0 where
   pub names : List (List ℕ)
   pub behind : Words
   pub split : AreNamesFirst (words_of asked.presses) names (words_of behind)
   pub watched : List Watched
-  pub known : AreWatched (opening program.config) (map upper_case names) watched
+  pub known : AreWatched (opening program.config) (meant program.config names) watched
   pub presses : List Press
   pub settings : List Setting
   pub driven : AreDriven (sizes_of program.config) (record asked { presses = behind }) calls presses settings
   pub entries : List Entry
   pub rows : List ℕ
   pub shown : IsShown (watching watched) program.config presses settings asked.rounds entries rows
-  pub lines : text ≡ shown_text asked.flag (header_text (map upper_case names) ++ rows)
+  pub lines : text ≡ shown_text asked.flag (header_text (meant program.config names) ++ rows)
 
--- The words are names and then presses, they and the file are good, and this name, in upper case, has no value as the program opens.
-pub record HasUnknown (program : Program) (asked : Rounds) (calls : Reading) (word : List ℕ) : Type 0 where
+-- The words are names and then presses, they and the file are good, and one of the names that they stand for has no value as the program opens; what is said of it.
+pub record HasUnknown (program : Program) (asked : Rounds) (calls : Reading) (word says : List ℕ) : Type 0 where
   pub names : List (List ℕ)
   pub behind : Words
   pub split : AreNamesFirst (words_of asked.presses) names (words_of behind)
   pub presses : List Press
   pub settings : List Setting
   pub driven : AreDriven (sizes_of program.config) (record asked { presses = behind }) calls presses settings
-  pub unknown : IsUnknown (opening program.config) (map upper_case names) word
+  pub unknown : IsUnknown program.config (opening program.config) (meant program.config names) word says
 
 -- or they or the file are bad
 pub record IsUnwatched (program : Program) (asked : Rounds) (calls : Reading) (why : Fault) : Type 0 where
@@ -299,7 +299,7 @@ pub record IsUnwatched (program : Program) (asked : Rounds) (calls : Reading) (w
 -- `watch` prints them, or says what is wrong with the words.
 abbrev pub IsWatchOutcome : Program → Rounds → Reading → Outcome → Type 0
 IsWatchOutcome program asked calls (Ok output) = IsWatchOf program asked calls (bytes_of output)
-IsWatchOutcome program asked calls (Err (fault.BadName word)) = HasUnknown program asked calls (string_bytes word)
+IsWatchOutcome program asked calls (Err (fault.BadName word says)) = HasUnknown program asked calls (string_bytes word) (string_bytes says)
 IsWatchOutcome program asked calls (Err why) = IsUnwatched program asked calls why
 
 -- TRACES
@@ -315,8 +315,7 @@ pub record IsTextOfCalls (c : Config) (summary : Bool) (from : World) (events : 
   pub known : IsLogOf c from events after log
   pub is : IsCallsText summary log text
 
--- the text of the values of names behind each round of a trace's events, from a world on, with `--changes` without the rows that repeat; the names are in
--- upper case
+-- the text of the values of names behind each round of a trace's events, from a world on, with `--changes` without the rows that repeat
 pub record IsTextOfValues (c : Config) (names : List (List ℕ)) (changes : Bool) (from : World) (events : List TraceEvent) (after : World) (text : List ℕ) : Type 0 where
   pub watched : List Watched
   pub known : AreWatched from names watched
@@ -331,17 +330,17 @@ Says Image program from events after text = text ≡ image_text program.config a
 Says (Picture span) program from events after text = Unit {0}
 Says (Calls summary) program from events after text = IsTextOfCalls program.config summary from events after text
 Says (Denials all) program from events after text = IsDeniedAlong all program.config from events after text
-Says (Values names changes) program from events after text = IsTextOfValues program.config (map upper_case (words_of names)) changes from events after text
+Says (Values names changes) program from events after text = IsTextOfValues program.config (meant program.config (words_of names)) changes from events after text
 
 -- the word behind `--rounds` says no rounds
 abbrev pub IsBadSpan : Telling → Fault → Type 0
 IsBadSpan (Picture span) why = IsNoSpan (option_map (λ word. word.now) span) why
 IsBadSpan _ why = ⊥
 
--- this name, in upper case, has no value in the world from which a trace begins
-abbrev pub IsBadName : Telling → World → List ℕ → Type 0
-IsBadName (Values names changes) from word = IsUnknown from (map upper_case (words_of names)) word
-IsBadName _ from word = ⊥
+-- one of the names that words stand for has no value in the world from which a trace begins; what is said of it
+abbrev pub IsBadName : Telling → Program → World → List ℕ → List ℕ → Type 0
+IsBadName (Values names changes) program from word says = IsUnknown program.config from (meant program.config (words_of names)) word says
+IsBadName _ program from word says = ⊥
 
 -- it is told so of a trace's events, from the world from which it begins
 pub record IsSaidAfter (telling : Telling) (program : Program) (source trace text : List ℕ) : Type 0 where
@@ -350,22 +349,22 @@ pub record IsSaidAfter (telling : Telling) (program : Program) (source trace tex
   pub taken : TakesAll program.config read.from read.events after
   pub is : Says telling program read.from read.events after text
 
--- names, in upper case, have values in the world from which a trace begins
+-- names have values in the world from which a trace begins
 abbrev pub HaveValues : World → List (List ℕ) → Type 0
 HaveValues from names = (watched : List Watched) × AreWatched from names watched
 
 -- the words beside TRACE are good: the word behind `--rounds` says rounds, the names to watch have values in the world from which the trace begins
-abbrev pub HasGoodWords : Telling → World → Type 0
-HasGoodWords Image from = Unit {0}
-HasGoodWords (Picture span) from = (rounds : Span) × IsSpanWord (option_map (λ word. word.now) span) rounds
-HasGoodWords (Calls summary) from = Unit {0}
-HasGoodWords (Denials all) from = Unit {0}
-HasGoodWords (Values names changes) from = HaveValues from (map upper_case (words_of names))
+abbrev pub HasGoodWords : Telling → Program → World → Type 0
+HasGoodWords Image program from = Unit {0}
+HasGoodWords (Picture span) program from = (rounds : Span) × IsSpanWord (option_map (λ word. word.now) span) rounds
+HasGoodWords (Calls summary) program from = Unit {0}
+HasGoodWords (Denials all) program from = Unit {0}
+HasGoodWords (Values names changes) program from = HaveValues from (meant program.config (words_of names))
 
 -- the words beside a trace are good, and an event of it is refused, with this number, at its line
 pub record IsEventRefused (telling : Telling) (program : Program) (source trace : List ℕ) (number line : ℕ) : Type 0 where
   pub read : IsRead program source trace
-  pub good : HasGoodWords telling read.from
+  pub good : HasGoodWords telling program read.from
   pub index : ℕ
   pub why : EventFault
   pub refused : IsRefusedAt program.config read.from read.events index why
@@ -382,7 +381,7 @@ abbrev pub IsFollowed : Telling → Program → List ℕ → List ℕ → Outcom
 IsFollowed telling program source trace (Ok output) = IsSaidAfter telling program source trace (bytes_of output)
 IsFollowed telling program source trace (Err (fault.Refused number line)) = IsTraceRefused telling program source trace number line
 IsFollowed telling program source trace (Err (fault.BadSpan word)) = IsRead program source trace × IsBadSpan telling (fault.BadSpan word)
-IsFollowed telling program source trace (Err (fault.BadName word)) = (read : IsRead program source trace) × IsBadName telling read.from (string_bytes word)
+IsFollowed telling program source trace (Err (fault.BadName word says)) = (read : IsRead program source trace) × IsBadName telling program read.from (string_bytes word) (string_bytes says)
 IsFollowed telling program source trace (Err fault.NoMemory) = Unit {0}
 IsFollowed telling program source trace (Err _) = ⊥
 

@@ -52,9 +52,9 @@ IsTraceUnread program source trace _ = ⊥
 -- events are followed from a world on; so many lines stand before the first
 abbrev pub AreFollowed : Telling → Program → World → List TraceEvent → ℕ → Outcome → Type 0
 AreFollowed telling program from events lines (Ok output) = (after : World) × TakesAll program.config from events after × Says telling program from events after (bytes_of output)
-AreFollowed telling program from events lines (Err (fault.Refused number line)) = HasGoodWords telling from × (index : ℕ) × (why : EventFault) × IsRefusedAt program.config from events index why × (number ≡ event_fault_number why) × (line ≡ lines + 1 + index)
+AreFollowed telling program from events lines (Err (fault.Refused number line)) = HasGoodWords telling program from × (index : ℕ) × (why : EventFault) × IsRefusedAt program.config from events index why × (number ≡ event_fault_number why) × (line ≡ lines + 1 + index)
 AreFollowed telling program from events lines (Err (fault.BadSpan word)) = IsBadSpan telling (fault.BadSpan word)
-AreFollowed telling program from events lines (Err (fault.BadName word)) = IsBadName telling from (string_bytes word)
+AreFollowed telling program from events lines (Err (fault.BadName word says)) = IsBadName telling program from (string_bytes word) (string_bytes says)
 AreFollowed telling program from events lines (Err fault.NoMemory) = Unit {0}
 AreFollowed telling program from events lines (Err _) = ⊥
 
@@ -70,7 +70,7 @@ AreScanned traced program asked source from events lines (Err _) = ⊥
 abbrev pub AreValued : List (List ℕ) → Bool → Program → World → List TraceEvent → ℕ → Outcome → Type 0
 AreValued names changes program from events lines (Ok output) = (after : World) × TakesAll program.config from events after × IsTextOfValues program.config names changes from events after (bytes_of output)
 AreValued names changes program from events lines (Err (fault.Refused number line)) = HaveValues from names × (index : ℕ) × (why : EventFault) × IsRefusedAt program.config from events index why × (number ≡ event_fault_number why) × (line ≡ lines + 1 + index)
-AreValued names changes program from events lines (Err (fault.BadName word)) = IsUnknown from names (string_bytes word)
+AreValued names changes program from events lines (Err (fault.BadName word says)) = IsUnknown program.config from names (string_bytes word) (string_bytes says)
 AreValued names changes program from events lines (Err fault.NoMemory) = Unit {0}
 AreValued names changes program from events lines (Err _) = ⊥
 
@@ -78,6 +78,6 @@ AreValued names changes program from events lines (Err _) = ⊥
 abbrev pub IsWatched : Config → List (List ℕ) → List Press → List Setting → ℕ → Bool → Outcome → Type 0
 IsWatched c names presses settings rounds changes (Ok output) =
     (watched : List Watched) × AreWatched (opening c) names watched × (entries : List Entry) × (rows : List ℕ) × IsShown (watching watched) c presses settings rounds entries rows × (bytes_of output ≡ shown_text changes (header_text names ++ rows))
-IsWatched c names presses settings rounds changes (Err (fault.BadName word)) = IsUnknown (opening c) names (string_bytes word)
+IsWatched c names presses settings rounds changes (Err (fault.BadName word says)) = IsUnknown c (opening c) names (string_bytes word) (string_bytes says)
 IsWatched c names presses settings rounds changes (Err fault.NoMemory) = Unit {0}
 IsWatched c names presses settings rounds changes (Err _) = ⊥

@@ -13,7 +13,7 @@ ghost use Rattle.lift_host.specs.CallsFile.{AreCallsOf};
 ghost use Rattle.lift_host.specs.Requests.{command_of, words_of};
 ghost use Rattle.lift_host.specs.Messages.{line_fault_number};
 ghost use Rattle.lift_host.specs.declared.status.Fault.TheVariants.{Refused as RefusedLine};
-ghost use Rattle.lift_watch.specs.Names.{upper_case};
+ghost use Rattle.lift_watch.specs.Words.{meant};
 ghost use Rattle.lift_spec.specs.EventFaults.{event_fault_number};
 ghost use Rattle.lift_workers.specs.Panels.{IsPressAt};
 ghost use Rattle.lift_workers.specs.Ran.{IsRun};
@@ -52,8 +52,8 @@ use lift_watch::calls::call_log;
 use lift_watch::changes::shown_text;
 use lift_watch::denials::Denials;
 use lift_watch::following::{denied_along, rows_along};
-use lift_watch::names::upper_names;
 use lift_watch::watch::Watch;
+use lift_watch::words::meant;
 use lift_workers::RunFault;
 use lift_workers::gate::{Open, Together};
 use lift_workers::run::{Plan, Ran, run};
@@ -416,7 +416,7 @@ fn watched(
     }
 }
 
-// The values of names, in upper case, behind each of so many rounds of a world that opens; with `--changes` only those that change.
+// The values of the names that words stand for, behind each of so many rounds of a world that opens; with `--changes` only those that change.
 fn watched_names(
     alloc: Global,
     world: &mut World,
@@ -428,11 +428,12 @@ fn watched_names(
     requires opening { world.old.world ≡ opening world.old.program.config }
     requires calls { ArePressed (sizes_of world.old.program.config) drive.presses.now }
     requires settings { AreSettings (sizes_of world.old.program.config).cars drive.settings.now }
-    ensures is { IsWatched world.old.program.config (map upper_case (words_of names.entry))
+    ensures is { IsWatched world.old.program.config
+        (meant world.old.program.config (words_of names.entry))
         drive.entry.presses.now drive.entry.settings.now rounds changes result }
     ensures warned { HasWarnings None result }
 {
-    let names = upper_names(alloc, names)?;
+    let names = meant(alloc, world, names)?;
     watched_world(alloc, world, &names, drive, rounds, changes)
 }
 
@@ -668,7 +669,7 @@ fn denials_along(
     }
 }
 
-// The values of names, in upper case, behind each round of events.
+// The values of the names that words stand for, behind each round of events.
 fn values_along(
     alloc: Global,
     world: &mut World,
@@ -682,7 +683,7 @@ fn values_along(
         world.old.world events.now lines result }
     ensures warned { HasWarnings None result }
 {
-    let names = upper_names(alloc, names)?;
+    let names = meant(alloc, world, names)?;
     values_of(alloc, world, events, lines, &names, changes)
 }
 

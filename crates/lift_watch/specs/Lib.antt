@@ -6,3 +6,4 @@ pub mod Following
 pub mod Names
 pub mod Values
 pub mod Wished
+pub mod Words

@@ -1,6 +1,7 @@
 -- What `watch` prints (own rules).
 use Rattle.std.specs.Prelude.{◌≡◌, ℕ, zero, suc, Bool, true, false, if◌then◌else◌, List, [], ◌∷◌, ◌++◌, flat_map, slice_get, Option, Some, None, is_some, option_map, option_and_then, pos, codes, decimal, string_bytes}
 use Rattle.std.specs.Fmt.{signed_decimal}
+use Rattle.il_spec.specs.declared.tree.Config.{Config}
 use Rattle.il_run.specs.declared.value.Value.{Value}
 use Rattle.il_run.specs.declared.value.Value.TheVariants.{Boolean, Integer}
 use Rattle.il_table.specs.NameMap as values
@@ -107,16 +108,21 @@ AreWatched w [] (it ∷ watched) = ⊥
 AreWatched w (name ∷ names) [] = ⊥
 AreWatched w (name ∷ names) (it ∷ watched) = IsReadAs name it × (value_of it nothing_asked w ≡ None → ⊥) × AreWatched w names watched
 
--- this is one of the names, and has no value in the world
-pub record IsUnknown (w : World) (names : List (List ℕ)) (name : List ℕ) : Type 0 where
+-- what is said of a name that has no value
+abbrev pub unnamed_sentence : Config → List ℕ → List ℕ
+unnamed_sentence c name = codes "no field, variable of a task or global has this name"
+
+-- this is one of the names, and has no value in the world; what is said of it
+pub record IsUnknown (c : Config) (w : World) (names : List (List ℕ)) (name says : List ℕ) : Type 0 where
   pub place : ℕ
   pub stands : slice_get names place ≡ Some name
   pub it : Watched
   pub read : IsReadAs name it
   pub none : value_of it nothing_asked w ≡ None
+  pub said : says ≡ unnamed_sentence c name
 
 -- Names can't be watched: the one that is named has no value. Memory may be missing.
-abbrev pub IsUnnamed : World → List (List ℕ) → Fault → Type 0
-IsUnnamed w names (BadName name) = IsUnknown w names (string_bytes name)
-IsUnnamed w names NoMemory = Unit {0}
-IsUnnamed w names _ = ⊥
+abbrev pub IsUnnamed : Config → World → List (List ℕ) → Fault → Type 0
+IsUnnamed c w names (BadName name says) = IsUnknown c w names (string_bytes name) (string_bytes says)
+IsUnnamed c w names NoMemory = Unit {0}
+IsUnnamed c w names _ = ⊥

@@ -8,3 +8,4 @@ pub mod denials;
 pub mod following;
 pub mod names;
 pub mod watch;
+pub mod words;

@@ -5,7 +5,7 @@ ghost use Rattle.base_texts.specs.Puts.{Puts};
 ghost use Rattle.lift_spec.specs.Snapshot.{from_of, to_of, car_of};
 ghost use Rattle.lift_spec.specs.World.{task_at};
 ghost use Rattle.lift_watch.specs.Asked.{nothing_asked};
-ghost use Rattle.lift_watch.specs.Values.{shared_value, car_value_in, value_in_slot, has_slot_name, slot_value_at, slot_value_in, value_of, value_text, names_text, values_text, row_text, header_text, AreWatched, IsUnnamed};
+ghost use Rattle.lift_watch.specs.Values.{shared_value, car_value_in, value_in_slot, has_slot_name, slot_value_at, slot_value_in, value_of, value_text, names_text, values_text, row_text, header_text, AreWatched, IsUnnamed, unnamed_sentence};
 
 use crate::asked::Asked;
 use crate::names::{CarName, Shared, SlotName, Watched, read, value_in_car};
@@ -38,7 +38,8 @@ impl<'n> Watch<'n> {
         ensures asked { IfOk result (λ watch. watch.asked ≡ nothing_asked) }
         ensures header { IfOk result (λ watch. string_bytes watch.text
             ≡ header_text (map string_bytes names.now)) }
-        ensures unknown { IfErr result (IsUnnamed world.now.world (map string_bytes names.now)) }
+        ensures unknown { IfErr result (IsUnnamed world.now.program.config world.now.world
+            (map string_bytes names.now)) }
     {
         let watched = watched_of(alloc, world, names)?;
         let text = header(alloc, names)?;
@@ -86,19 +87,33 @@ fn watched_of<'n>(
 ) -> Result<Items<Watched<'n>>, Fault>
     ensures known { IfOk result (λ watched. AreWatched world.now.world
         (map string_bytes names.now) watched) }
-    ensures unknown { IfErr result (IsUnnamed world.now.world (map string_bytes names.now)) }
+    ensures unknown { IfErr result (IsUnnamed world.now.program.config world.now.world
+        (map string_bytes names.now)) }
 {
     let mut watched = Items::new(alloc);
     let nothing = Asked::new();
     'names: for name in names {
         let it = read(name);
         if value_of(world, &nothing, it).is_none() {
-            return Err(Fault::BadName(String::from_str(alloc, name)?));
+            return Err(Fault::BadName {
+                name: String::from_str(alloc, name)?,
+                says: unnamed_sentence(alloc, world, name)?,
+            });
         }
         watched.push(it)?;
     }
     Ok(watched)
 }
+
+// What is said of a name that has no value.
+fn unnamed_sentence(alloc: Global, world: &World, name: &str) -> Result<String, AllocError>
+    ensures { IfOk result (λ says. string_bytes says
+        ≡ unnamed_sentence world.now.program.config name.now) }
+{
+    String::from_str(alloc, NO_NAME)
+}
+
+const NO_NAME: &str = "no field, variable of a task or global has this name";
 
 // The line of the names.
 fn header(alloc: Global, names: &[String]) -> Result<String, AllocError>

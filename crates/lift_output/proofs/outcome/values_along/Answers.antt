@@ -9,5 +9,5 @@ pub returns-clause-is : goal.returns-clause-is
 returns-clause-is c =
     let world = c.args.world.now in
     valued_is c.args.names c.args.changes world.program world.world c.args.events.now c.args.lines c.values_of.result
-    (subst (λ (l : List (List ℕ)). AreValued l world.program world.world c.args.events.now c.args.lines c.values_of.result) (ap (λ (l : List (String Global)). map string_bytes l) c.deref.ensures.value ∙ c.in_ok-names.ensures)
+    (subst (λ (l : List (List ℕ)). AreValued l c.args.changes world.program world.world c.args.events.now c.args.lines c.values_of.result) (ap (λ (l : List (String Global)). map string_bytes l) c.deref.ensures.value ∙ c.in_ok-names.ensures)
     c.values_of.ensures.is)

@@ -6,7 +6,7 @@ use Rattle.lift_host.specs.Requests.{words_of}
 use Rattle.lift_spec.specs.declared.image.Sizes.{Sizes}
 use Rattle.lift_output.specs.Outcomes.{AreDriven, IsUndriven}
 use Rattle.lift_output.specs.Parts.{IsWatched}
-use Rattle.lift_watch.specs.Names.{upper_case}
+use Rattle.lift_watch.specs.Words.{meant}
 use Rattle.lift_output.proofs.Watching.{watched_is, unwatched_is}
 use Rattle.lift_output.proofs.outcome.watched.Goals as goal
 
@@ -17,9 +17,9 @@ returns-in_ok-world-in-Ok-clause-is c =
     let driven = c.in-Ok.driven in
     watched_is c.args.verified c.args.asked c.args.calls.now names behind c.names_first.ensures driven.presses driven.settings
     (subst (λ (s : Sizes). AreDriven s (record c.args.asked { presses = behind }) c.args.calls.now driven.presses driven.settings) c.sizes.ensures c.in-Ok.ensures.ok) c.watched_names-output.result
-    (subst (λ (l : List Press). IsWatched c.args.verified.config (map upper_case names) l driven.settings c.args.asked.rounds c.args.asked.flag c.watched_names-output.result) c.drive-drive.ensures.presses
-    (subst (λ (l : List Setting). IsWatched c.args.verified.config (map upper_case names) c.drive-drive.result.presses.now l c.args.asked.rounds c.args.asked.flag c.watched_names-output.result) c.drive-drive.ensures.settings
-    (subst (λ (p : Program). IsWatched p.config (map upper_case names) c.drive-drive.result.presses.now c.drive-drive.result.settings.now c.args.asked.rounds c.args.asked.flag c.watched_names-output.result) c.in_ok-world-in-Ok.ensures.same c.watched_names-output.ensures.is)))
+    (subst (λ (l : List Press). IsWatched c.args.verified.config (meant c.args.verified.config names) l driven.settings c.args.asked.rounds c.args.asked.flag c.watched_names-output.result) c.drive-drive.ensures.presses
+    (subst (λ (l : List Setting). IsWatched c.args.verified.config (meant c.args.verified.config names) c.drive-drive.result.presses.now l c.args.asked.rounds c.args.asked.flag c.watched_names-output.result) c.drive-drive.ensures.settings
+    (subst (λ (p : Program). IsWatched p.config (meant p.config names) c.drive-drive.result.presses.now c.drive-drive.result.settings.now c.args.asked.rounds c.args.asked.flag c.watched_names-output.result) c.in_ok-world-in-Ok.ensures.same c.watched_names-output.ensures.is)))
 
 pub returns-in-Err-clause-is : goal.returns-in-Err-clause-is
 returns-in-Err-clause-is c =
