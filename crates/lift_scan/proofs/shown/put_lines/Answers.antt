@@ -3,17 +3,17 @@ use Rattle.il_machine.specs.Scanning.{Program}
 use Rattle.lift_scan.proofs.Steps.{none_left, goes_on, stops}
 use Rattle.lift_scan.proofs.shown.put_lines.Goals as goal
 
-pub returns-then-not-branch-clause-lines : goal.returns-then-not-branch-clause-lines
-returns-then-not-branch-clause-lines c =
+pub returns-in-None-clause-lines : goal.returns-in-None-clause-lines
+returns-in-None-clause-lines c =
     let left : c.steps.counter < 1000000 = search rules in
     stops c.args.world.now.program.config c.args.source.now 1000000 c.steps.counter _ _ c.steps.asked c.steps.world.world c.steps.invariant.0
-    c.steps.world.program (ap (λ (p : Program). p.config) c.steps.invariant.1) _ c.put_next.new.world.world c.in_ok-put_next.field-0 c.in_ok-put_next.ensures.shown left c.if-not-branch.true
+    c.steps.world.program (ap (λ (p : Program). p.config) c.steps.invariant.1) _ c.put_next.new.world.world c.in_ok-more.field-0 c.in_ok-more.ensures.shown left c.in-None.is
 
 pub steps-preserved : goal.steps-preserved
 steps-preserved c =
     let left : c.steps.counter < 1000000 = search rules in (
       goes_on c.args.world.now.program.config c.args.source.now 1000000 c.steps.counter _ _ c.steps.asked c.steps.world.world c.steps.invariant.0
-          c.steps.world.program (ap (λ (p : Program). p.config) c.steps.invariant.1) _ c.put_next.new.world.world c.in_ok-put_next.field-0 c.in_ok-put_next.ensures.shown left c.if-not-branch.false,
+          c.steps.world.program (ap (λ (p : Program). p.config) c.steps.invariant.1) _ c.put_next.new.world.world c.in_ok-more.field-0 c.in_ok-more.ensures.shown left c.in-Some.more c.in-Some.is,
       c.put_next.ensures.same ∙ c.steps.invariant.1,
     )
 
