@@ -1,9 +1,9 @@
 /* Every state of a small group that passengers can lead to, by breadth. tools/explore compiles this file with the C library, starts it, and reads what it says.
 
-   usage: explore TEXT CARS FLOORS SLOTS CALLS JOBS BYTES SECONDS CLOCK LONGEST
+   usage: explore TEXT CARS FLOORS SLOTS CALLS ALONE JOBS BYTES SECONDS CLOCK LONGEST
 
-   CALLS passengers at most are under way, JOBS processes search, with BYTES of memory, for SECONDS (0: without an end). CLOCK 1 takes states by the time itself,
-   0 by the time since a timer's last call, cut at LONGEST ms (0: not cut). docs/TORTURE.md has the model.
+   At most CALLS calls are open, or, where ALONE is 1, passengers under way. JOBS processes search, with BYTES of memory, for SECONDS (0: without an end). CLOCK 1
+   takes states by the time itself, 0 by the time since a timer's last call, cut at LONGEST ms (0: not cut). docs/TORTURE.md has the model.
 
    The library's memory lies in an arena at a fixed address, so what it holds can be written down and put back: the words that differ from those at the opening.
    All processes are forks of the one that opened the controller, and share the table of states. A state is known by 96 bits of a hash of its text. */
@@ -32,7 +32,7 @@ static const uint64_t MOST_STATES = 800000000;
 static char *const ARENA = (char *)0x200000000000;
 
 /* What was asked for. */
-static int floors, most_people, jobs, by_clock;
+static int floors, most_people, people_alone, jobs, by_clock;
 static uint64_t most_bytes, longest_ms;
 static double most_seconds;
 
@@ -141,16 +141,24 @@ static unsigned char *put_word(unsigned char *to, uint64_t gap, uint64_t differs
     return to;
 }
 
+/* So many words are looked at together, by instructions for several. */
+typedef uint64_t several __attribute__((vector_size(32), may_alias));
+enum { SEVERAL = 4, TOGETHER = 32 };
+
+static int is_same(const uint64_t *now, const uint64_t *then) {
+    several all = {0};
+    for (int at = 0; at < TOGETHER / SEVERAL; at++) all |= ((const several *)now)[at] ^ ((const several *)then)[at];
+    return !(all[0] | all[1] | all[2] | all[3]);
+}
+
 /* Writes the words that differ from those at the opening. */
 static unsigned char *put_changes(unsigned char *to) {
-    enum { TOGETHER = 8 };
     uint64_t before = 0;
     for (uint32_t at = 0; at < changed_count; at++) {
         const uint64_t *now = (uint64_t *)(ARENA + (size_t)changed[at] * PAGE), *then = (uint64_t *)(pristine + (size_t)changed[at] * PAGE);
         for (int begin = 0; begin < WORDS; begin += TOGETHER) {
-            uint64_t all = 0;
-            for (int word = begin; word < begin + TOGETHER; word++) all |= now[word] ^ then[word];
-            for (int word = begin; all && word < begin + TOGETHER; word++) {
+            if (is_same(now + begin, then + begin)) continue;
+            for (int word = begin; word < begin + TOGETHER; word++) {
                 uint64_t number = (uint64_t)changed[at] * WORDS + word;
                 if (now[word] == then[word]) continue;
                 to = put_word(to, number - before, now[word] ^ then[word]);
@@ -327,7 +335,7 @@ enum { DONE = 7 };
 
 /* Where each passenger of the round is among those of the next state, by rising codes, or DONE. */
 struct round {
-    int old, count, left; /* of the state, those and the new ones, how many got out */
+    int old, count, free; /* of the state, those and the new ones, how many new ones may come */
     uint8_t at[2 * MOST_PEOPLE];
 };
 
@@ -346,6 +354,19 @@ static void settle(struct people *of, struct round *to) {
     game->count = count;
 }
 
+/* Passengers who are under way, and open calls of those who aren't any more. */
+static int open_calls(const struct people *of) {
+    int open = 0;
+    uint64_t with_people = 0;
+    for (int k = 0; k < of->old; k++) {
+        if (of->is_done[k]) continue;
+        open++;
+        if (doing(of->codes[k]) >= ENTERED && doing(of->codes[k]) <= ABOARD) with_people |= (uint64_t)1 << (slot_of(of->codes[k]) - 1);
+    }
+    for (int slot = 1; slot <= slots && !people_alone; slot++) open += game->tickets[slot] && !(with_people >> (slot - 1) & 1);
+    return open;
+}
+
 /* One round with this action: cars move, people cross, they press, and the group makes its round. */
 static void step(const struct action *action, struct round *to) {
     struct people of = {.old = game->count, .count = game->count};
@@ -355,8 +376,7 @@ static void step(const struct action *action, struct round *to) {
         move_car(car);
         if (landing(car)) cross(&of, car + 1, landing(car));
     }
-    to->old = of.old, to->left = 0;
-    for (int k = 0; k < of.old; k++) to->left += of.is_done[k];
+    to->old = of.old, to->free = most_people - open_calls(&of);
     for (int k = 0; k < action->count; k++) of.codes[of.count++] = code(AGAIN, 0, 0, call_from[action->calls[k]], call_to[action->calls[k]]);
     to->count = of.count;
     press_and_round(&of);
@@ -474,7 +494,7 @@ static uint64_t *layers; /* the last state of each, and that of the one before t
 
 /* Of each state: half of its hash; where its edges begin, and what else is asked of it. */
 static uint64_t *prints, *firsts;
-enum { AT_JOB = 40, AT_COUNT = 46, AT_FREE = 49, AT_DOORS = 50, AT_IS_LOOKED_AT = 58 };
+enum { AT_JOB = 40, AT_COUNT = 46, AT_FREE = 49, AT_DOORS = 50, AT_IS_LOOKED_AT = 58, AT_MAY_COME = 59 };
 static const uint64_t OFFSET = ((uint64_t)1 << AT_JOB) - 1;
 
 /* An edge: the next state, and of each passenger where they are in it, with a bit where they are in a car. */
@@ -492,12 +512,8 @@ static const uint64_t *edges_of(uint64_t first) { return edges[first >> AT_JOB &
 static int place_in(uint64_t edge, int passenger) { return edge >> (AT_PEOPLE + BITS_EACH * passenger) & 7; }
 static int is_aboard_in(uint64_t edge, int passenger) { return edge >> (AT_PEOPLE + BITS_EACH * passenger) & IS_ABOARD; }
 
-/* How many edges a state has: its first one says how many passengers got out. */
-static uint32_t edge_count(uint64_t first) {
-    int left = most_people - count_of(first);
-    for (int k = 0; k < count_of(first); k++) left += place_in(*edges_of(first), k) == DONE;
-    return actions_of[left];
-}
+/* How many edges a state has, by how many new passengers may come. */
+static uint32_t edge_count(uint64_t first) { return actions_of[first >> AT_MAY_COME & 7]; }
 
 static uint64_t table_bytes(int bits) { return (uint64_t)8 << bits; }
 
@@ -609,19 +625,20 @@ static uint64_t edge_of(uint32_t state, const struct round *of) {
 /* All rounds that may follow the state of a record. */
 static void look_at(const unsigned char *record) {
     uint32_t state, length, count = 1;
+    uint64_t free = 0;
     memcpy(&state, record, 4), memcpy(&length, record + 4, 4);
     uint64_t *to = edges[job] + edge_counts[job];
     for (uint32_t at = 0; at < count; at++) {
         struct round round;
         take_changes(record + 8, record + length);
         step(&actions[at], &round);
-        if (!at) count = actions_of[most_people - round.old + round.left];
+        if (!at && round.free > 0) free = round.free, count = actions_of[free];
         int is_new = 0;
         uint32_t next = entered(print_of_state(), &is_new);
         if (is_new) keep(next, !half);
         to[at] = edge_of(next, &round);
     }
-    firsts[state] |= edge_counts[job] | (uint64_t)job << AT_JOB | (uint64_t)1 << AT_IS_LOOKED_AT;
+    firsts[state] |= edge_counts[job] | (uint64_t)job << AT_JOB | (uint64_t)1 << AT_IS_LOOKED_AT | free << AT_MAY_COME;
     edge_counts[job] += count;
     shared->edges += count;
 }
@@ -1115,9 +1132,9 @@ static void open_group(const char *file) {
 static uint64_t number(const char *word) { return strtoull(word, NULL, 10); }
 
 int main(int count, char **words) {
-    if (count != 11) fail(CANNOT, "usage: explore TEXT CARS FLOORS SLOTS CALLS JOBS BYTES SECONDS CLOCK LONGEST");
-    cars = number(words[2]), floors = number(words[3]), slots = number(words[4]), most_people = number(words[5]), jobs = number(words[6]), most_bytes = number(words[7]);
-    most_seconds = number(words[8]), by_clock = number(words[9]), longest_ms = number(words[10]);
+    if (count != 12) fail(CANNOT, "usage: explore TEXT CARS FLOORS SLOTS CALLS ALONE JOBS BYTES SECONDS CLOCK LONGEST");
+    cars = number(words[2]), floors = number(words[3]), slots = number(words[4]), most_people = number(words[5]), people_alone = number(words[6]);
+    jobs = number(words[7]), most_bytes = number(words[8]), most_seconds = strtod(words[9], NULL), by_clock = number(words[10]), longest_ms = number(words[11]);
     make_actions();
     make_room();
     open_group(words[1]);
