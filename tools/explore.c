@@ -486,7 +486,6 @@ static struct shared {
     pthread_barrier_t barrier;
     _Atomic uint64_t states, edges, taken; /* given numbers, from 1 on; kept edges; records of the layer that are taken */
     _Atomic int is_crowded, ends;          /* the table has to grow; why the search ends */
-    uint64_t most_records;
     int bits, depth;
     struct segment segments[MOST_JOBS][2];
 } *shared;
@@ -677,9 +676,6 @@ static void say_progress(void) {
 static void end_layer(void) {
     layers[++shared->depth] = shared->states;
     shared->taken = 0;
-    uint64_t of_layer = 0;
-    for (int of = 0; of < jobs; of++) of_layer += shared->segments[of][!half].bytes;
-    if (of_layer > shared->most_records) shared->most_records = of_layer;
     if (shared->depth + 2 >= MOST_DEPTH) shared->ends = TOO_DEEP;
     say_progress();
 }
@@ -1099,11 +1095,11 @@ static void say_times(void) {
 }
 
 static void say_found(void) {
-    uint64_t holes = 0, states = shared->states, pages = 0;
+    uint64_t holes = 0, states = shared->states, records_kept = 0;
     for (uint32_t state = 1; state <= states; state++) holes += !prints[state];
-    for (int of = 0; of < jobs; of++) pages += shared->segments[of][0].most_bytes + shared->segments[of][1].most_bytes;
+    for (int of = 0; of < jobs; of++) records_kept += shared->segments[of][0].most_bytes + shared->segments[of][1].most_bytes;
     printf("states %llu\ndepth %d\nends %d\nedges %llu\n", (unsigned long long)(states - holes), shared->depth - 2, shared->ends, (unsigned long long)shared->edges);
-    printf("bytes %llu\nrecords %llu\nsearched %.1f\n", (unsigned long long)(16 * states + 8 * shared->edges + table_bytes(shared->bits)), (unsigned long long)pages, seconds() - begun);
+    printf("bytes %llu\nrecords %llu\nsearched %.1f\n", (unsigned long long)(16 * states + 8 * shared->edges + table_bytes(shared->bits)), (unsigned long long)records_kept, seconds() - begun);
     give_back(tables[shared->bits], table_bytes(shared->bits));
     for (int of = 0; of < jobs; of++)
         for (int which = 0; which < 2; which++) give_back(records[of][which], 2 * most_bytes);
@@ -1132,6 +1128,7 @@ static void open_group(const char *file) {
 static uint64_t number(const char *word) { return strtoull(word, NULL, 10); }
 
 int main(int count, char **words) {
+    prctl(PR_SET_PDEATHSIG, SIGKILL);
     if (count != 12) fail(CANNOT, "usage: explore TEXT CARS FLOORS SLOTS CALLS ALONE JOBS BYTES SECONDS CLOCK LONGEST");
     cars = number(words[2]), floors = number(words[3]), slots = number(words[4]), most_people = number(words[5]), people_alone = number(words[6]);
     jobs = number(words[7]), most_bytes = number(words[8]), most_seconds = strtod(words[9], NULL), by_clock = number(words[10]), longest_ms = number(words[11]);
