@@ -1,5 +1,5 @@
 -- What is followed of a trace that was read.
-use Rattle.std.proofs.Common.{ℕ, Bool, List, Ok, Err, map, inl, inr}
+use Rattle.std.proofs.Common.{◌≡◌, ◌++◌, ◌∙◌, ap, ℕ, Bool, List, Ok, Err, map, inl, inr}
 use Rattle.il_machine.specs.Scanning.{Program}
 use Rattle.lift_host.specs.declared.request.Words.{Words}
 use Rattle.lift_host.specs.declared.status.Fault.{Fault}
@@ -8,11 +8,16 @@ use Rattle.lift_host.specs.Requests.{words_of}
 use Rattle.lift_output.specs.declared.telling.Telling.{Telling}
 use Rattle.lift_output.specs.declared.telling.Telling.TheVariants.{Values}
 use Rattle.lift_output.specs.Outcomes.{IsFollowed}
-use Rattle.lift_output.specs.Parts.{AreFollowed, AreValued, IsTraceUnread}
+use Rattle.lift_output.specs.Parts.{AreFollowed, AreValued, IsShownText, IsTraceUnread}
 use Rattle.lift_output.specs.Traces.{IsRead}
 use Rattle.lift_messages.specs.Outputs.{Outcome}
 use Rattle.lift_spec.specs.declared.trace.TraceEvent.{TraceEvent}
 use Rattle.lift_spec.specs.World.{World}
+use Rattle.lift_journal.specs.Rounds.{TakesAll}
+use Rattle.lift_watch.specs.declared.names.Watched.{Watched}
+use Rattle.lift_watch.specs.Changes.{shown_text}
+use Rattle.lift_watch.specs.Following.{AreRowsAlong}
+use Rattle.lift_watch.specs.Values.{AreWatched, header_text}
 use Rattle.lift_watch.specs.Words.{meant}
 
 module _ (telling : Telling) (p : Program) (source text : List ℕ) where
@@ -61,3 +66,21 @@ valued_is names changes p from events lines (Err fault.TooManyPresses) is = absu
 valued_is names changes p from events lines (Err (fault.BadFire word)) is = absurd is
 valued_is names changes p from events lines (Err (fault.CannotRead cause)) is = absurd is
 valued_is names changes p from events lines (Err fault.CannotWrite) is = absurd is
+
+-- the lines of those that have values, along events that all are taken
+pub shown_along : (names : List (List ℕ)) (changes : Bool) (p : Program) (from after : World) (events : List TraceEvent) (lines : ℕ) → TakesAll p.config from events after → (watched : List Watched) → AreWatched from names watched → (rows text : List ℕ)
+    → AreRowsAlong watched p.config from events after rows → text ≡ header_text names ++ rows → (outcome : Outcome) → IsShownText changes text outcome → AreValued names changes p from events lines outcome
+shown_along names changes p from after events lines taken watched known rows text are is (Ok output) shown =
+    (after, taken, record { watched = watched; known = known; rows = rows; are = are; lines = shown ∙ ap (shown_text changes) is })
+shown_along names changes p from after events lines taken watched known rows text are is (Err fault.NoMemory) shown = tt
+shown_along names changes p from after events lines taken watched known rows text are is (Err (fault.Misuse words)) shown = absurd shown
+shown_along names changes p from after events lines taken watched known rows text are is (Err (fault.RefusedText number place)) shown = absurd shown
+shown_along names changes p from after events lines taken watched known rows text are is (Err (fault.Refused number line)) shown = absurd shown
+shown_along names changes p from after events lines taken watched known rows text are is (Err (fault.BadPress word)) shown = absurd shown
+shown_along names changes p from after events lines taken watched known rows text are is (Err fault.TooManyPresses) shown = absurd shown
+shown_along names changes p from after events lines taken watched known rows text are is (Err (fault.BadFire word)) shown = absurd shown
+shown_along names changes p from after events lines taken watched known rows text are is (Err (fault.BadSpan word)) shown = absurd shown
+shown_along names changes p from after events lines taken watched known rows text are is (Err (fault.BadScan kind word)) shown = absurd shown
+shown_along names changes p from after events lines taken watched known rows text are is (Err (fault.BadName word says)) shown = absurd shown
+shown_along names changes p from after events lines taken watched known rows text are is (Err (fault.CannotRead cause)) shown = absurd shown
+shown_along names changes p from after events lines taken watched known rows text are is (Err fault.CannotWrite) shown = absurd shown

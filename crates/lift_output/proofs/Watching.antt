@@ -1,5 +1,5 @@
 -- What `watch` gives, by its parts.
-use Rattle.std.proofs.Common.{◌≡◌, ℕ, List, Ok, Err, map}
+use Rattle.std.proofs.Common.{◌≡◌, ◌++◌, ◌∙◌, ap, ℕ, Bool, List, Ok, Err}
 use Rattle.il_machine.specs.Scanning.{Program}
 use Rattle.lift_host.specs.declared.files.Reading.{Reading}
 use Rattle.lift_host.specs.declared.press.Press.{Press}
@@ -10,7 +10,14 @@ use Rattle.lift_host.specs.declared.status.Fault.{Fault}
 use Rattle.lift_host.specs.declared.status.Fault.TheVariants as fault
 use Rattle.lift_host.specs.Requests.{AreNamesFirst, words_of}
 use Rattle.lift_output.specs.Outcomes.{AreDriven, IsUndriven, IsWatchOutcome}
-use Rattle.lift_output.specs.Parts.{IsWatched}
+use Rattle.lift_output.specs.Parts.{IsShownText, IsWatched}
+use Rattle.lift_runs.specs.Shown.{IsShown}
+use Rattle.lift_spec.specs.declared.journal.Entry.{Entry}
+use Rattle.lift_spec.specs.World.{opening}
+use Rattle.lift_watch.specs.declared.names.Watched.{Watched}
+use Rattle.lift_watch.specs.Changes.{shown_text}
+use Rattle.lift_watch.specs.Values.{AreWatched, header_text, watching}
+use Rattle.il_spec.specs.declared.tree.Config.{Config}
 use Rattle.lift_watch.specs.Words.{meant}
 use Rattle.lift_messages.specs.Outputs.{Outcome}
 use Rattle.lift_spec.specs.Image.{sizes_of}
@@ -60,3 +67,20 @@ module _ (program : Program) (asked : Rounds) (calls : Reading) (names : List (L
   unwatched_is fault.NoMemory is = record { names = names; behind = behind; split = split; undriven = tt }
   unwatched_is (fault.CannotRead cause) is = record { names = names; behind = behind; split = split; undriven = is }
   unwatched_is fault.CannotWrite is = absurd is
+
+-- the lines of those that have values, in rounds from the opening
+pub shown_rounds : (c : Config) (names : List (List ℕ)) (presses : List Press) (settings : List Setting) (rounds : ℕ) (changes : Bool) (watched : List Watched) → AreWatched (opening c) names watched → (entries : List Entry) (rows text : List ℕ)
+    → IsShown (watching watched) c presses settings rounds entries rows → text ≡ header_text names ++ rows → (outcome : Outcome) → IsShownText changes text outcome → IsWatched c names presses settings rounds changes outcome
+shown_rounds c names presses settings rounds changes watched known entries rows text shown is (Ok output) printed = (watched, known, entries, rows, shown, printed ∙ ap (shown_text changes) is)
+shown_rounds c names presses settings rounds changes watched known entries rows text shown is (Err fault.NoMemory) printed = tt
+shown_rounds c names presses settings rounds changes watched known entries rows text shown is (Err (fault.Misuse words)) printed = absurd printed
+shown_rounds c names presses settings rounds changes watched known entries rows text shown is (Err (fault.RefusedText number place)) printed = absurd printed
+shown_rounds c names presses settings rounds changes watched known entries rows text shown is (Err (fault.Refused number line)) printed = absurd printed
+shown_rounds c names presses settings rounds changes watched known entries rows text shown is (Err (fault.BadPress word)) printed = absurd printed
+shown_rounds c names presses settings rounds changes watched known entries rows text shown is (Err fault.TooManyPresses) printed = absurd printed
+shown_rounds c names presses settings rounds changes watched known entries rows text shown is (Err (fault.BadFire word)) printed = absurd printed
+shown_rounds c names presses settings rounds changes watched known entries rows text shown is (Err (fault.BadSpan word)) printed = absurd printed
+shown_rounds c names presses settings rounds changes watched known entries rows text shown is (Err (fault.BadScan kind word)) printed = absurd printed
+shown_rounds c names presses settings rounds changes watched known entries rows text shown is (Err (fault.BadName word says)) printed = absurd printed
+shown_rounds c names presses settings rounds changes watched known entries rows text shown is (Err (fault.CannotRead cause)) printed = absurd printed
+shown_rounds c names presses settings rounds changes watched known entries rows text shown is (Err fault.CannotWrite) printed = absurd printed

@@ -74,6 +74,12 @@ AreValued names changes program from events lines (Err (fault.BadName word says)
 AreValued names changes program from events lines (Err fault.NoMemory) = Unit {0}
 AreValued names changes program from events lines (Err _) = ⊥
 
+-- lines of values are printed, all of them or with `--changes` those that change
+abbrev pub IsShownText : Bool → List ℕ → Outcome → Type 0
+IsShownText changes text (Ok output) = bytes_of output ≡ shown_text changes text
+IsShownText changes text (Err fault.NoMemory) = Unit {0}
+IsShownText changes text (Err _) = ⊥
+
 -- names are watched in so many rounds from the opening, with `--changes` or without, or one of them has no value
 abbrev pub IsWatched : Config → List (List ℕ) → List Press → List Setting → ℕ → Bool → Outcome → Type 0
 IsWatched c names presses settings rounds changes (Ok output) =

@@ -7,7 +7,7 @@ ghost use Rattle.lift_state.specs.Beginnings.{BeginsTrace};
 ghost use Rattle.lift_trace.specs.Reading.{greatest_trace};
 ghost use Rattle.lift_output.specs.Outcomes.{IsCheckOutcome, check_shown, IsShowOutcome, HasWarnings, asked_warnings, AreWarned, AreRoundsWarned, left_line, told_left, IsFire, IsNoFire, calls_word, fire_settings, AreOfFile, AreOfReading, HasBadCalls, IsBadReading, AreDriven, IsUndriven, IsSimOutcome, IsRunOutcome, IsDenialsOutcome, IsWatchOutcome, IsRoundsOutcome, IsCallsText, IsFollowed, IsTraceOutcome, IsToldOutcome, IsProgramOutcome};
 ghost use Rattle.lift_output.specs.Tellings.{telling_of};
-ghost use Rattle.lift_output.specs.Parts.{fault_of_calls, IsTraceUnread, IsBadText, AreFollowed, AreValued, IsWatched};
+ghost use Rattle.lift_output.specs.Parts.{fault_of_calls, IsTraceUnread, IsBadText, AreFollowed, AreValued, IsShownText, IsWatched};
 ghost use Rattle.lift_runs.specs.Driven.{ArePressed, AreSettings, switches_in};
 ghost use Rattle.lift_host.specs.CallsFile.{AreCallsOf};
 ghost use Rattle.lift_host.specs.Requests.{command_of, words_of};
@@ -455,7 +455,15 @@ fn watched_world(
 {
     let mut watch = Watch::of(alloc, world, names)?;
     simulate_on(alloc, world, drive, rounds, &mut watch)?;
-    Ok(Output::Text(shown_text(alloc, changes, watch.text)?))
+    shown_output(alloc, changes, watch.text)
+}
+
+// Lines of values, all of them or with `--changes` those that change.
+fn shown_output(alloc: Global, changes: bool, text: String) -> Result<Output, Fault>
+    ensures is { IsShownText changes (string_bytes text) result }
+    ensures warned { HasWarnings None result }
+{
+    Ok(Output::Text(shown_text(alloc, changes, text)?))
 }
 
 // How many tasks the group has.
@@ -707,7 +715,7 @@ fn values_of(
         ..
     } = Watch::of(alloc, world, names)?;
     match rows_along(world, events, watched.as_slice(), &mut text) {
-        Ok(()) => Ok(Output::Text(shown_text(alloc, changes, text)?)),
+        Ok(()) => shown_output(alloc, changes, text),
         Err(along::Stop::Refused(refused)) => Err(fault_of_event(refused, lines)),
         Err(along::Stop::Memory) => Err(Fault::NoMemory),
     }

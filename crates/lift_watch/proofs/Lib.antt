@@ -1,5 +1,6 @@
 mod Printing
 mod Logging
+mod Knowing
 mod Reading
 mod Rows
 mod Watching

@@ -3,7 +3,9 @@ pub mod Calls
 pub mod Changes
 pub mod Denials
 pub mod Following
+pub mod Known
 pub mod Names
+pub mod Unnamed
 pub mod Values
 pub mod Wished
 pub mod Words

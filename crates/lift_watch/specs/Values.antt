@@ -16,6 +16,7 @@ use Rattle.lift_spec.specs.World.{Group, World, task_at}
 use Rattle.lift_runs.specs.Shown.{Shows}
 use Rattle.lift_watch.specs.Asked.{nothing_asked, asked_behind, serve_at, assign_of}
 use Rattle.lift_watch.specs.Names.{value_in_car, IsReadAs}
+use Rattle.lift_watch.specs.Unnamed.{unnamed_sentence}
 use Rattle.lift_watch.specs.declared.asked.Asked.{Asked}
 use Rattle.lift_watch.specs.declared.names.CarName.{CarName}
 use Rattle.lift_watch.specs.declared.names.Shared.{Shared as SharedName}
@@ -107,10 +108,6 @@ AreWatched w [] [] = Unit {0}
 AreWatched w [] (it ∷ watched) = ⊥
 AreWatched w (name ∷ names) [] = ⊥
 AreWatched w (name ∷ names) (it ∷ watched) = IsReadAs name it × (value_of it nothing_asked w ≡ None → ⊥) × AreWatched w names watched
-
--- what is said of a name that has no value
-abbrev pub unnamed_sentence : Config → List ℕ → List ℕ
-unnamed_sentence c name = codes "no field, variable of a task or global has this name"
 
 -- this is one of the names, and has no value in the world; what is said of it
 pub record IsUnknown (c : Config) (w : World) (names : List (List ℕ)) (name says : List ℕ) : Type 0 where

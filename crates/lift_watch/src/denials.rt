@@ -169,8 +169,8 @@ fn put_undone(
     writeln!(text, " slot {} {}", slot, answer)
 }
 
-// The name of a task: 0 is GROUP, k is CARk.
-fn put_task(text: &mut String, task: u8) -> Result<(), AllocError>
+/// The name of a task: 0 is GROUP, k is CARk.
+pub(crate) fn put_task(text: &mut String, task: u8) -> Result<(), AllocError>
     ensures { OnOk result (Puts text.old text.new (task_name task)) }
 {
     match task {

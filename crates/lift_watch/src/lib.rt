@@ -6,6 +6,8 @@ pub mod calls;
 pub mod changes;
 pub mod denials;
 pub mod following;
+pub mod known;
 pub mod names;
+pub mod unnamed;
 pub mod watch;
 pub mod words;

@@ -152,6 +152,19 @@ fn number_of(motor: Motor) -> i64
 }
 
 impl SlotName {
+    /// The word of the array.
+    pub fn word(self) -> &'static str
+        ensures { result.now ≡ word_of_slot_name self }
+    {
+        match self {
+            SlotName::Waits => "CALLWAITS",
+            SlotName::From => "CALLFROM",
+            SlotName::To => "CALLTO",
+            SlotName::Car => "CALLCAR",
+            SlotName::Assign => "GROUP.ASSIGN",
+        }
+    }
+
     // The name of a word.
     fn of(word: &str) -> Option<SlotName>
         ensures some { IfSome result (λ name. word.now ≡ word_of_slot_name name) }

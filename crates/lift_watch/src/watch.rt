@@ -5,10 +5,11 @@ ghost use Rattle.base_texts.specs.Puts.{Puts};
 ghost use Rattle.lift_spec.specs.Snapshot.{from_of, to_of, car_of};
 ghost use Rattle.lift_spec.specs.World.{task_at};
 ghost use Rattle.lift_watch.specs.Asked.{nothing_asked};
-ghost use Rattle.lift_watch.specs.Values.{shared_value, car_value_in, value_in_slot, has_slot_name, slot_value_at, slot_value_in, value_of, value_text, names_text, values_text, row_text, header_text, AreWatched, IsUnnamed, unnamed_sentence};
+ghost use Rattle.lift_watch.specs.Values.{shared_value, car_value_in, value_in_slot, has_slot_name, slot_value_at, slot_value_in, value_of, value_text, names_text, values_text, row_text, header_text, AreWatched, IsUnnamed};
 
 use crate::asked::Asked;
 use crate::names::{CarName, Shared, SlotName, Watched, read, value_in_car};
+use crate::unnamed::unnamed_sentence;
 use il_machine::Value;
 use lift_host::status::Fault;
 use lift_runs::observer::Observer;
@@ -97,23 +98,13 @@ fn watched_of<'n>(
         if value_of(world, &nothing, it).is_none() {
             return Err(Fault::BadName {
                 name: String::from_str(alloc, name)?,
-                says: unnamed_sentence(alloc, world, name)?,
+                says: unnamed_sentence(alloc, world.verified(), name)?,
             });
         }
         watched.push(it)?;
     }
     Ok(watched)
 }
-
-// What is said of a name that has no value.
-fn unnamed_sentence(alloc: Global, world: &World, name: &str) -> Result<String, AllocError>
-    ensures { IfOk result (λ says. string_bytes says
-        ≡ unnamed_sentence world.now.program.config name.now) }
-{
-    String::from_str(alloc, NO_NAME)
-}
-
-const NO_NAME: &str = "no field, variable of a task or global has this name";
 
 // The line of the names.
 fn header(alloc: Global, names: &[String]) -> Result<String, AllocError>
