@@ -1,5 +1,5 @@
 -- Texts that spell no configuration.
-use Rattle.std.proofs.Common.{◌≡◌, ℕ, ◌≤◌, false, List, [], length, subst, sym}
+use Rattle.std.proofs.Common.{arith, ◌≡◌, ℕ, ◌≤◌, false, List, [], length, subst, sym}
 use Rattle.il_spec.specs.declared.token.Token.{Token}
 use Rattle.il_spec.specs.declared.tree.Place.{Place}
 use Rattle.il_spec.specs.Text.{AreTokens, HasNoTokens}
@@ -8,8 +8,8 @@ use Rattle.il_reasons.specs.TokenReasons.{AreToldOfToken}
 use Rattle.il_reasons.specs.Reasons.{IsReason, is_of_ranges, unexpected, unspelled}
 
 -- nothing is told where the text has no tokens
-pub no_tokens : (text : List ℕ) (number : ℕ) (place : Place) (lines : List ℕ) → (Unit {0} → length text ≤ 262144 → HasNoTokens text) → is_of_ranges number ≡ false → SpellsNone text → lines ≡ [] → IsReason text number place lines
-no_tokens text number place lines refused other none empty = unspelled other (λ ten has. refused tt has.0 has.1.0 has.1.1) none empty
+pub no_tokens : (text : List ℕ) (number : ℕ) (place : Place) (lines : List ℕ) → (Unit {0} → length text ≤ 262144 → HasNoTokens text) → is_of_ranges number ≡ false → number ≡ 10 → SpellsNone text → lines ≡ [] → IsReason text number place lines
+no_tokens text number place lines refused other ten none empty = unspelled other (λ ten has. refused tt has.0 has.1.0 has.1.1) (λ one. omega (arith, one, ten)) none empty
 
 -- what is told of the unexpected token
 pub token_told : (text : List ℕ) (number : ℕ) (place : Place) (lines : List ℕ) (tokens shown : List Token) → shown ≡ tokens → AreTokens text 0 tokens → number ≡ 10 → SpellsNone text

@@ -6,3 +6,4 @@ pub mod Reasons
 pub mod TokenReasons
 pub mod TreeReasons
 pub mod TaskReasons
+pub mod LeftOut

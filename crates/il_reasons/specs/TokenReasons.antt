@@ -10,6 +10,7 @@ use Rattle.il_spec.specs.Words.{keyword_of}
 use Rattle.il_spec.specs.Grammar.{Spells}
 use Rattle.il_reasons.specs.declared.expected.Expected.{Expected}
 use Rattle.il_reasons.specs.ExpectedKinds.{ExpectedKind, kind_of, expected_kinds}
+use Rattle.il_reasons.specs.LeftOut.{left_out_lines}
 
 -- a text of the language
 abbrev pub IsOfLanguage : List ℕ → Type 0
@@ -62,12 +63,13 @@ abbrev pub expected_line : List ExpectedKind → List ℕ
 expected_line [] = []
 expected_line (kind ∷ kinds) = codes "there could stand: " ++ kind.words ++ (other_words kinds ++ codes "\n")
 
--- What is told of the token at a place of a text with these tokens: what stands there, and at most eight kinds that can stand there.
+-- What is told of the token at a place of a text with these tokens: what stands there, at most eight kinds that can stand there, and what the
+-- language leaves out.
 pub record AreToldOfToken (text : List ℕ) (tokens : List Token) (offset : ℕ) (lines : List ℕ) : Type 0 where
   pub kinds : List ExpectedKind
   pub few : length kinds ≤ 8
   pub can : CanStandOf text offset kinds expected_kinds
-  pub are : lines ≡ found_line text offset (token_at offset tokens) ++ expected_line kinds
+  pub are : lines ≡ (found_line text offset (token_at offset tokens) ++ expected_line kinds) ++ left_out_lines text tokens (token_at offset tokens) offset
 
 -- AS THE CODE FINDS THEM
 

@@ -1,11 +1,12 @@
 //! What is told of a refusal beside its number and its place: the thing that stands there.
 #![tactic(auto)]
 
-ghost use Rattle.std.specs.Prelude.{◌≡◌, false, IfOk};
+ghost use Rattle.std.specs.Prelude.{◌≡◌, ◌++◌, ◌≤◌, false, length, IfOk, OnOk};
 ghost use Rattle.il_spec.specs.Grammar.{Spells};
+ghost use Rattle.il_spec.specs.Text.{AreTokens};
 ghost use Rattle.il_parse.specs.Refused.{IsFault};
 ghost use Rattle.lift_load.specs.Loading.{SpellsNone};
-ghost use Rattle.il_reasons.specs.Reasons.{IsReason, AreTold, is_of_ranges, is_of_chains, is_of_costs};
+ghost use Rattle.il_reasons.specs.Reasons.{IsReason, AreTold, left_out_of, is_of_ranges, is_of_chains, is_of_costs};
 
 mod chain_search;
 mod chain_uses;
@@ -13,14 +14,17 @@ mod chains;
 mod costs;
 mod expected;
 mod expected_search;
+mod left_out;
 mod tasks;
 mod tree;
 mod unexpected;
 
+use crate::left_out::put_stray;
 use il_parse::parse;
 use il_rules::Written;
 use il_scope::Scoped;
 use il_spec::fault::Refusal;
+use il_spec::token::Token;
 use il_spec::tree::Place;
 use il_text::tokens;
 use std::alloc::{AllocError, Global};
@@ -42,7 +46,7 @@ fn of_tree(alloc: Global, text: &[u8], number: u16, place: Place) -> Result<Vec<
     ensures { IfOk result (λ lines. IsReason text.now number place lines.items) }
 {
     match spelled(alloc, text) {
-        Ok(written) => told(alloc, written, number, place),
+        Ok(written) => told_of_text(alloc, text, written, number, place),
         Err(Refusal::Memory) => Err(AllocError),
         Err(Refusal::Fault { .. }) => unspelled(alloc, text, number, place),
     }
@@ -56,9 +60,22 @@ fn unspelled(alloc: Global, text: &[u8], number: u16, place: Place) -> Result<Ve
 {
     if number == 10 {
         token_told(alloc, text, number, place)
+    } else if number == 1 {
+        byte_told(alloc, text, number, place)
     } else {
         Ok(Vec::new(alloc))
     }
+}
+
+// What is told of a byte that has no place in a text.
+fn byte_told(alloc: Global, text: &[u8], number: u16, place: Place) -> Result<Vec<u8>, AllocError>
+    requires spelled { SpellsNone text.now }
+    requires number { number ≡ 1 }
+    ensures { IfOk result (λ lines. IsReason text.now number place lines.items) }
+{
+    let mut lines = Vec::new(alloc);
+    put_stray(&mut lines, text, place.offset)?;
+    Ok(lines)
 }
 
 // What is told of an unexpected token.
@@ -78,11 +95,56 @@ fn token_told(alloc: Global, text: &[u8], number: u16, place: Place) -> Result<V
 // The configuration that a text spells.
 fn spelled(alloc: Global, text: &[u8]) -> Result<Written, Refusal>
     ensures found { IfOk result (λ c. Spells text.now c) }
+    ensures short { IfOk result (λ c. length text.now ≤ 262144) }
     ensures none { IsFault result → SpellsNone text.now }
 {
     let tokens = tokens(alloc, text)?;
     let written = parse(alloc, text, &tokens)?;
     Ok(written)
+}
+
+// What is told of a fault of a configuration that a text spells, and of a type that the language leaves out.
+fn told_of_text(
+    alloc: Global,
+    text: &[u8],
+    written: Written,
+    number: u16,
+    place: Place,
+) -> Result<Vec<u8>, AllocError>
+    requires other { is_of_ranges number ≡ false }
+    requires spelled { Spells text.now written }
+    requires short { length text.now ≤ 262144 }
+    ensures { IfOk result (λ lines. IsReason text.now number place lines.items) }
+{
+    match tokens(alloc, text) {
+        Ok(tokens) => {
+            let mut lines = told(alloc, written, number, place)?;
+            put_left_out(alloc, &mut lines, text, &tokens, number, place)?;
+            Ok(lines)
+        }
+        Err(Refusal::Memory) => Err(AllocError),
+        Err(Refusal::Fault { .. }) => unreachable!(),
+    }
+}
+
+// Of an unknown name, a type that the language leaves out.
+fn put_left_out(
+    alloc: Global,
+    lines: &mut Vec<u8>,
+    text: &[u8],
+    tokens: &[Token],
+    number: u16,
+    place: Place,
+) -> Result<(), AllocError>
+    requires { AreTokens text.now 0 tokens.now }
+    ensures { OnOk result (lines.new.items ≡ lines.old.items
+        ++ left_out_of text.now tokens.now number place) }
+{
+    if number == 21 {
+        unexpected::put_named_at(alloc, lines, text, tokens, place.offset)
+    } else {
+        Ok(())
+    }
 }
 
 // What is told of a fault of a configuration.

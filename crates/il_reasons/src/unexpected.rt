@@ -1,13 +1,15 @@
 // What is told of a token with which no text of the language goes on.
 
-ghost use Rattle.std.specs.Prelude.{◌≡◌, ◌∷◌, ◌++◌, ◌≤◌, [], length, map, take, slice_range, codes, true, None, IfOk, OnOk};
-ghost use Rattle.il_spec.specs.Text.{AreTokens, upper_case};
+ghost use Rattle.std.specs.Prelude.{◌≡◌, ◌∷◌, ◌++◌, ◌≤◌, ◌==◌, if◌then◌else◌, [], length, map, option_map, take, slice_range, codes, true, None, IfOk, OnOk};
+ghost use Rattle.il_spec.specs.Text.{AreTokens, name_of, upper_case};
 ghost use Rattle.il_spec.specs.declared.token.Kind.TheVariants.{Word};
 ghost use Rattle.il_reasons.specs.ExpectedKinds.{kind_of, expected_kinds};
+ghost use Rattle.il_reasons.specs.LeftOut.{word_by, word_of, left_out_lines, named_lines};
 ghost use Rattle.il_reasons.specs.TokenReasons.{IsOfLanguage, CanStand, CanStandOf, AreToldOfToken, AddsKind, going_on, token_line, token_at, found_line, other_words, expected_line};
 
 use crate::expected::{Expected, kinds};
 use crate::expected_search::Search;
+use crate::left_out::{put_named, put_words, token_before};
 use crate::spelled;
 use il_read::{Source, keyword_of};
 use il_spec::fault::Refusal;
@@ -335,8 +337,69 @@ fn put_expected(lines: &mut Vec<u8>, kinds: &[Expected]) -> Result<(), AllocErro
     }
 }
 
-/// What is told of a token with which no text of the language goes on (own rule): what stands there, and at most eight kinds that
-/// can stand there, each with some rest behind it.
+// The word of a token, in upper case.
+fn word<'s>(source: &'s Source<'_>, token: &Token) -> Option<&'s str>
+    ensures { option_map (λ w. w.now) result
+        ≡ word_by token.now.kind (name_of source.now token.now) }
+{
+    match token.kind {
+        Kind::Word => Some(source.spelling(token)),
+        Kind::LineEnd => None,
+        Kind::Number(_) => None,
+        Kind::Typed(_) => None,
+        Kind::Sign(_) => None,
+    }
+}
+
+// That of a token that may not be there.
+fn word_of<'s>(source: &'s Source<'_>, token: &Option<Token>) -> Option<&'s str>
+    ensures { option_map (λ w. w.now) result ≡ word_of source.now token.now }
+{
+    match token {
+        Some(token) => word(source, token),
+        None => None,
+    }
+}
+
+// What the language leaves out, of the token at a place and the one before it.
+fn put_left_out(
+    alloc: Global,
+    lines: &mut Vec<u8>,
+    text: &[u8],
+    tokens: &[Token],
+    offset: u32,
+) -> Result<(), AllocError>
+    requires { AreTokens text.now 0 tokens.now }
+    ensures { OnOk result (lines.new.items ≡ lines.old.items
+        ++ left_out_lines text.now tokens.now (token_at offset tokens.now) offset) }
+{
+    let upper = in_upper_case(alloc, text)?;
+    let source = Source::new(alloc, text, &upper);
+    let before = token_before(tokens, offset);
+    let found = token_at(tokens, offset);
+    put_words(lines, word_of(&source, &before), word_of(&source, &found))
+}
+
+/// Of an unknown name (21) that is a type which the language leaves out.
+pub(crate) fn put_named_at(
+    alloc: Global,
+    lines: &mut Vec<u8>,
+    text: &[u8],
+    tokens: &[Token],
+    offset: u32,
+) -> Result<(), AllocError>
+    requires { AreTokens text.now 0 tokens.now }
+    ensures { OnOk result (lines.new.items ≡ lines.old.items
+        ++ named_lines text.now (token_at offset tokens.now)) }
+{
+    let upper = in_upper_case(alloc, text)?;
+    let source = Source::new(alloc, text, &upper);
+    let found = token_at(tokens, offset);
+    put_named(lines, word_of(&source, &found))
+}
+
+/// What is told of a token with which no text of the language goes on (own rule): what stands there, at most eight kinds that
+/// can stand there, each with some rest behind it, and what the language leaves out.
 pub(crate) fn told(
     alloc: Global,
     text: &[u8],
@@ -350,5 +413,6 @@ pub(crate) fn told(
     let mut lines = Vec::new(alloc);
     put_found(alloc, &mut lines, text, tokens, offset)?;
     put_expected(&mut lines, &kinds)?;
+    put_left_out(alloc, &mut lines, text, tokens, offset)?;
     Ok(lines)
 }

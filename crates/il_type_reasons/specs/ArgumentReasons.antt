@@ -55,13 +55,25 @@ has_input block word = is_some (option_and_then (λ (b : BlockVariables). entry_
 abbrev pub has_output : Option BlockVariables → Spelling → Bool
 has_output block word = is_some (option_and_then (λ (b : BlockVariables). entry_of b.outputs word) block)
 
+-- of a word of the standard that says whether a block runs, and whether it ran (2.5.1.2)
+unfoldable pub enable_line : Spelling → List ℕ
+enable_line word =
+    if bytes_eq word (codes "EN") then codes "the language has no EN: call with CALC, or jump over the CAL with JMPC\n"
+    else if bytes_eq word (codes "ENO") then codes "the language has no ENO: each CAL that is reached runs to its end\n" else []
+
 -- `Q1 is no input of C1`
+unfoldable pub lacks_input : Spelling → Spelling → List ℕ
+lacks_input word instance = word ++ (codes " is no input of " ++ (instance ++ codes "\n"))
+
 abbrev pub no_input_line : Bool → Spelling → Spelling → List ℕ
-no_input_line has word instance = if has then [] else word ++ (codes " is no input of " ++ (instance ++ codes "\n"))
+no_input_line has word instance = if has then [] else lacks_input word instance ++ enable_line word
 
 -- `PV is no output of C1`
+unfoldable pub lacks_output : Spelling → Spelling → List ℕ
+lacks_output word instance = word ++ (codes " is no output of " ++ (instance ++ codes "\n"))
+
 abbrev pub no_output_line : Bool → Spelling → Spelling → List ℕ
-no_output_line has word instance = if has then [] else word ++ (codes " is no output of " ++ (instance ++ codes "\n"))
+no_output_line has word instance = if has then [] else lacks_output word instance ++ enable_line word
 
 -- of an argument, whether the block has its word
 abbrev pub word_line : Option BlockVariables → Spelling → Argument → List ℕ

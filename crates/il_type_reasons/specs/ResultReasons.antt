@@ -45,10 +45,14 @@ jump_lines (Some line) = jump_line line
 
 -- THE CURRENT RESULT
 
+-- that no one type comes to the place on all paths (3.2.2)
+unfoldable pub no_result_line : List ℕ
+no_result_line = codes "there is no current result of one type on all paths: none is there at the start, after a CAL, and where a JMP without condition comes from\n"
+
 -- `the current result is INT`, or that no one type comes to the place on all paths: because none does, or different ones (3.2.2); and the line of a
 -- JMP that leads to the place
 abbrev pub result_line : Option ℕ → Option Elementary → List ℕ
-result_line jump None = codes "there is no current result of one type on all paths: none is there at the start, after a CAL, and where a JMP without condition comes from\n" ++ jump_lines jump
+result_line jump None = no_result_line ++ jump_lines jump
 result_line jump (Some found) = codes "the current result is " ++ (type_word found ++ codes "\n")
 
 -- the same of the result that was set aside at `OP(`

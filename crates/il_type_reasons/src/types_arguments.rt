@@ -4,7 +4,7 @@ ghost use Rattle.std.specs.Prelude.{◌≡◌, ◌+◌, [], None, length, OnOk};
 ghost use Rattle.base_texts.specs.Puts.{Puts};
 ghost use Rattle.il_rules.specs.Names.{standard_function, further_arguments, function_named};
 ghost use Rattle.il_rules.specs.Types as rules;
-ghost use Rattle.il_type_reasons.specs.ArgumentReasons.{taken_count, arguments_text, standing_text, with_result, count_line, is_given, twice_line, no_input_line, no_output_line, word_line, argument_lines, arguments_lines, call_lines, taken_lines};
+ghost use Rattle.il_type_reasons.specs.ArgumentReasons.{taken_count, arguments_text, standing_text, with_result, count_line, is_given, twice_line, enable_line, lacks_input, lacks_output, no_input_line, no_output_line, word_line, argument_lines, arguments_lines, call_lines, taken_lines};
 
 use crate::types_words::put_block;
 use il_name_reasons::names_meant::{has_input, has_output};
@@ -136,25 +136,57 @@ fn put_twice(text: &mut String, given: bool, word: &str) -> Result<(), AllocErro
     }
 }
 
+// Of a word of the standard that says whether a block runs, and whether it ran.
+#[tactic(auto, unfolding(crate::specs::ArgumentReasons::enable_line))]
+fn put_enable(text: &mut String, word: &str) -> Result<(), AllocError>
+    ensures { OnOk result (Puts text.old text.new (enable_line word.now)) }
+{
+    if word == "EN" {
+        text.push_str("the language has no EN: call with CALC, or jump over the CAL with JMPC\n")
+    } else if word == "ENO" {
+        text.push_str("the language has no ENO: each CAL that is reached runs to its end\n")
+    } else {
+        Ok(())
+    }
+}
+
 // `Q1 is no input of C1`
+#[tactic(auto, unfolding(crate::specs::ArgumentReasons::lacks_input))]
+fn put_lacks_input(text: &mut String, word: &str, instance: &str) -> Result<(), AllocError>
+    ensures { OnOk result (Puts text.old text.new (lacks_input word.now instance.now)) }
+{
+    put_four(text, word, " is no input of ", instance, "\n")
+}
+
+// `PV is no output of C1`
+#[tactic(auto, unfolding(crate::specs::ArgumentReasons::lacks_output))]
+fn put_lacks_output(text: &mut String, word: &str, instance: &str) -> Result<(), AllocError>
+    ensures { OnOk result (Puts text.old text.new (lacks_output word.now instance.now)) }
+{
+    put_four(text, word, " is no output of ", instance, "\n")
+}
+
+// The same, where the block has no input of this word, and what there is instead.
 fn put_no_input(text: &mut String, has: bool, word: &str, instance: &str) -> Result<(), AllocError>
     ensures { OnOk result (Puts text.old text.new (no_input_line has word.now instance.now)) }
 {
     if has {
         Ok(())
     } else {
-        put_four(text, word, " is no input of ", instance, "\n")
+        put_lacks_input(text, word, instance)?;
+        put_enable(text, word)
     }
 }
 
-// `PV is no output of C1`
+// The same of an output.
 fn put_no_output(text: &mut String, has: bool, word: &str, instance: &str) -> Result<(), AllocError>
     ensures { OnOk result (Puts text.old text.new (no_output_line has word.now instance.now)) }
 {
     if has {
         Ok(())
     } else {
-        put_four(text, word, " is no output of ", instance, "\n")
+        put_lacks_output(text, word, instance)?;
+        put_enable(text, word)
     }
 }
 

@@ -4,7 +4,7 @@ ghost use Rattle.std.specs.Prelude.{◌≡◌, ◌<◌, ℕ, None, Some, Option,
 ghost use Rattle.base_texts.specs.Puts.{Puts};
 ghost use Rattle.il_spec.specs.declared.tree.Step.{Step as StepOf};
 ghost use Rattle.il_rules.specs.Types.{opener, IsResultAt, IsDeferredAt};
-ghost use Rattle.il_type_reasons.specs.ResultReasons.{jumps_to, jump_among, jump_to, jump_line, jump_lines, result_line, aside_line, deferred_lines, tested_line, result_lines, IsResultOf, IsResultTold};
+ghost use Rattle.il_type_reasons.specs.ResultReasons.{jumps_to, jump_among, jump_to, jump_line, jump_lines, no_result_line, result_line, aside_line, deferred_lines, tested_line, result_lines, IsResultOf, IsResultTold};
 
 use crate::types_operands::type_word;
 use il_name_reasons::writing::put_three;
@@ -105,6 +105,16 @@ fn put_jump(text: &mut String, jump: Option<u32>) -> Result<(), AllocError>
     }
 }
 
+// That no one type comes to the place on all paths.
+#[tactic(auto, unfolding(crate::specs::ResultReasons::no_result_line))]
+fn put_no_result(text: &mut String) -> Result<(), AllocError>
+    ensures { OnOk result (Puts text.old text.new no_result_line) }
+{
+    text.push_str(
+        "there is no current result of one type on all paths: none is there at the start, after a CAL, and where a JMP without condition comes from\n",
+    )
+}
+
 // `the current result is INT`
 fn put_result(
     text: &mut String,
@@ -116,9 +126,7 @@ fn put_result(
     match found {
         Some(found) => put_three(text, "the current result is ", type_word(found), "\n"),
         None => {
-            text.push_str(
-                "there is no current result of one type on all paths: none is there at the start, after a CAL, and where a JMP without condition comes from\n",
-            )?;
+            put_no_result(text)?;
             put_jump(text, jump)
         }
     }

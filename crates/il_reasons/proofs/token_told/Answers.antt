@@ -10,4 +10,4 @@ returns-in-Ok c =
 
 pub returns-in-Err-Fault : goal.returns-in-Err-Fault
 returns-in-Err-Fault c =
-    no_tokens c.args.text.now c.args.number c.args.place c.new.result.items (rw c.in-Err-Fault.field-0-is at c.in-Err-Fault.ensures.refused) c.requires.other c.requires.spelled c.new.ensures.items
+    no_tokens c.args.text.now c.args.number c.args.place c.new.result.items (rw c.in-Err-Fault.field-0-is at c.in-Err-Fault.ensures.refused) c.requires.other c.requires.number c.requires.spelled c.new.ensures.items
