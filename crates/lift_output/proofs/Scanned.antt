@@ -13,7 +13,7 @@ use Rattle.lift_host.specs.declared.status.ScanFault.TheVariants.{Round, Line}
 use Rattle.lift_messages.specs.Outputs.{Outcome}
 use Rattle.lift_output.specs.Outcomes.{IsScanned, IsScanOutcome}
 use Rattle.lift_output.specs.Parts.{AreScanned, IsTraceUnread}
-use Rattle.lift_output.specs.Scans.{HasPart, HasRound, IsAsked, IsUnasked, IsUnaskedBy, IsBadScan, IsPartFault, IsRoundFault, IsLinesFault, task_word, round_word, until_word}
+use Rattle.lift_output.specs.Scans.{IsAsked, IsUnasked}
 use Rattle.lift_output.specs.Traces.{IsRead}
 use Rattle.lift_scan.specs.declared.chosen.Asked.{Asked}
 use Rattle.lift_spec.specs.Snapshot.{has_task, task_name}
@@ -79,28 +79,3 @@ unasked_unwritten traced p fault.TooManyPresses is e = absurd is
 unasked_unwritten traced p (fault.BadFire word) is e = absurd is
 unasked_unwritten traced p (fault.CannotRead cause) is e = absurd is
 unasked_unwritten traced p fault.CannotWrite is e = absurd is
-
--- what one says of a bad word, another says of it too
-pub weaken : (Is Js : ScanFault → List ℕ → Type 0) → ((kind : ScanFault) (named : List ℕ) → Is kind named → Js kind named) → (why : Fault) → IsBadScan Is why → IsBadScan Js why
-weaken Is Js leads (fault.BadScan kind word) is = leads kind (string_bytes word) is
-weaken Is Js leads fault.NoMemory is = tt
-weaken Is Js leads (fault.Refused number line) is = absurd is
-weaken Is Js leads (fault.BadSpan word) is = absurd is
-weaken Is Js leads (fault.BadName word says) is = absurd is
-weaken Is Js leads (fault.Misuse words) is = absurd is
-weaken Is Js leads (fault.RefusedText number place) is = absurd is
-weaken Is Js leads (fault.BadPress word) is = absurd is
-weaken Is Js leads fault.TooManyPresses is = absurd is
-weaken Is Js leads (fault.BadFire word) is = absurd is
-weaken Is Js leads (fault.CannotRead cause) is = absurd is
-weaken Is Js leads fault.CannotWrite is = absurd is
-
-module _ (traced : Traced) (p : Program) (why : Fault) where
-  pub no_part : IsBadScan (IsPartFault p (task_word traced)) why → IsUnasked traced p why
-  no_part is = weaken (IsPartFault p (task_word traced)) (IsUnaskedBy traced p) (λ kind named said. inl said) why is
-
-  pub no_round : HasPart traced p → IsBadScan (IsRoundFault (round_word traced)) why → IsUnasked traced p why
-  no_round has is = weaken (IsRoundFault (round_word traced)) (IsUnaskedBy traced p) (λ kind named said. inr (inl (has, said))) why is
-
-  pub no_lines : HasPart traced p → HasRound traced → IsBadScan (IsLinesFault (until_word traced)) why → IsUnasked traced p why
-  no_lines has round is = weaken (IsLinesFault (until_word traced)) (IsUnaskedBy traced p) (λ kind named said. inr (inr (has, round, said))) why is

@@ -9,8 +9,8 @@ use Rattle.lift_output.proofs.outcome.watched_world.Goals as goal
 pub returns-clause-is : goal.returns-clause-is
 returns-clause-is c =
     let config = c.args.world.now.program.config in
-    let watch = c.in_ok-watch.field-0 in
-    let seen = c.in_ok-simulate_on.ensures in
+    let watch = c.in_ok-watch.watch in
+    let seen = c.in_ok-simulate_on.ensures.rounds in
     let shown =
     subst (λ (a : Asked). IsShown (watching_behind a watch.watched) config c.args.drive.presses.now c.args.drive.settings.now c.args.rounds c.in_ok-simulate_on.field-0.items seen.0) c.in_ok-watch.ensures.asked seen.2
     in

@@ -1,6 +1,5 @@
-use Rattle.std.proofs.Common.{arith, ◌≡◌, ◌∷◌, Some, None, refl}
+use Rattle.std.proofs.Common.{arith, Some, None, refl}
 use Rattle.std.proofs.lemmas.Str.Pattern.{split_once_first}
-use Rattle.lift_host.specs.Presses.{parts_of}
 use Rattle.lift_host.proofs.Parts.{part_before}
 use Rattle.lift_output.proofs.Ends.{no_colon, no_first, no_last, no_order, span_is}
 use Rattle.lift_output.proofs.span.span.Goals as goal
