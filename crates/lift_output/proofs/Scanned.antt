@@ -1,23 +1,17 @@
 -- A scan of a trace that was read, and words that ask for none.
-use Rattle.std.proofs.Common.{◌≡◌, ◌≢◌, ℕ, List, Ok, Err, inl, inr, sym, ap, ◌∙◌, subst, true, false}
-use Rattle.std.specs.Prelude.{string_bytes, is_some}
+use Rattle.std.proofs.Common.{◌≢◌, ℕ, List, Ok, Err, inl, inr}
 use Rattle.il_machine.specs.Scanning.{Program}
-use Rattle.il_run.specs.Scan.{task_program}
 use Rattle.lift_host.specs.declared.files.Reading.{Reading}
 use Rattle.lift_host.specs.declared.files.Reading.TheVariants.{Text, Failed}
 use Rattle.lift_host.specs.declared.request.Traced.{Traced}
 use Rattle.lift_host.specs.declared.status.Fault.{Fault}
 use Rattle.lift_host.specs.declared.status.Fault.TheVariants as fault
-use Rattle.lift_host.specs.declared.status.ScanFault.{ScanFault}
-use Rattle.lift_host.specs.declared.status.ScanFault.TheVariants.{Round, Line}
 use Rattle.lift_messages.specs.Outputs.{Outcome}
 use Rattle.lift_output.specs.Outcomes.{IsScanned, IsScanOutcome}
 use Rattle.lift_output.specs.Parts.{AreScanned, IsTraceUnread}
 use Rattle.lift_output.specs.Scans.{IsAsked, IsUnasked}
 use Rattle.lift_output.specs.Traces.{IsRead}
 use Rattle.lift_scan.specs.declared.chosen.Asked.{Asked}
-use Rattle.lift_spec.specs.Snapshot.{has_task, task_name}
-use Rattle.lift_watch.specs.Names.{upper_case}
 
 module _ (traced : Traced) (p : Program) (asked : Asked) (source text : List ℕ) (of : IsAsked traced p asked) where
   pub scanned_is : (read : IsRead p source text) (outcome : Outcome) → AreScanned traced p asked source read.from read.events read.lines outcome → IsScanned traced p source text outcome

@@ -1,5 +1,5 @@
 -- A line behind a stretch lengthens it, or begins the next.
-use Rattle.std.proofs.Common.{◌≡◌, ℕ, ◌+◌, ◌==◌, if◌then◌else◌, Bool, true, false, List, ◌∷◌, ◌++◌, flat_map, sym, ap, ◌∙◌, append_assoc}
+use Rattle.std.proofs.Common.{◌≡◌, ℕ, ◌+◌, ◌==◌, if◌then◌else◌, true, false, List, ◌∷◌, ◌++◌, flat_map, sym, ap, ◌∙◌, append_assoc}
 use Rattle.lift_output.specs.Paths.{alone, stretches_from, stretch_text}
 use Rattle.lift_output.specs.declared.path.Stretch.{Stretch}
 

@@ -7,7 +7,6 @@ use Rattle.lift_host.specs.declared.files.Reading.{Reading}
 use Rattle.lift_host.specs.declared.press.Press.{Press}
 use Rattle.lift_host.specs.declared.press.Setting.{Setting}
 use Rattle.lift_host.specs.declared.request.Rounds.{Rounds}
-use Rattle.lift_host.specs.declared.status.Fault.{Fault}
 use Rattle.lift_host.specs.declared.status.Fault.TheVariants.{NoMemory}
 use Rattle.lift_messages.specs.Outputs.{Outcome, bytes_of, warnings_of}
 use Rattle.lift_output.specs.Outcomes.{AreDriven, IsRunOutcome, IsUndriven, told_left}

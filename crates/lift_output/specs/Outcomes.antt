@@ -1,5 +1,5 @@
 -- What a request gives of a verified configuration (own rules).
-use Rattle.std.specs.Prelude.{◌≡◌, ◌<◌, ◌⊎◌, ℕ, ◌+◌, ◌++◌, Bool, true, false, List, [], ◌∷◌, length, map, Option, Some, None, option_map, Ok, Err, IfOk, IsErrAnd, codes, decimal, string_bytes}
+use Rattle.std.specs.Prelude.{◌≡◌, ◌<◌, ◌⊎◌, ℕ, ◌+◌, ◌++◌, Bool, true, false, List, [], ◌∷◌, length, Option, Some, None, option_map, Ok, Err, IfOk, IsErrAnd, codes, decimal, string_bytes}
 use Rattle.il_spec.specs.declared.tree.Config.{Config}
 use Rattle.il_reports.specs.RangeTexts.{AreRangesShown}
 use Rattle.il_machine.specs.Scanning.{Program}

@@ -1,5 +1,5 @@
 -- The lines of a path (own rules).
-use Rattle.std.specs.Prelude.{ℕ, ◌+◌, ◌<◌, ◌==◌, if◌then◌else◌, Bool, List, [], ◌∷◌, ◌++◌, flat_map, nat_lt, codes, decimal}
+use Rattle.std.specs.Prelude.{ℕ, ◌+◌, ◌==◌, if◌then◌else◌, List, [], ◌∷◌, ◌++◌, flat_map, nat_lt, codes, decimal}
 use Rattle.lift_output.specs.declared.path.Stretch.{Stretch}
 
 -- The lines of a path, each behind a space.

@@ -1,4 +1,4 @@
-use Rattle.std.proofs.Common.{List, subst, map}
+use Rattle.std.proofs.Common.{List, subst}
 use Rattle.il_machine.specs.Scanning.{Program}
 use Rattle.lift_host.specs.declared.press.Press.{Press}
 use Rattle.lift_host.specs.declared.press.Setting.{Setting}
