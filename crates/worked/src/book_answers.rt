@@ -4,7 +4,6 @@ ghost use Rattle.std.specs.Prelude.{◌≤◌};
 
 use lift_calls::book::CallBook;
 use lift_calls::{Answer, Call, Entering, Sizes, Slot};
-use std::process::Abort;
 
 // A call of the book, with its answer.
 #[derive(Clone, Copy)]
@@ -37,77 +36,80 @@ fn is_answered(book: &mut CallBook, step: Step) -> bool {
     }
 }
 
-// Makes the calls in turn, and compares the answers.
-fn follow(rt: &impl Abort, book: &mut CallBook, steps: &[Step]) {
+// Whether the book answers all these calls so, made in turn.
+fn are_answered(book: &mut CallBook, steps: &[Step]) -> bool {
     for step in steps {
-        assert!(rt; is_answered(book, *step));
+        if !is_answered(book, *step) {
+            return false;
+        }
     }
+    true
 }
 
-fn entered(slot: u8, ticket: u64) -> Entering {
-    Entering::Done { slot, ticket }
+// A call that waits in a slot.
+fn waits(ticket: u64, call: Call) -> Option<Slot> {
+    Some(Slot::Waiting { ticket, call })
+}
+
+// A call entered into an open book.
+static ONE: [Step; 1] = [Step::Enter(UP, Entering::Done { slot: 1, ticket: 1 })];
+
+// A slot that was served and entered again: its old ticket is stale.
+static AGAIN: [Step; 14] = [
+    Step::Enter(UP, Entering::Done { slot: 1, ticket: 1 }),
+    Step::Serve(1, 1, 1, Answer::Stale),
+    Step::Tell(1, 1, 1, Answer::Done),
+    Step::Tell(1, 1, 2, Answer::Stale),
+    Step::Serve(1, 1, 2, Answer::NotYours),
+    Step::Serve(1, 2, 1, Answer::Stale),
+    Step::Serve(1, 1, 1, Answer::Done),
+    Step::Serve(1, 1, 1, Answer::Stale),
+    Step::Tell(1, 1, 1, Answer::Stale),
+    Step::Enter(DOWN, Entering::Done { slot: 1, ticket: 2 }),
+    Step::Tell(1, 1, 1, Answer::Stale),
+    Step::Tell(0, 2, 1, Answer::NoSlot),
+    Step::Serve(2, 2, 1, Answer::NoSlot),
+    Step::Enter(UP, Entering::Kept),
+];
+
+// Behind 64 calls in 64 slots the slot that is served is the next to be entered.
+static FULL: [Step; 4] = [
+    Step::Enter(UP, Entering::Kept),
+    Step::Tell(7, 7, 2, Answer::Done),
+    Step::Serve(7, 7, 2, Answer::Done),
+    Step::Enter(
+        UP,
+        Entering::Done {
+            slot: 7,
+            ticket: 65,
+        },
+    ),
+];
+
+// Whether a book of 64 slots enters 64 calls, each into the next one.
+fn fills(book: &mut CallBook) -> bool {
+    for slot in 1..=64u8 {
+        let entered = Entering::Done {
+            slot,
+            ticket: u64::from(slot),
+        };
+        if book.enter(UP) != entered {
+            return false;
+        }
+    }
+    true
 }
 
 #[test]
 fn answers(rt: HostRuntime) {
-    // A call entered into an open book.
     let mut one = book_of(8);
-    follow(&rt, &mut one, &[Step::Enter(UP, entered(1, 1))]);
-    let waits = Slot::Waiting {
-        ticket: 1,
-        call: UP,
-    };
-    assert!(rt; one.slot(1) == Some(waits));
-    assert!(rt; one.slot(2) == Some(Slot::Free));
+    assert!(rt; are_answered(&mut one, &ONE));
+    assert!(rt; one.slot(1) == waits(1, UP) && one.slot(2) == Some(Slot::Free));
     assert!(rt; one.count() == 8);
-
-    // A slot that was served and entered again: its old ticket is stale.
     let mut again = book_of(1);
-    follow(
-        &rt,
-        &mut again,
-        &[
-            Step::Enter(UP, entered(1, 1)),
-            Step::Serve(1, 1, 1, Answer::Stale),
-            Step::Tell(1, 1, 1, Answer::Done),
-            Step::Tell(1, 1, 2, Answer::Stale),
-            Step::Serve(1, 1, 2, Answer::NotYours),
-            Step::Serve(1, 2, 1, Answer::Stale),
-            Step::Serve(1, 1, 1, Answer::Done),
-            Step::Serve(1, 1, 1, Answer::Stale),
-            Step::Tell(1, 1, 1, Answer::Stale),
-            Step::Enter(DOWN, entered(1, 2)),
-            Step::Tell(1, 1, 1, Answer::Stale),
-            Step::Tell(0, 2, 1, Answer::NoSlot),
-            Step::Serve(2, 2, 1, Answer::NoSlot),
-            Step::Enter(UP, Entering::Kept),
-        ],
-    );
-    let waits = Slot::Waiting {
-        ticket: 2,
-        call: DOWN,
-    };
-    assert!(rt; again.slot(1) == Some(waits));
-    assert!(rt; again.last_ticket() == 2);
-
-    // 64 calls in 64 slots, and the slot that is served is the next to be entered.
+    assert!(rt; are_answered(&mut again, &AGAIN));
+    assert!(rt; again.slot(1) == waits(2, DOWN) && again.last_ticket() == 2);
     let mut full = book_of(64);
-    for slot in 1..=64u8 {
-        follow(
-            &rt,
-            &mut full,
-            &[Step::Enter(UP, entered(slot, u64::from(slot)))],
-        );
-    }
-    follow(
-        &rt,
-        &mut full,
-        &[
-            Step::Enter(UP, Entering::Kept),
-            Step::Tell(7, 7, 2, Answer::Done),
-            Step::Serve(7, 7, 2, Answer::Done),
-            Step::Enter(UP, entered(7, 65)),
-        ],
-    );
+    assert!(rt; fills(&mut full) && are_answered(&mut full, &FULL));
     assert!(rt; full.last_ticket() == 65);
 }

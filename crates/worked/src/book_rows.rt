@@ -1,6 +1,6 @@
 // What the book of one owner journals and refuses. No command shows it yet.
 
-ghost use Rattle.std.specs.Prelude.{◌≡◌, ◌≤◌, true, [], ◌∷◌, IfSome};
+ghost use Rattle.std.specs.Prelude.{◌≡◌, ◌≤◌, true, [], ◌∷◌, IfOk};
 ghost use Rattle.il_machine.specs.Scanning.{HasTask};
 
 use crate::group::fields;
@@ -41,19 +41,25 @@ fn has_car(verified: &Verified, car: u8) -> bool
 // Answered where no memory is left, or a scan doesn't begin.
 const NOBODY: u8 = 255;
 
-// The number of the fault of a start of a car, 0 where it starts.
-fn start_fault(alloc: Global, book: &mut Book, verified: &Verified, car: u8) -> u8
+// A scan of a car begins, or a fault has this number.
+fn begun(alloc: Global, book: &mut Book, verified: &Verified, car: u8) -> Result<OpenScan, u8>
     requires program { verified.now.config ≡ book.old.config }
     requires there { HasTask verified.now.config car }
+    ensures of { IfOk result (λ b. b.config ≡ verified.now.config) }
     ensures same { book.new.config ≡ book.old.config }
 {
     let Ok(store) = Store::new(alloc, verified, car) else {
-        return NOBODY;
+        return Err(NOBODY);
     };
     match book.start(verified, car, store) {
-        Ok(_) => 0,
-        Err((fault, _)) => fault.number(),
+        Ok(begun) => Ok(begun),
+        Err((fault, _)) => Err(fault.number()),
     }
+}
+
+// The number of the fault of a start, 0 where it starts.
+fn start_fault(begun: Result<OpenScan, u8>) -> u8 {
+    begun.err().unwrap_or(0)
 }
 
 // The number of the fault of a commit of a scan for a car, 0 where it is done.
@@ -68,32 +74,16 @@ fn commit_fault(book: &mut Book, verified: &Verified, car: u8, begun: OpenScan) 
     }
 }
 
-// A scan of car 1 begins, if it may.
-fn begun(alloc: Global, book: &mut Book, verified: &Verified) -> Option<OpenScan>
-    requires program { verified.now.config ≡ book.old.config }
-    requires there { HasTask verified.now.config 1 }
-    ensures of { IfSome result (λ b. b.config ≡ verified.now.config) }
-    ensures same { book.new.config ≡ book.old.config }
-{
-    let Ok(store) = Store::new(alloc, verified, 1) else {
-        return None;
-    };
-    match book.start(verified, 1, store) {
-        Ok(begun) => Some(begun),
-        Err(_) => None,
-    }
-}
-
 // A round of car 1, and a further start: the numbers of the faults of its commit and of that start.
 fn round_and_start(alloc: Global, book: &mut Book, verified: &Verified) -> (u8, u8)
     requires program { verified.now.config ≡ book.old.config }
     requires there { HasTask verified.now.config 1 }
 {
-    match begun(alloc, book, verified) {
-        None => (NOBODY, NOBODY),
-        Some(begun) => {
-            let committed = commit_fault(book, verified, 1, begun);
-            (committed, start_fault(alloc, book, verified, 1))
+    match begun(alloc, book, verified, 1) {
+        Err(number) => (number, NOBODY),
+        Ok(open) => {
+            let committed = commit_fault(book, verified, 1, open);
+            (committed, start_fault(begun(alloc, book, verified, 1)))
         }
     }
 }
@@ -105,12 +95,12 @@ fn start_and_commit_other(alloc: Global, book: &mut Book, verified: &Verified) -
     requires first { HasTask verified.now.config 1 }
     requires second { HasTask verified.now.config 2 }
 {
-    match begun(alloc, book, verified) {
-        None => (NOBODY, NOBODY, NOBODY),
-        Some(begun) => {
-            let second = start_fault(alloc, book, verified, 2);
-            let again = start_fault(alloc, book, verified, 1);
-            (second, again, commit_fault(book, verified, 2, begun))
+    match begun(alloc, book, verified, 1) {
+        Err(number) => (number, NOBODY, NOBODY),
+        Ok(open) => {
+            let second = start_fault(begun(alloc, book, verified, 2));
+            let again = start_fault(begun(alloc, book, verified, 1));
+            (second, again, commit_fault(book, verified, 2, open))
         }
     }
 }

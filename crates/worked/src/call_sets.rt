@@ -2,7 +2,6 @@
 
 use lift_spec::calls::Call;
 use lift_spec::hand::Hand;
-use std::process::Abort;
 
 const UP: Call = Call { from: 3, to: 5 };
 
@@ -17,20 +16,14 @@ fn has_floors(hand: &Hand) -> bool {
     hand.has_from(4) && !hand.has_from(5) && !hand.has(Call { from: 5, to: 3 })
 }
 
-// Compares what the set has with both calls.
-fn compare(rt: &impl Abort, hand: &Hand) {
-    assert!(rt; has_both(hand));
-    assert!(rt; has_floors(hand));
-    assert!(rt; hand.mask_from(3) == 16);
-    assert!(rt; hand.first() == Some(UP));
-}
-
-// Takes both calls out, the first one first.
-fn take(rt: &impl Abort, hand: &mut Hand) {
-    assert!(rt; hand.take_first() == Some(UP));
-    assert!(rt; hand.first() == Some(DOWN));
-    assert!(rt; hand.take_first() == Some(DOWN));
-    assert!(rt; hand.take_first().is_none());
+// Takes three calls out: each, and before the second one the first that is left.
+fn taken(hand: &mut Hand) -> [Option<Call>; 4] {
+    [
+        hand.take_first(),
+        hand.first(),
+        hand.take_first(),
+        hand.take_first(),
+    ]
 }
 
 #[test]
@@ -40,9 +33,9 @@ fn set_of_calls(rt: HostRuntime) {
     hand.insert(UP);
     hand.insert(UP);
     hand.insert(DOWN);
-    compare(&rt, &hand);
+    assert!(rt; has_both(&hand) && has_floors(&hand));
+    assert!(rt; hand.mask_from(3) == 16 && hand.first() == Some(UP));
     let before = hand;
-    take(&rt, &mut hand);
-    assert!(rt; has_both(&before));
-    assert!(rt; Hand::default().first().is_none());
+    assert!(rt; taken(&mut hand) == [Some(UP), Some(DOWN), Some(DOWN), None]);
+    assert!(rt; has_both(&before) && Hand::default().first().is_none());
 }

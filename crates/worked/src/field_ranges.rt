@@ -20,23 +20,30 @@ fn fields(pos: u8, run_limit: u8, time: u32) -> Fields {
     }
 }
 
-// Whether the fields of one car are in range for a group of so many cars, two floors and one slot.
-fn fit(pos: u8, run_limit: u8, time: u32, cars: u8) -> bool {
-    let sizes = Sizes {
-        cars,
-        floors: 2,
-        slots: 1,
-    };
-    in_range(&fields(pos, run_limit, time), sizes)
-}
+// POS and RUNLIMIT of one car at a time, how many cars the group has, and whether they are in range.
+static ROWS: [(u8, u8, u32, u8, bool); 7] = [
+    (1, 1, 0, 1, true),
+    (2, 0, 2_147_483_647, 1, true),
+    // no such floor
+    (3, 1, 0, 1, false),
+    // no floor 0
+    (0, 1, 0, 1, false),
+    // RUNLIMIT over the cars
+    (1, 2, 0, 1, false),
+    // no TIME
+    (1, 1, 2_147_483_648, 1, false),
+    // a car without fields
+    (1, 1, 0, 2, false),
+];
 
 #[test]
 fn one_car_and_two_floors(rt: HostRuntime) {
-    assert!(rt; fit(1, 1, 0, 1));
-    assert!(rt; fit(2, 0, 2_147_483_647, 1));
-    assert!(rt; !fit(3, 1, 0, 1), "no such floor");
-    assert!(rt; !fit(0, 1, 0, 1), "no floor 0");
-    assert!(rt; !fit(1, 2, 0, 1), "RUNLIMIT over the cars");
-    assert!(rt; !fit(1, 1, 2_147_483_648, 1), "no TIME");
-    assert!(rt; !fit(1, 1, 0, 2), "a car without fields");
+    for (pos, run_limit, time, cars, fit) in &ROWS {
+        let sizes = Sizes {
+            cars: *cars,
+            floors: 2,
+            slots: 1,
+        };
+        assert!(rt; in_range(&fields(*pos, *run_limit, *time), sizes) == *fit);
+    }
 }

@@ -110,7 +110,7 @@ fn is_round(entries: &[Entry]) -> bool {
     let [Entry::Refresh { .. }, behind @ ..] = entries else {
         return false;
     };
-    [1, 2].iter().all(|car| has_scanned(behind, *car))
+    has_scanned(behind, 1) && has_scanned(behind, 2)
 }
 
 // Whether a task was started and committed in the entries, once.

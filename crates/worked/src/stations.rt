@@ -72,13 +72,6 @@ struct Crew<'s, G: Naming> {
     runs: Vec<Run<'s>>,
 }
 
-// The passes of a desk.
-#[derive(Drop)]
-struct Hall {
-    panels: Vec<PanelPass>,
-    collector: HandPass,
-}
-
 // Answered where a row names a task or a scan that isn't there.
 const NOBODY: u64 = 255;
 
@@ -393,40 +386,36 @@ fn take_step<'s, G: Naming, R: Wait>(
     station: &'s Station<G>,
     desk: &Desk,
     crew: &mut Crew<'s, G>,
+    panels: &mut Vec<PanelPass>,
     refresher: RefreshPass<G>,
-    hall: Hall,
+    collector: HandPass,
     report: &mut Report,
     step: Step,
-) -> (RefreshPass<G>, Hall, u64)
-    requires table { hall.collector.table ≡ desk.now.table }
-    requires floors { hall.collector.floors ≡ (sizes_of G.program.config).floors }
+) -> (RefreshPass<G>, HandPass, u64)
+    requires table { collector.table ≡ desk.now.table }
+    requires floors { collector.floors ≡ (sizes_of G.program.config).floors }
     requires switches { (n : ℕ)
         → opening_switches (sizes_of G.program.config).cars ≡ G.switches n }
-    requires panels { AreAllPanels desk.now hall.panels.items }
-    ensures table { result.1.collector.table ≡ desk.now.table }
-    ensures floors { result.1.collector.floors ≡ (sizes_of G.program.config).floors }
-    ensures panels { AreAllPanels desk.now result.1.panels.items }
+    requires panels { AreAllPanels desk.now panels.old.items }
+    ensures collector { (result.1.table ≡ collector.table) × (result.1.floors ≡ collector.floors) }
+    ensures panels { AreAllPanels desk.now panels.new.items }
 {
-    let Hall {
-        mut panels,
-        collector,
-    } = hall;
     let first = of_task(rt, station, crew, report, step);
-    let second = of_panel(desk, &mut panels, step);
+    let second = of_panel(desk, panels, step);
     let (collector, third) = of_collector(desk, collector, step);
     let (refresher, collector, fourth) = of_refresher(
         rt, station, refresher, collector, report, step,
     );
     let answer = first.or(second).or(third).or(fourth).unwrap_or(NOBODY);
-    (refresher, Hall { panels, collector }, answer)
+    (refresher, collector, answer)
 }
 
 // The passes behind the steps, and what the steps answered.
-#[derive(Drop)]
 struct Rest<G: Naming> {
     passes: Vec<TaskPass<G>>,
+    panels: Vec<PanelPass>,
     refresher: RefreshPass<G>,
-    hall: Hall,
+    collector: HandPass,
     report: Report,
     answers: Vec<u64>,
 }
@@ -438,46 +427,50 @@ fn steps<'s, G: Naming, R: Wait>(
     station: &'s Station<G>,
     desk: &Desk,
     passes: Vec<TaskPass<G>>,
+    panels: Vec<PanelPass>,
     refresher: RefreshPass<G>,
-    hall: Hall,
+    collector: HandPass,
     row: &[Step],
 ) -> Rest<G>
-    requires table { hall.collector.table ≡ desk.now.table }
-    requires floors { hall.collector.floors ≡ (sizes_of G.program.config).floors }
+    requires table { collector.table ≡ desk.now.table }
+    requires floors { collector.floors ≡ (sizes_of G.program.config).floors }
     requires switches { (n : ℕ)
         → opening_switches (sizes_of G.program.config).cars ≡ G.switches n }
-    requires panels { AreAllPanels desk.now hall.panels.items }
-    ensures table { result.hall.collector.table ≡ desk.now.table }
-    ensures panels { AreAllPanels desk.now result.hall.panels.items }
+    requires panels { AreAllPanels desk.now panels.items }
+    ensures table { result.collector.table ≡ desk.now.table }
+    ensures panels { AreAllPanels desk.now result.panels.items }
 {
     let mut crew = Crew {
         passes,
         runs: Vec::new(alloc),
     };
+    let mut panels = panels;
     let mut refresher = refresher;
-    let mut hall = hall;
+    let mut collector = collector;
     let mut report = Report::new();
     let mut answers = Vec::new(alloc);
     'steps: for one in row {
-        let (pass, back, answer) = take_step(
+        let (refresh_pass, hand_pass, answer) = take_step(
             rt,
             station,
             desk,
             &mut crew,
+            &mut panels,
             refresher,
-            hall,
+            collector,
             &mut report,
             *one,
         );
-        refresher = pass;
-        hall = back;
+        refresher = refresh_pass;
+        collector = hand_pass;
         let _ = answers.push(answer);
     }
     let Crew { passes, .. } = crew;
     Rest {
         passes,
+        panels,
         refresher,
-        hall,
+        collector,
         report,
         answers,
     }
@@ -485,17 +478,18 @@ fn steps<'s, G: Naming, R: Wait>(
 
 // Closes a station and its desk: what the steps left.
 fn closed<G: Naming>(station: Station<G>, desk: Desk, rest: Rest<G>) -> Played
-    requires table { rest.hall.collector.table ≡ desk.table }
-    requires panels { AreAllPanels desk rest.hall.panels.items }
+    requires table { rest.collector.table ≡ desk.table }
+    requires panels { AreAllPanels desk rest.panels.items }
 {
     let Rest {
         passes,
+        panels,
         refresher,
-        hall,
+        collector,
         report,
         answers,
     } = rest;
-    let desk = desk.close(hall.panels, hall.collector);
+    let desk = desk.close(panels, collector);
     let Closed { verified, book } = station.close(passes, refresher);
     let globals = [book.global(&verified, "G"), book.global(&verified, "H")];
     verified.release();
@@ -530,10 +524,18 @@ fn play_in<G: Naming, R: Wait>(
     requires panels { AreAllPanels opened.0 opened.1.items }
 {
     let (desk, panels, collector) = opened;
-    let (station, passes, refresher) = Station::<G>::new(alloc, blanks, verified, capacity)?;
-    let hall = Hall { panels, collector };
-    let rest = steps(rt, alloc, &station, &desk, passes, refresher, hall, row);
-    Ok(closed(station, desk, rest))
+    match Station::<G>::new(alloc, blanks, verified, capacity) {
+        Ok((station, passes, refresher)) => {
+            let rest = steps(
+                rt, alloc, &station, &desk, passes, panels, refresher, collector, row,
+            );
+            Ok(closed(station, desk, rest))
+        }
+        Err(refusal) => {
+            let _closed = desk.close(panels, collector);
+            Err(refusal)
+        }
+    }
 }
 
 // A desk with so many panels on each floor, and its passes.

@@ -5,7 +5,7 @@ ghost use Rattle.lift_plant.specs.Switches.{opening_switches};
 ghost use Rattle.lift_spec.specs.Image.{sizes_of};
 
 use crate::memory::lines::{allocation, no_allocation, print};
-use crate::memory::station_scans::{next_scan, next_turn};
+use crate::memory::station_scans::next;
 use crate::memory::text::{FLOORS, TEXT};
 use il_machine::Verified;
 use il_spec::fault::Refusal;
@@ -65,14 +65,14 @@ fn scans<G: Naming, R: Print + Wait>(
     passes: &mut Vec<TaskPass<G>>,
     report: &mut Report,
 ) {
-    let turns = "Station::start, scan, turn and commit_ours, told";
-    let calls = "Station::start and commit, told";
-    print(rt, turns, &next_turn(rt, station, passes, report));
-    print(rt, calls, &next_scan(rt, station, passes, report));
-    print(rt, calls, &next_scan(rt, station, passes, report));
-    print(rt, calls, &next_scan(rt, station, passes, report));
-    print(rt, turns, &next_turn(rt, station, passes, report));
-    print(rt, calls, &next_scan(rt, station, passes, report));
+    for turns in &[true, false, false, false, true, false] {
+        let calls = if *turns {
+            "Station::start, scan, turn and commit_ours, told"
+        } else {
+            "Station::start and commit, told"
+        };
+        print(rt, calls, &next(rt, station, passes, *turns, report));
+    }
 }
 
 // Two refreshes, the scans, what reads the station, and its close. The collector's pass comes back.

@@ -34,20 +34,6 @@ fn run<G: Naming, R: Wait>(
     (pass, fault(committed))
 }
 
-// A scan of a task begins, runs and is committed: the number of the fault that refused it, 0 for none.
-fn drive<G: Naming, R: Wait>(
-    rt: &R,
-    station: &Station<G>,
-    pass: TaskPass<G>,
-    report: &mut Report,
-) -> (TaskPass<G>, u8) {
-    let (pass, begun) = station.start(rt, pass);
-    match begun {
-        Ok(begun) => run(rt, station, pass, begun, report),
-        Err(fault) => (pass, fault.number()),
-    }
-}
-
 // The number of the fault that refused a commit of a scan of the station's program, 0 for none.
 fn fault_of_ours<G: Naming>(committed: Result<(), (StationFault, Ours<'_, G>)>) -> u8 {
     match committed {
@@ -78,49 +64,41 @@ fn turn<G: Naming, R: Wait>(
     }
 }
 
-// A scan of a task begins, and turns into another: the number of the fault that refused one, 0 for none.
-fn drive_on<G: Naming, R: Wait>(
+// A scan of a task begins, and is committed or turns into another: the number of the fault that refused one, 0 for none.
+fn drive<G: Naming, R: Wait>(
     rt: &R,
     station: &Station<G>,
     pass: TaskPass<G>,
+    turns: bool,
     report: &mut Report,
 ) -> (TaskPass<G>, u8) {
     let (pass, begun) = station.start(rt, pass);
     match begun {
-        Ok(begun) => turn(rt, station, pass, begun, report),
+        Ok(begun) => {
+            if turns {
+                turn(rt, station, pass, begun, report)
+            } else {
+                run(rt, station, pass, begun, report)
+            }
+        }
         Err(fault) => (pass, fault.number()),
     }
 }
 
-/// The next task's two scans, and the car that is then told the call under ticket 1. The pass goes to the end.
-pub fn next_turn<G: Naming, R: Wait>(
+/// The next task's scan, or its two scans where the first turns into another, and the car that is then told the call under ticket 1. The
+/// pass goes to the end.
+pub fn next<G: Naming, R: Wait>(
     rt: &R,
     station: &Station<G>,
     passes: &mut Vec<TaskPass<G>>,
+    turns: bool,
     report: &mut Report,
 ) -> [i128; 2] {
     if passes.is_empty() {
         return [-1, -1];
     }
     let pass = passes.remove(0);
-    let (pass, fault) = drive_on(rt, station, pass, report);
-    passes.push_reserved(pass);
-    let told = station.told(rt, 1).unwrap_or(0);
-    [fault as i128, told as i128]
-}
-
-/// The next task's scan, and the car that is then told the call under ticket 1. The pass goes to the end.
-pub fn next_scan<G: Naming, R: Wait>(
-    rt: &R,
-    station: &Station<G>,
-    passes: &mut Vec<TaskPass<G>>,
-    report: &mut Report,
-) -> [i128; 2] {
-    if passes.is_empty() {
-        return [-1, -1];
-    }
-    let pass = passes.remove(0);
-    let (pass, fault) = drive(rt, station, pass, report);
+    let (pass, fault) = drive(rt, station, pass, turns, report);
     passes.push_reserved(pass);
     let told = station.told(rt, 1).unwrap_or(0);
     [fault as i128, told as i128]

@@ -5,7 +5,7 @@ use Rattle.worked.proofs.stations.steps.Given as goal
 
 abbrev pub invariant-steps : goal.invariant-steps
 invariant-steps g l = record {
-  table : l.hall.collector.table ≡ l.fn.desk.table;
-  floors : l.hall.collector.floors ≡ (sizes_of g.G.Naming.program.config).floors;
-  panels : AreAllPanels l.fn.desk l.hall.panels.items;
+  table : l.collector.table ≡ l.fn.desk.table;
+  floors : l.collector.floors ≡ (sizes_of g.G.Naming.program.config).floors;
+  panels : AreAllPanels l.fn.desk l.panels.items;
 }
