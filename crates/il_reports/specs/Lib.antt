@@ -4,5 +4,6 @@ pub mod Xref
 pub mod Texts
 pub mod Lines
 pub mod Warnings
+pub mod Sources
 pub mod RangeLines
 pub mod RangeTexts

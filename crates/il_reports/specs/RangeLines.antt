@@ -23,6 +23,7 @@ use Rattle.il_run.specs.declared.known.Known.TheVariants.{Flag, Ranged}
 use Rattle.il_run.specs.Annotation.{Knowledge}
 use Rattle.il_rules.specs.Least.{NumberedFault}
 use Rattle.il_ranges.specs.Shown.{steps_text}
+use Rattle.il_reports.specs.Sources.{told_source}
 
 -- VALUES
 
@@ -99,18 +100,22 @@ variables_text k _ = []
 
 -- LINES
 
+-- `line L`, and behind it `: TEXT`, the text of the instruction, where that is to be shown
+abbrev pub front_text : Option (List ℕ) → Step → List ℕ
+front_text source s = codes "line " ++ (decimal s.place.line ++ told_source source s.place.offset)
+
 -- `line L: result R`, and the variables that the instruction names
-abbrev pub reached_text : Step → Knowledge → List ℕ
-reached_text s k = codes "line " ++ (decimal s.place.line ++ (codes ": result " ++ (result_text k.result ++ (variables_text k s.instruction ++ codes "\n"))))
+abbrev pub reached_text : Option (List ℕ) → Step → Knowledge → List ℕ
+reached_text source s k = front_text source s ++ (codes ": result " ++ (result_text k.result ++ (variables_text k s.instruction ++ codes "\n")))
 
 -- `line L: not reached`
-abbrev pub not_reached_text : Step → List ℕ
-not_reached_text s = codes "line " ++ (decimal s.place.line ++ codes ": not reached\n")
+abbrev pub not_reached_text : Option (List ℕ) → Step → List ℕ
+not_reached_text source s = front_text source s ++ codes ": not reached\n"
 
 -- the line of an instruction, by what is known before it
-abbrev pub step_line : Step → Option Knowledge → List ℕ
-step_line s None = not_reached_text s
-step_line s (Some k) = reached_text s k
+abbrev pub step_line : Option (List ℕ) → Step → Option Knowledge → List ℕ
+step_line source s None = not_reached_text source s
+step_line source s (Some k) = reached_text source s k
 
 -- `line L: refused 43`, behind the instruction at which a unit is refused
 abbrev pub refused_text : Option NumberedFault → List ℕ
@@ -128,5 +133,5 @@ abbrev pub heading_text : ProgramUnit → List ℕ
 heading_text u = kind_word u.kind ++ (codes " " ++ (u.name.name ++ (codes " line " ++ (decimal u.place.line ++ codes "\n"))))
 
 -- of a unit: its heading, its instructions, and where it is refused
-abbrev pub unit_text : ProgramUnit → List (Option Knowledge) → Option NumberedFault → List ℕ
-unit_text u known found = heading_text u ++ (steps_text step_line u.body.steps known ++ refused_text found)
+abbrev pub unit_text : Option (List ℕ) → ProgramUnit → List (Option Knowledge) → Option NumberedFault → List ℕ
+unit_text source u known found = heading_text u ++ (steps_text (step_line source) u.body.steps known ++ refused_text found)

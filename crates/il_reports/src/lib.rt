@@ -9,6 +9,7 @@ mod never;
 mod range_lines;
 mod range_units;
 mod range_values;
+pub mod source;
 mod texts;
 pub mod unit_uses;
 pub mod uses;

@@ -1,7 +1,8 @@
 // The text of a configuration.
 
-ghost use Rattle.std.specs.Prelude.{◌≡◌, ◌++◌, ℕ, List, Some, IfOk, slice_get, string_bytes};
+ghost use Rattle.std.specs.Prelude.{◌≡◌, ◌++◌, ℕ, List, Some, IfOk, option_map, slice_get, string_bytes};
 ghost use Rattle.il_rules.specs.Faults.{BreaksDeclarations, Broken, Typing, HasNoFault};
+ghost use Rattle.il_reports.specs.Sources.{shown_source};
 ghost use Rattle.il_reports.specs.RangeTexts.{IsUnitShown, AreRangesShown};
 
 use crate::range_lines::{Lines, put_heading, put_refused};
@@ -16,35 +17,57 @@ fn unit_lines(
     names: &Scoped,
     at: usize,
     unit: &Unit,
-    before: Lines,
-) -> Result<Lines, AllocError>
+    source: Option<&[u8]>,
+    before: String,
+) -> Result<String, AllocError>
     requires unit { slice_get names.now.units at ≡ Some unit.now }
     requires declared { HasNoFault (BreaksDeclarations names.now) }
     requires typed { HasNoFault (Broken Typing names.now) }
     ensures { IfOk result (λ after. (one : List ℕ)
-        × (string_bytes after.text ≡ string_bytes before.text ++ one)
-        × IsUnitShown names.now unit.now one) }
+        × (string_bytes after ≡ string_bytes before ++ one)
+        × IsUnitShown (option_map (λ s. s.now) source.entry) names.now unit.now one) }
 {
-    let mut heading = before;
-    put_heading(&mut heading.text, unit)?;
-    let (found, mut lines) = shown_unit(alloc, names, at, unit, heading)?;
-    put_refused(&mut lines.text, &found)?;
+    let mut text = before;
+    put_heading(&mut text, unit)?;
+    let (found, lines) = shown_unit(alloc, names, at, unit, Lines { text, source })?;
+    let Lines { mut text, .. } = lines;
+    put_refused(&mut text, &found)?;
+    Ok(text)
+}
+
+// The lines of all units, with the text of their instructions where that is to be shown.
+fn units_text(alloc: Global, names: &Scoped, source: Option<&[u8]>) -> Result<String, AllocError>
+    requires declared { HasNoFault (BreaksDeclarations names.now) }
+    requires typed { HasNoFault (Broken Typing names.now) }
+    ensures { IfOk result (λ t. AreRangesShown (option_map (λ s. s.now) source.entry) names.now
+        (string_bytes t)) }
+{
+    let units = names.config().units.as_slice();
+    let mut lines = String::new(alloc);
+    'units: for at in 0..units.len() {
+        lines = unit_lines(alloc, names, at, &units[at], source, lines)?;
+    }
     Ok(lines)
 }
 
 /// What the verifier knows before each instruction of each unit, in the written order: behind a heading for each unit a
 /// line for each instruction, with the range of the current result and of the variables that it names (own rule). The
-/// lines of a unit that is refused end behind the instruction that is refused. TIME is in milliseconds.
-pub fn ranges_text(alloc: Global, names: &Scoped) -> Result<String, AllocError>
+/// lines of a unit that is refused end behind the instruction that is refused. TIME is in milliseconds. `with_text` has
+/// each line show the text of its instruction, as it stands in `source`, the text of the configuration.
+pub fn ranges_text(
+    alloc: Global,
+    names: &Scoped,
+    with_text: bool,
+    source: &[u8],
+) -> Result<String, AllocError>
     requires declared { HasNoFault (BreaksDeclarations names.now) }
     requires typed { HasNoFault (Broken Typing names.now) }
-    ensures { IfOk result (λ t. AreRangesShown names.now (string_bytes t)) }
+    ensures { IfOk result (λ t. AreRangesShown (shown_source with_text source.now) names.now
+        (string_bytes t)) }
 {
-    let units = names.config().units.as_slice();
-    let mut lines = Lines::new(alloc);
-    'units: for at in 0..units.len() {
-        lines = unit_lines(alloc, names, at, &units[at], lines)?;
+    if with_text {
+        units_text(alloc, names, Some(source))
+    } else {
+        units_text(alloc, names, None)
     }
-    let Lines { text } = lines;
-    Ok(text)
 }

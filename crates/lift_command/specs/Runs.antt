@@ -1,8 +1,9 @@
 -- What a request gives of a text (own rules).
-use Rattle.std.specs.Prelude.{◌≡◌, ◌⊎◌, ℕ, List, Option, Some, None, Ok, Err}
+use Rattle.std.specs.Prelude.{◌≡◌, ◌⊎◌, ℕ, Bool, List, Option, Some, None, Ok, Err}
 use Rattle.il_spec.specs.declared.fault.Refusal.{Refusal}
 use Rattle.il_spec.specs.declared.tree.Config.{Config}
 use Rattle.il_reports.specs.RangeTexts.{AreRangesShown}
+use Rattle.il_reports.specs.Sources.{shown_source}
 use Rattle.il_machine.specs.Scanning.{Program}
 use Rattle.lift_host.specs.declared.files.Reading.{Reading}
 use Rattle.lift_host.specs.declared.request.Request.{Request}
@@ -19,15 +20,15 @@ use Rattle.lift_messages.specs.Outputs.{Outcome, bytes_of, warnings_of}
 use Rattle.lift_output.specs.Outcomes.{IsProgramOutcome, AreWarned}
 use Rattle.lift_command.specs.Loaded.{IsLoaded}
 
--- `ranges` shows something of a refused text as well, where that spells a configuration whose declarations, types and order are unbroken.
--- Memory may be missing.
-abbrev pub IsKnown : List ℕ → Refusal → Outcome → Type 0
-IsKnown text why (Ok output) = (c : Config) × IsSpelled text c × IsUnbroken c × AreRangesShown c (bytes_of output) × (warnings_of output ≡ None)
-IsKnown text why (Err f) = (f ≡ fault.NoMemory) ⊎ ((f ≡ fault_of why) × ((c : Config) → IsSpelled text c → IsUnbroken c → ⊥))
+-- `ranges` shows something of a refused text as well, where that spells a configuration whose declarations, types and order are unbroken,
+-- with the texts of instructions where they are asked for. Memory may be missing.
+abbrev pub IsKnown : Bool → List ℕ → Refusal → Outcome → Type 0
+IsKnown with_text text why (Ok output) = (c : Config) × IsSpelled text c × IsUnbroken c × AreRangesShown (shown_source with_text text) c (bytes_of output) × (warnings_of output ≡ None)
+IsKnown with_text text why (Err f) = (f ≡ fault.NoMemory) ⊎ ((f ≡ fault_of why) × ((c : Config) → IsSpelled text c → IsUnbroken c → ⊥))
 
 -- Of a refused text all other requests tell the fault.
 abbrev pub IsRefusedOutcome : Request → List ℕ → Refusal → Outcome → Type 0
-IsRefusedOutcome (request.Show showing.Ranges shown) text why outcome = IsKnown text why outcome
+IsRefusedOutcome (request.Show showing.Ranges shown) text why outcome = IsKnown shown.text text why outcome
 IsRefusedOutcome (request.Show showing.Xref shown) text why outcome = outcome ≡ Err (fault_of why)
 IsRefusedOutcome (request.Check checked) text why outcome = outcome ≡ Err (fault_of why)
 IsRefusedOutcome (request.Rounds command asked) text why outcome = outcome ≡ Err (fault_of why)

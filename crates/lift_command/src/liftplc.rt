@@ -13,7 +13,7 @@ use il_reports::ranges_text;
 use il_spec::fault::Refusal;
 use il_spec::tree::Place;
 use lift_host::files::Reading;
-use lift_host::request::{Request, Showing, Simulating};
+use lift_host::request::{Request, Showing, Shown, Simulating};
 use lift_host::status::Fault;
 use lift_json::form::Form;
 use lift_json::lines::json_lines;
@@ -147,7 +147,7 @@ fn refused(
     ensures unwritten { result ≢ Err Fault.CannotWrite }
 {
     match request {
-        Request::Show(Showing::Ranges, _) => known(alloc, text, refusal),
+        Request::Show(Showing::Ranges, asked) => known(alloc, asked, text, refusal),
         Request::Show(Showing::Xref, _)
         | Request::Check(_)
         | Request::Rounds(_, _)
@@ -156,12 +156,12 @@ fn refused(
 }
 
 // The ranges of a refused text, where no rule of its declarations, types and order is broken.
-fn known(alloc: Global, text: &[u8], refusal: Refusal) -> Result<Output, Fault>
-    ensures is { IsKnown text.now refusal result }
+fn known(alloc: Global, asked: Shown<'_>, text: &[u8], refusal: Refusal) -> Result<Output, Fault>
+    ensures is { IsKnown asked.entry.text text.now refusal result }
     ensures unwritten { result ≢ Err Fault.CannotWrite }
 {
     match unbroken(alloc, text) {
-        Ok(ordered) => Ok(Output::Text(ranges_text(alloc, ordered.names())?)),
+        Ok(ordered) => Ok(Output::Text(ranges_text(alloc, ordered.names(), asked.text, text)?)),
         Err(Refusal::Memory) => Err(Fault::NoMemory),
         Err(Refusal::Fault { .. }) => Err(refusal.into()),
     }

@@ -3,7 +3,7 @@
 use clap::{Arg, ArgAction, Command};
 use lift_host::request::{
     ALL, CALLS, CHANGES, CUT, FIRE, FROM, Following, JSON, LEFT, LIMITS, Name, PATHS, ROUND,
-    ROUNDS, SUMMARY, Showing, Simulating, TOGETHER, TRACE, UNTIL, WARN,
+    ROUNDS, SUMMARY, Showing, Simulating, TEXT, TOGETHER, TRACE, UNTIL, WARN,
 };
 use lift_host::serving::SYNC;
 use std::alloc::{AllocError, Global};
@@ -82,6 +82,12 @@ const PATHS_FLAG: Argument = Argument {
     name: PATHS,
     standing: Standing::Alone,
     help: "Shows lines of a path that follow one another as a range, as 144-247; not with --json",
+};
+
+const TEXT_FLAG: Argument = Argument {
+    name: TEXT,
+    standing: Standing::Alone,
+    help: "Also shows the text of each instruction; not with --json",
 };
 
 const JSON_FLAG: Argument = Argument {
@@ -226,7 +232,7 @@ static COMMANDS: [Row; 13] = [
     Row {
         name: Named::Of(Name::Show(Showing::Ranges)),
         about: "Shows the ranges that the verifier finds for each instruction of FILE",
-        arguments: &[FILE_WORD, JSON_FLAG],
+        arguments: &[FILE_WORD, TEXT_FLAG, JSON_FLAG],
     },
     Row {
         name: Named::Of(Name::Show(Showing::Xref)),

@@ -2,6 +2,7 @@
 use Rattle.std.specs.Prelude.{◌≡◌, ◌<◌, ◌⊎◌, ℕ, ◌+◌, ◌++◌, Bool, true, false, List, [], ◌∷◌, length, Option, Some, None, option_map, Ok, Err, IfOk, IsErrAnd, codes, decimal, string_bytes}
 use Rattle.il_spec.specs.declared.tree.Config.{Config}
 use Rattle.il_reports.specs.RangeTexts.{AreRangesShown}
+use Rattle.il_reports.specs.Sources.{shown_source}
 use Rattle.il_machine.specs.Scanning.{Program}
 use Rattle.lift_desk.specs.Passes.{Left}
 use Rattle.lift_draw.specs.declared.span.Span.{Span}
@@ -107,16 +108,17 @@ AreWarned (request.Trace command traced) program outcome = HasWarnings None outc
 
 -- WHAT A TEXT SHOWS
 
--- `ranges` prints what the verifier has found for each instruction; memory may be missing.
-abbrev pub IsRangesOutcome : Config → Outcome → Type 0
-IsRangesOutcome c (Ok output) = AreRangesShown c (bytes_of output)
-IsRangesOutcome c (Err fault.NoMemory) = Unit {0}
-IsRangesOutcome c (Err _) = ⊥
+-- `ranges` prints what the verifier has found for each instruction, with the instruction's text where `source` has that; memory may be missing.
+abbrev pub IsRangesOutcome : Option (List ℕ) → Config → Outcome → Type 0
+IsRangesOutcome source c (Ok output) = AreRangesShown source c (bytes_of output)
+IsRangesOutcome source c (Err fault.NoMemory) = Unit {0}
+IsRangesOutcome source c (Err _) = ⊥
 
--- `xref` prints where names are declared, read, written and called.
-abbrev pub IsShowOutcome : Showing → Program → Outcome → Type 0
-IsShowOutcome showing.Ranges program = IsRangesOutcome program.config
-IsShowOutcome showing.Xref program = IsPrinted (xref_text program.config)
+-- `ranges` prints that of the program of a text, `source`, with the texts of instructions where they are asked for; `xref` prints where names are
+-- declared, read, written and called.
+abbrev pub IsShowOutcome : Showing → Bool → List ℕ → Program → Outcome → Type 0
+IsShowOutcome showing.Ranges with_text source program = IsRangesOutcome (shown_source with_text source) program.config
+IsShowOutcome showing.Xref with_text source program = IsPrinted (xref_text program.config)
 
 -- WHAT DRIVES ROUNDS
 
@@ -431,6 +433,6 @@ IsToldOutcome (Some telling) traced program source trace outcome = IsTraceOutcom
 -- `--json`.
 abbrev pub IsProgramOutcome : Request → Program → List ℕ → Reading → Outcome → Type 0
 IsProgramOutcome (request.Check checked) program source other outcome = IsCheckOutcome checked program (length source) outcome
-IsProgramOutcome (request.Show command shown) program source other outcome = IsShowOutcome command program outcome
+IsProgramOutcome (request.Show command shown) program source other outcome = IsShowOutcome command shown.text source program outcome
 IsProgramOutcome (request.Rounds command asked) program source other outcome = IsRoundsOutcome command program asked other outcome
 IsProgramOutcome (request.Trace command traced) program source other outcome = IsToldOutcome (telling_of command traced) traced program source other outcome

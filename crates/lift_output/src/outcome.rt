@@ -34,7 +34,7 @@ use lift_host::calls::{CallsFault, CallsFile, read_calls};
 use lift_host::files::Reading;
 use lift_host::press::{Press, Set, Setting, fire_round, presses};
 use lift_host::request::{
-    Checked, Following, Name, Named, Request, Rounds, Showing, Simulating, Traced, Words,
+    Checked, Following, Name, Named, Request, Rounds, Showing, Shown, Simulating, Traced, Words,
 };
 use lift_host::status::{Fault, LineFault};
 use lift_journeys::lines::lines_text;
@@ -79,7 +79,7 @@ pub fn outcome(
 {
     match request {
         Request::Check(asked) => check_outcome(alloc, verified, asked, source.len()),
-        Request::Show(command, _) => shown(alloc, verified, command),
+        Request::Show(command, asked) => shown(alloc, verified, command, asked, source),
         Request::Rounds(command, asked) => rounds_outcome(alloc, verified, command, asked, other),
         Request::Trace(command, traced) => {
             told_outcome(alloc, verified, command, traced, source, other)
@@ -180,14 +180,20 @@ fn check_shown(
     Ok(text)
 }
 
-// What a command shows of a verified configuration.
-fn shown(alloc: Global, verified: Verified, command: Showing) -> Result<Output, Fault>
-    ensures is { IsShowOutcome command verified result }
+// What a command shows of the verified configuration of a text, `source`.
+fn shown(
+    alloc: Global,
+    verified: Verified,
+    command: Showing,
+    asked: Shown<'_>,
+    source: &[u8],
+) -> Result<Output, Fault>
+    ensures is { IsShowOutcome command asked.entry.text source.now verified result }
     ensures warned { HasWarnings None result }
     ensures unwritten { result ≢ Err Fault.CannotWrite }
 {
     let text = match command {
-        Showing::Ranges => ranges_text(alloc, verified.names()),
+        Showing::Ranges => ranges_text(alloc, verified.names(), asked.text, source),
         Showing::Xref => xref_text(alloc, verified.config()),
     };
     verified.release();

@@ -12,10 +12,10 @@ use Rattle.il_spec.specs.declared.tree.Step.{Step}
 use Rattle.il_spec.specs.declared.tree.Unit.{Unit as UnitOf}
 use Rattle.il_rules.specs.Names.{unit_named}
 use Rattle.il_table.specs.NameMap.{Text}
+use Rattle.il_reports.specs.Sources.{source_text}
 use Rattle.il_run.specs.declared.value.Content.{Content}
 use Rattle.il_run.specs.State.{Values, State}
 use Rattle.il_run.specs.Meaning.{under, member_path}
-use Rattle.lift_messages.specs.Places.{shown}
 use Rattle.lift_scan.specs.declared.before.Before.{Before}
 use Rattle.lift_scan.specs.declared.chosen.Lines.{Lines as LinesOf}
 use Rattle.lift_scan.specs.Stands.{StandOf, of_stand, stand_at, step_at, result_text, named_text, there_text, reference_text}
@@ -58,17 +58,6 @@ abbrev pub of_before : Before → Seen
 of_before b = record { stand = of_stand b.stand; caller = option_map of_stand b.caller; depth = b.depth; result = b.result; place = b.place }
 
 -- THE TEXT OF THE LINE
-
--- no end of a line
-abbrev pub is_within_line : ℕ → Bool
-is_within_line byte = if byte == 10 then false else true
-
--- what a line shows of the text from a place on: at most 60 bytes
-abbrev pub shown_front : List ℕ → List ℕ
-shown_front bytes = map shown (take (min 60 (prefix_len is_within_line bytes)) bytes)
-
-abbrev pub source_text : List ℕ → ℕ → List ℕ
-source_text source offset = shown_front (drop offset source)
 
 -- an output of a call, and the variable to which it goes
 abbrev pub output_text : Values → Text → Text → Text → Text → List ℕ

@@ -3,19 +3,16 @@
 ghost use Rattle.std.specs.Prelude.{◌≡◌, ◌≤◌, false, flat_map, length, map, option_copied, option_map, replicate, OnOk};
 ghost use Rattle.std.specs.List.{prefix_len, list_any};
 ghost use Rattle.base_texts.specs.Puts.{Puts};
-ghost use Rattle.lift_messages.specs.Places.{shown};
+ghost use Rattle.il_reports.specs.Sources.{source_text};
 ghost use Rattle.lift_scan.specs.Stands.{of_stand, reference_text};
-ghost use Rattle.lift_scan.specs.Lines.{is_within_line, shown_front, source_text, front_text, results_text, of_before, first_shown, rest_text, out_text, outs_text, output_text, argument_text, is_output_of, kept_text, outputs_text, arguments_text, operands_text, instruction_text, step_text, call_text, left_by, left_text, names_text, line_text};
+ghost use Rattle.lift_scan.specs.Lines.{front_text, results_text, of_before, first_shown, rest_text, out_text, outs_text, output_text, argument_text, is_output_of, kept_text, outputs_text, arguments_text, operands_text, instruction_text, step_text, call_text, left_by, left_text, names_text, line_text};
 
 use crate::before::Before;
 use crate::values::{put_member, put_member_there, put_reference, put_result, put_variable};
 use crate::view::{Stand, View};
+use il_reports::source::put_source;
 use il_spec::tree::{Argument, Instruction, Operand, Step};
-use lift_messages::place::shown;
 use std::alloc::{AllocError, Global};
-
-// The most bytes of a line that are shown.
-const MOST_BYTES: usize = 60;
 
 // The most of what a call hands over that are shown.
 const MOST_SHOWN: usize = 32;
@@ -66,44 +63,6 @@ fn put_blanks(text: &mut String, count: usize) -> Result<(), AllocError>
         text.push_str(" ")?;
     }
     Ok(())
-}
-
-// What is shown of the text from a place on.
-fn put_source(text: &mut String, source: &[u8], offset: usize) -> Result<(), AllocError>
-    ensures { OnOk result (Puts text.old text.new (source_text source.now offset)) }
-{
-    let (_, rest) = source.split_at(offset.min(source.len()));
-    put_first(text, rest)
-}
-
-// The front of a text, up to the end of its first line.
-fn put_first(text: &mut String, bytes: &[u8]) -> Result<(), AllocError>
-    ensures { OnOk result (Puts text.old text.new (shown_front bytes.now)) }
-{
-    let (front, _) = bytes.split_at(line_length(bytes).min(MOST_BYTES));
-    put_shown(text, front)
-}
-
-// Bytes as they are shown.
-fn put_shown(text: &mut String, bytes: &[u8]) -> Result<(), AllocError>
-    ensures { OnOk result (Puts text.old text.new (map shown bytes.now)) }
-{
-    'bytes: for byte in bytes {
-        text.push(char::from(shown(*byte)))?;
-    }
-    Ok(())
-}
-
-// How many bytes the first line has.
-fn line_length(bytes: &[u8]) -> usize
-    ensures is { result ≡ prefix_len is_within_line bytes.now }
-    ensures within { result ≤ length bytes.now }
-{
-    let mut length = 0;
-    'line: while length < bytes.len() && bytes[length] != b'\n' {
-        length += 1;
-    }
-    length
 }
 
 // What a step names: where it leaves a body, what goes out of that.

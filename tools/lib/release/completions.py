@@ -45,7 +45,10 @@ COMMANDS = (
             JSON,
         ),
     ),
-    Command("ranges", "Shows the ranges that the verifier finds for each instruction of FILE", "<FILE>", (JSON,)),
+    Command(
+        "ranges", "Shows the ranges that the verifier finds for each instruction of FILE", "<FILE>",
+        (Option("--text", "", "Also shows the text of each instruction; not with --json"), JSON),
+    ),
     Command("xref", "Shows where FILE declares, reads, writes and calls each name", "<FILE>", (JSON,)),
     Command("sim", "Runs FILE on a simulated plant and prints the trace", "<FILE> <ROUNDS> [PRESS]...", (FIRE, CALLS)),
     Command(

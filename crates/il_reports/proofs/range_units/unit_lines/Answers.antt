@@ -1,4 +1,4 @@
-use Rattle.std.proofs.Common.{◌++◌, refl, ap, ◌∙◌}
+use Rattle.std.proofs.Common.{◌++◌, option_map, refl, ap, ◌∙◌}
 use Rattle.std.specs.Prelude.{string_bytes}
 use Rattle.il_ranges.specs.Shown.{steps_text}
 use Rattle.il_reports.specs.RangeLines.{heading_text, refused_text, step_line}
@@ -9,8 +9,8 @@ pub returns : goal.returns
 returns c =
     let u = c.args.unit.now in
     let s = c.in_ok-found.ensures in
-    let steps = steps_text step_line u.body.steps s.0 in
-    let old = string_bytes c.args.before.text in (
+    let steps = steps_text (step_line (option_map (λ t. t.now) c.args.source)) u.body.steps s.0 in
+    let old = string_bytes c.args.before in (
       heading_text u ++ (steps ++ refused_text c.in_ok-found.found),
       c.in_ok-put_refused.ensures ∙ ap (λ l. l ++ refused_text c.in_ok-found.found) (s.2 ∙ ap (λ l. l ++ steps) c.in_ok-put_heading.ensures) ∙ parts_joined old (heading_text u) steps (refused_text c.in_ok-found.found),
       record { known = s.0; found = c.in_ok-found.found; are = s.1; is = refl },

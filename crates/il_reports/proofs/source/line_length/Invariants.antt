@@ -1,7 +1,7 @@
 use Rattle.std.proofs.Common.{◌≡◌, ◌≤◌, ◌+◌, ◌-◌, length, drop}
 use Rattle.std.specs.List.{prefix_len}
-use Rattle.lift_scan.specs.Lines.{is_within_line}
-use Rattle.lift_scan.proofs.line.line_length.Given as goal
+use Rattle.il_reports.specs.Sources.{is_within_line}
+use Rattle.il_reports.proofs.source.line_length.Given as goal
 
 abbrev pub invariant-line : goal.invariant-line
 invariant-line l = record {
