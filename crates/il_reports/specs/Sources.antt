@@ -1,18 +1,11 @@
 -- How the text of an instruction is shown, by `ranges --text` and by `scan` (own rules).
-use Rattle.std.specs.Prelude.{ℕ, ◌==◌, ◌&&◌, ◌||◌, min, Bool, true, false, List, ◌++◌, [], map, take, drop, nat_le, Option, Some, None, if◌then◌else◌, codes}
+use Rattle.std.specs.Prelude.{ℕ, ◌==◌, min, Bool, true, false, List, ◌++◌, [], map, take, drop, Option, Some, None, if◌then◌else◌, codes}
 use Rattle.std.specs.List.{prefix_len}
+use Rattle.base_shown.specs.Shown.{shown}
 
 -- no end of a line
 abbrev pub is_within_line : ℕ → Bool
 is_within_line byte = if byte == 10 then false else true
-
--- a blank as it is shown: a tab, and the carriage return at the end of a line
-abbrev pub is_blank : ℕ → Bool
-is_blank byte = byte == 9 || byte == 13
-
--- a byte as it is shown, in one column: `?` for one that can't be printed
-abbrev pub shown : ℕ → ℕ
-shown byte = if nat_le 32 byte && nat_le byte 126 then byte else if is_blank byte then 32 else 63
 
 -- what a line shows of the text from a place on: at most 60 bytes
 abbrev pub shown_front : List ℕ → List ℕ

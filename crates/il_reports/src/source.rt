@@ -1,10 +1,11 @@
 // The text of an instruction, as `ranges --text` and `scan` show it.
 
-ghost use Rattle.std.specs.Prelude.{◌≡◌, ◌≤◌, length, map, option_map, OnOk};
+ghost use Rattle.std.specs.Prelude.{◌≡◌, ◌≤◌, length, option_map, OnOk};
 ghost use Rattle.std.specs.List.{prefix_len};
 ghost use Rattle.base_texts.specs.Puts.{Puts};
-ghost use Rattle.il_reports.specs.Sources.{is_within_line, shown, shown_front, source_text, told_source};
+ghost use Rattle.il_reports.specs.Sources.{is_within_line, shown_front, source_text, told_source};
 
+use base_shown::shown::put_shown;
 use std::alloc::AllocError;
 
 // The most bytes of a line that are shown.
@@ -38,27 +39,6 @@ fn put_first(text: &mut String, bytes: &[u8]) -> Result<(), AllocError>
 {
     let (front, _) = bytes.split_at(line_length(bytes).min(MOST_BYTES));
     put_shown(text, front)
-}
-
-// Bytes as they are shown.
-fn put_shown(text: &mut String, bytes: &[u8]) -> Result<(), AllocError>
-    ensures { OnOk result (Puts text.old text.new (map shown bytes.now)) }
-{
-    'bytes: for byte in bytes {
-        text.push(char::from(shown(*byte)))?;
-    }
-    Ok(())
-}
-
-// A byte as it is shown: a blank for a tab and a carriage return, `?` for another that can't be printed.
-fn shown(byte: u8) -> u8
-    ensures { result ≡ shown byte }
-{
-    match byte {
-        b' '..=b'~' => byte,
-        b'\t' | b'\r' => b' ',
-        _ => b'?',
-    }
 }
 
 // How many bytes the first line has.

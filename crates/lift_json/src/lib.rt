@@ -5,4 +5,5 @@ pub mod form;
 pub mod lines;
 mod pieces;
 mod put;
+pub mod refusal;
 mod states;

@@ -1,6 +1,7 @@
 -- What is shown below a refusal (own rules).
 use Rattle.std.specs.Prelude.{◌≡◌, ◌⊎◌, Contains, ℕ, zero, suc, ◌+◌, ◌-◌, min, max, ◌&&◌, ◌||◌, ◌==◌, Bool, List, [], ◌∷◌, ◌++◌, length, map, take, drop, replicate, nat_le, nat_lt, if◌then◌else◌, codes, decimal}
 use Rattle.std.specs.List.{prefix_len}
+use Rattle.base_shown.specs.Shown.{shown}
 use Rattle.il_spec.specs.declared.tree.Place.{Place}
 use Rattle.il_spec.specs.Text.{is_literal_byte}
 use Rattle.lift_explain.specs.Explained.{numbers}
@@ -28,14 +29,6 @@ abbrev pub IsSource : List ℕ → ℕ → List ℕ → Type 0
 IsSource text line source = IsLineOf (line - 1) text source ⊎ ((source ≡ []) × ((other : List ℕ) → IsLineOf (line - 1) text other → ⊥))
 
 -- BYTES THAT ARE SHOWN
-
--- a blank as it is shown: a tab, and the carriage return at the end of a line
-abbrev pub is_blank : ℕ → Bool
-is_blank byte = byte == 9 || byte == 13
-
--- a byte as it is shown, in one column: `?` for one that can't be printed
-abbrev pub shown : ℕ → ℕ
-shown byte = if nat_le 32 byte && nat_le byte 126 then byte else if is_blank byte then 32 else 63
 
 -- a byte of a name as it is shown, by the one before it: `?` for a control character, of those from U+0080 to U+009F for its second byte
 abbrev pub name_byte : ℕ → ℕ → ℕ

@@ -1,8 +1,8 @@
 //! What a program prints, how it is shown on the two streams, and what stands below a fault.
 #![tactic(auto)]
 
-mod lines;
-mod mark;
+pub mod lines;
+pub mod mark;
 pub mod notice;
 pub mod output;
 pub mod place;

@@ -3,7 +3,8 @@
 ghost use Rattle.std.specs.Prelude.{◌≡◌, ◌≤◌, ◌++◌, length, map, drop, replicate, codes, OnOk};
 ghost use Rattle.std.specs.List.{prefix_len};
 ghost use Rattle.il_spec.specs.Text.{is_literal_byte};
-ghost use Rattle.lift_messages.specs.Places.{shown, left_out, around, marked, mark};
+ghost use Rattle.base_shown.specs.Shown.{shown};
+ghost use Rattle.lift_messages.specs.Places.{left_out, around, marked, mark};
 
 use crate::lines::Line;
 use crate::place::{put_quoted, put_shown};
@@ -50,8 +51,8 @@ fn left_out(front: usize) -> usize
     }
 }
 
-// How many bytes are marked.
-fn marked(back: &[u8]) -> usize
+/// How many bytes are marked: those of the word or the number at the front, but 1 at least and 32 at most.
+pub fn marked(back: &[u8]) -> usize
     ensures { result ≡ marked back.now }
 {
     word_length(back).min(MOST_MARKED).max(1)

@@ -1,10 +1,12 @@
 // The place of a fault, as it is shown below a refusal.
 
 ghost use Rattle.std.specs.Prelude.{◌≡◌, ◌++◌, ℕ, List, map, codes, IfOk, OnOk};
-ghost use Rattle.lift_messages.specs.Places.{IsTitle, IsMore, IsShownBelow, IsTextShownBelow, more_text, place_text, column_text, shown, shown_name, name_behind, name_byte, quoted};
+ghost use Rattle.base_shown.specs.Shown.{shown};
+ghost use Rattle.lift_messages.specs.Places.{IsTitle, IsMore, IsShownBelow, IsTextShownBelow, more_text, place_text, column_text, shown_name, name_behind, name_byte, quoted};
 
 use crate::lines::{line_around, line_at};
 use crate::mark::{put_line, put_mark};
+use base_shown::shown::shown;
 use il_spec::tree::Place;
 use itoa::Buffer;
 use lift_explain::title;
@@ -128,17 +130,6 @@ fn put_source(to: &mut Vec<u8>, source: &[u8]) -> Result<(), AllocError>
 {
     put_quoted(to, source)?;
     to.extend_from_slice(b"\n")
-}
-
-/// A byte as it is shown: a blank for a tab and a carriage return, `?` for another that can't be printed.
-pub fn shown(byte: u8) -> u8
-    ensures { result ≡ shown byte }
-{
-    match byte {
-        b' '..=b'~' => byte,
-        b'\t' | b'\r' => b' ',
-        _ => b'?',
-    }
 }
 
 /// The first bytes of a line or a word.

@@ -20,6 +20,7 @@ use Rattle.lift_host.specs.declared.status.Status.TheVariants as status
 use Rattle.lift_host.specs.Messages.{fault_of_reading, message_of, status_of, text_of, cause_sentence, scan_sentence}
 use Rattle.lift_host.specs.Requests.{Asks, BeginsWithDigit, name_of, with_flags}
 use Rattle.lift_help.specs.Helps.{ask_for_help}
+use Rattle.lift_json.specs.Refusals.{IsRefusalLine}
 use Rattle.lift_messages.specs.declared.output.Output.{Output}
 use Rattle.lift_messages.specs.Outputs.{Outcome, Warns, bytes_of, warnings_of}
 use Rattle.lift_host.specs.Writes.{AppendsFront, Writes}
@@ -113,11 +114,42 @@ span_sentence = codes "no rounds: A:B, A: or :B, a first and a last round from 1
 abbrev pub too_many_sentence : List ℕ
 too_many_sentence = codes "there are more than 1000 presses"
 
+-- whether a request asks for JSON
+abbrev pub asks_json : Request → Bool
+asks_json (request.Check checked) = checked.json
+asks_json (request.Show command shown) = shown.json
+asks_json (request.Rounds command rounds) = rounds.json
+asks_json (request.Trace command traced) = traced.json
+
+-- whether a fault is the refusal of FILE
+abbrev pub is_of_text : Fault → Bool
+is_of_text (fault.Misuse said) = false
+is_of_text (fault.RefusedText number place) = true
+is_of_text (fault.Refused number line) = false
+is_of_text (fault.BadPress word) = false
+is_of_text fault.TooManyPresses = false
+is_of_text (fault.BadFire word) = false
+is_of_text (fault.BadSpan word) = false
+is_of_text (fault.BadScan why word) = false
+is_of_text (fault.BadName name says) = false
+is_of_text (fault.CannotRead cause) = false
+is_of_text fault.CannotWrite = false
+is_of_text fault.NoMemory = false
+
+-- whether something is wanted below a fault: where faults are to be explained, and with `--json` below each refusal of FILE
+abbrev pub wants : Bool → Request → Fault → Bool
+wants wanted request f = wanted || (asks_json request && is_of_text f)
+
+-- below a refusal of FILE: JSON, where that is asked for
+abbrev pub IsTextBelow : Bool → List ℕ → List ℕ → ℕ → Place → List ℕ → List ℕ → Type 0
+IsTextBelow true name text number place reason below = IsRefusalLine name text number place reason below
+IsTextBelow false name text number place reason below = IsTextShownBelow name text number place reason below
+
 -- What stands below a fault: of a refusal its place, what the number means, its line as it was read, and of a text what is told of it; of the others the word or the file and what
 -- is wrong with it.
 abbrev pub IsFaultBelow : (List ℕ → ℕ → Place → List ℕ → Type 0) → Request → List ℕ → Reading → Fault → List ℕ → Type 0
 IsFaultBelow reasons request text trace (fault.Misuse said) below = below ≡ []
-IsFaultBelow reasons request text trace (fault.RefusedText number place) below = (reason : List ℕ) × reasons text number place reason × IsTextShownBelow (name_of request) text number place reason below
+IsFaultBelow reasons request text trace (fault.RefusedText number place) below = (reason : List ℕ) × reasons text number place reason × IsTextBelow (asks_json request) (name_of request) text number place reason below
 IsFaultBelow reasons request text trace (fault.Refused number line) below = IsShownBelow (other_source request text trace).0 (other_source request text trace).1 number line below
 IsFaultBelow reasons request text trace (fault.BadPress word) below = (late : Bool) × (IsTrue late ↔ IsLateName request (string_bytes word)) × (below ≡ word_notice (string_bytes word) (press_sentence late))
 IsFaultBelow reasons request text trace fault.TooManyPresses below = below ≡ plain_notice too_many_sentence
@@ -136,9 +168,9 @@ pub data IsExplained (wanted : Bool) (Below : List ℕ → Type 0) (f told : Fau
   no_memory : wanted ≡ true → told ≡ fault.NoMemory → below ≡ [] → IsExplained wanted Below f told below
 
 -- an outcome with what stands below it: nothing below an output
-abbrev pub IsOutcomeExplained : Bool → (Fault → List ℕ → Type 0) → Outcome → Outcome → List ℕ → Type 0
+abbrev pub IsOutcomeExplained : (Fault → Bool) → (Fault → List ℕ → Type 0) → Outcome → Outcome → List ℕ → Type 0
 IsOutcomeExplained wanted Below (Ok output) outcome below = (outcome ≡ Ok output) × (below ≡ [])
-IsOutcomeExplained wanted Below (Err f) outcome below = (told : Fault) × (outcome ≡ Err told) × IsExplained wanted (Below f) f told below
+IsOutcomeExplained wanted Below (Err f) outcome below = (told : Fault) × (outcome ≡ Err told) × IsExplained (wanted f) (Below f) f told below
 
 -- below a FILE that can't be read, its name and why
 abbrev pub IsUnreadBelow : List ℕ → ReadFault → List ℕ → Type 0
@@ -181,9 +213,9 @@ IsOtherRead reads fails (request.Trace command traced) (Failed why) = IsTraceFau
 -- A request has the outcome that its command gives of the text of its file and of its other file, each read once; what stands below its fault is
 -- of these readings. The file may have no text.
 pub data IsFileAnswer (reads : List ℕ → ℕ → List ℕ → Type 0) (fails : List ℕ → ℕ → ReadFault → Type 0) (gives : Request → List ℕ → Reading → Outcome → Type 0) (reasons : List ℕ → ℕ → Place → List ℕ → Type 0) (wanted : Bool) (request : Request) (outcome : Outcome) (below : List ℕ) : Type 0 where
-  unread : (why : ReadFault) → fails (name_of request) most_bytes why → IsOutcomeExplained wanted (λ _. IsUnreadBelow (name_of request) why) (Err (fault_of_reading why)) outcome below → IsFileAnswer reads fails gives reasons wanted request outcome below
+  unread : (why : ReadFault) → fails (name_of request) most_bytes why → IsOutcomeExplained (λ _. wanted) (λ _. IsUnreadBelow (name_of request) why) (Err (fault_of_reading why)) outcome below → IsFileAnswer reads fails gives reasons wanted request outcome below
   read : (text : List ℕ) → reads (name_of request) most_bytes text → (trace : Reading) → IsOtherRead reads fails request trace → (given : Outcome) → gives request text trace given
-      → IsOutcomeExplained wanted (IsFaultBelow reasons request text trace) given outcome below → IsFileAnswer reads fails gives reasons wanted request outcome below
+      → IsOutcomeExplained (wants wanted request) (IsFaultBelow reasons request text trace) given outcome below → IsFileAnswer reads fails gives reasons wanted request outcome below
 
 -- Words have the answer of their request, where they ask for one.
 pub data IsAnswer (reads : List ℕ → ℕ → List ℕ → Type 0) (fails : List ℕ → ℕ → ReadFault → Type 0) (gives : Request → List ℕ → Reading → Outcome → Type 0) (reasons : List ℕ → ℕ → Place → List ℕ → Type 0) (wanted : Bool) (words : List (List ℕ)) (flags : Flags) (outcome : Outcome) (below : List ℕ) : Type 0 where

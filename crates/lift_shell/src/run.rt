@@ -3,9 +3,9 @@
 ghost use Rattle.std.specs.Prelude.{◌≡◌, ◌≢◌, ◌||◌, ◌↔◌, ℕ, List, [], Bool, Err, IfSome, IsNone, IfOk, IfErr, IsTrue, true, false, map, option_map, string_bytes};
 ghost use Rattle.lift_host.specs.Messages.{fault_of_reading};
 ghost use Rattle.lift_host.specs.Requests.{name_of};
-ghost use Rattle.lift_shell.specs.Runs.{AskForRun, IsForRun, IsAnswerOf, IsFileAnswer, IsCallsRead, IsWordsOutcome, IsOtherRead, IsTraceText, IsTraceFault, IsExplained, IsOutcomeExplained, IsFaultBelow, IsUnreadBelow, IsLateName, HasPrinted, written, most_bytes, most_calls_bytes, most_trace_bytes, runs, other_source, other_of, other_name, press_sentence};
+ghost use Rattle.lift_shell.specs.Runs.{AskForRun, IsForRun, IsAnswerOf, IsFileAnswer, IsCallsRead, IsWordsOutcome, IsOtherRead, IsTraceText, IsTraceFault, IsExplained, IsOutcomeExplained, IsFaultBelow, IsTextBelow, IsUnreadBelow, asks_json, is_of_text, wants, IsLateName, HasPrinted, written, most_bytes, most_calls_bytes, most_trace_bytes, runs, other_source, other_of, other_name, press_sentence};
 ghost use Rattle.lift_messages.specs.Notices.{word_notice};
-ghost use Rattle.lift_messages.specs.Places.{IsShownBelow, IsTextShownBelow};
+ghost use Rattle.lift_messages.specs.Places.{IsShownBelow};
 
 use crate::commands::{Commands, runs};
 use crate::cut::complete;
@@ -17,6 +17,7 @@ use lift_host::files::{ReadFault, Reading, TextFiles};
 use lift_host::request::{Plain, Request, Rounds, Simulating, Traced, asked, is_number};
 use lift_host::sink::Sink;
 use lift_host::status::{Fault, Status};
+use lift_json::refusal::refusal_line;
 use lift_messages::notice::{file_notice, plain_notice, word_notice};
 use lift_messages::output::Output;
 use lift_messages::place::{below, text_below};
@@ -230,7 +231,7 @@ fn with_below<C: Commands>(
     outcome: Result<Output, Fault>,
     wanted: bool,
 ) -> Answered
-    ensures is { IsOutcomeExplained wanted
+    ensures is { IsOutcomeExplained (wants wanted request.entry)
         (IsFaultBelow (C.reasons commands.now) request.entry texts.now.text.items
         texts.now.trace) outcome result.outcome
         result.below.items }
@@ -262,7 +263,7 @@ impl From<Explained> for Answered {
 
 // The answer where FILE can't be read.
 fn unread_answer(alloc: Global, request: Request<'_>, why: ReadFault, wanted: bool) -> Answered
-    ensures is { IsOutcomeExplained wanted (λ _. IsUnreadBelow (name_of request.entry) why)
+    ensures is { IsOutcomeExplained (λ _. wanted) (λ _. IsUnreadBelow (name_of request.entry) why)
         (Err (fault_of_reading why)) result.outcome result.below.items }
     ensures unwritten { result.outcome ≢ Err Fault.CannotWrite }
 {
@@ -324,10 +325,11 @@ fn fault_explained<C: Commands>(
     fault: Fault,
     wanted: bool,
 ) -> Explained
-    ensures { IsExplained wanted (IsFaultBelow (C.reasons commands.now) request.entry
-        texts.now.text.items texts.now.trace fault) fault result.fault result.below.items }
+    ensures { IsExplained (wants wanted request.entry fault)
+        (IsFaultBelow (C.reasons commands.now) request.entry texts.now.text.items
+        texts.now.trace fault) fault result.fault result.below.items }
 {
-    if !wanted {
+    if !wants(wanted, request, &fault) {
         return Explained::alone(alloc, fault);
     }
     match fault_below(alloc, request, texts, commands, &fault) {
@@ -399,10 +401,41 @@ fn reasoned_below<C: Commands>(
 ) -> Result<Vec<u8>, AllocError>
     ensures { IfOk result (λ below. (reason : List ℕ)
         × C.reasons commands.now text.now number place reason
-        × IsTextShownBelow (name_of request.entry) text.now number place reason below.items) }
+        × IsTextBelow (asks_json request.entry) (name_of request.entry) text.now number place
+        reason below.items) }
 {
     let reason = commands.reason(alloc, text, number, place)?;
-    text_below(alloc, request.file(), text, number, place, &reason)
+    if asks_json(request) {
+        refusal_line(alloc, request.file(), text, number, place, &reason)
+    } else {
+        text_below(alloc, request.file(), text, number, place, &reason)
+    }
+}
+
+// Whether something is wanted below a fault: where faults are to be explained, and with `--json` below each refusal of FILE.
+fn wants(wanted: bool, request: Request<'_>, fault: &Fault) -> bool
+    ensures { result ≡ wants wanted request.entry fault.now }
+{
+    wanted || (asks_json(request) && is_of_text(fault))
+}
+
+// Whether a request asks for JSON.
+fn asks_json(request: Request<'_>) -> bool
+    ensures { result ≡ asks_json request.entry }
+{
+    match request {
+        Request::Check(checked) => checked.json,
+        Request::Show(_, shown) => shown.json,
+        Request::Rounds(_, rounds) => rounds.json,
+        Request::Trace(_, traced) => traced.json,
+    }
+}
+
+// Whether a fault is the refusal of FILE.
+fn is_of_text(fault: &Fault) -> bool
+    ensures { result ≡ is_of_text fault.now }
+{
+    matches!(fault, Fault::RefusedText { .. })
 }
 
 // The line of a refusal of the other file in what was read, and what its number means.

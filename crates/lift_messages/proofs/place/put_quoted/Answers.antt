@@ -1,5 +1,5 @@
 use Rattle.std.proofs.Common.{◌++◌, map, ap, ◌∙◌}
-use Rattle.lift_messages.specs.Places.{shown}
+use Rattle.base_shown.specs.Shown.{shown}
 use Rattle.lift_messages.proofs.Splitting.{first_bytes}
 use Rattle.lift_messages.proofs.place.put_quoted.Goals as goal
 

@@ -1,5 +1,5 @@
 use Rattle.std.proofs.Common.{◌≡◌, ◌++◌, map, take}
-use Rattle.lift_messages.specs.Places.{shown}
+use Rattle.base_shown.specs.Shown.{shown}
 use Rattle.lift_messages.proofs.place.put_shown.Given as goal
 
 -- the bytes so far
