@@ -3,9 +3,11 @@ use Rattle.std.proofs.Common.{◌≡◌, ℕ, ◌+◌, ◌<◌, ◌≤◌, List,
 use Rattle.std.proofs.lemmas.Option.{slice_get-get_or}
 use Rattle.std.proofs.lemmas.List.{map-append, length-map}
 use Rattle.il_spec.specs.declared.token.Token.{Token}
+use Rattle.il_spec.specs.declared.tree.Place.{Place}
 use Rattle.il_reasons.specs.declared.expected.Expected.{Expected}
 use Rattle.il_reasons.specs.ExpectedKinds.{ExpectedKind, kind_of, expected_kinds}
 use Rattle.il_reasons.specs.LeftOut.{left_out_lines}
+use Rattle.il_reasons.specs.Parentheses.{open_lines}
 use Rattle.il_reasons.specs.TokenReasons.{IsOfLanguage, going_on, CanStand, CanStandOf, token_at, found_line, expected_line, AreToldOfToken, AddsKind}
 use Rattle.il_name_reasons.proofs.TypeTexts.{take_next}
 
@@ -60,16 +62,17 @@ one_more_row text offset kinds new all i any low (inr added) few can =
 pub stands : (text : List ℕ) (offset : ℕ) (kind : ExpectedKind) (rest whole : List ℕ) → whole ≡ going_on text offset kind rest → (kind.sample ≡ [] → rest ≡ []) → IsOfLanguage whole → CanStand text offset kind
 stands text offset kind rest whole is ends spelled = record { rest = rest; spelled = subst IsOfLanguage is spelled; ends = ends }
 
--- what is told of a token: what stands there, then the kinds, and what is left out
-pub all_told : (text : List ℕ) (tokens : List Token) (offset : ℕ) (rows shown : List Expected) (start found kinds lines : List ℕ) → shown ≡ rows → length rows ≤ 8 → CanStandOf text offset (map kind_of rows) expected_kinds
-    → start ≡ [] → found ≡ start ++ found_line text offset (token_at offset tokens) → kinds ≡ found ++ expected_line (map kind_of shown)
-    → lines ≡ kinds ++ left_out_lines text tokens (token_at offset tokens) offset → AreToldOfToken text tokens offset lines
-all_told text tokens offset rows shown start found kinds lines same few can empty first last out =
+-- what is told of a token: what stands there, then the kinds, what is left out, and what is open
+pub all_told : (text : List ℕ) (tokens : List Token) (place : Place) (rows shown : List Expected) (start found kinds out lines : List ℕ) → shown ≡ rows → length rows ≤ 8 → CanStandOf text place.offset (map kind_of rows) expected_kinds
+    → start ≡ [] → found ≡ start ++ found_line text place.offset (token_at place.offset tokens) → kinds ≡ found ++ expected_line (map kind_of shown)
+    → out ≡ kinds ++ left_out_lines text tokens (token_at place.offset tokens) place.offset → lines ≡ out ++ open_lines tokens place → AreToldOfToken text tokens place lines
+all_told text tokens place rows shown start found kinds out lines same few can empty first last left open =
     record {
       kinds = map kind_of rows;
       few = subst (λ n. n ≤ 8) (sym (length-map rows kind_of)) few;
       can = can;
-      are = out ∙ ap (λ l. l ++ left_out_lines text tokens (token_at offset tokens) offset)
+      are = open ∙ ap (λ l. l ++ open_lines tokens place)
+          (left ∙ ap (λ l. l ++ left_out_lines text tokens (token_at place.offset tokens) place.offset)
           (last ∙ ap (λ (ks : List Expected). found ++ expected_line (map kind_of ks)) same
-          ∙ ap (λ l. l ++ expected_line (map kind_of rows)) (first ∙ ap (λ l. l ++ found_line text offset (token_at offset tokens)) empty));
+          ∙ ap (λ l. l ++ expected_line (map kind_of rows)) (first ∙ ap (λ l. l ++ found_line text place.offset (token_at place.offset tokens)) empty)));
     }

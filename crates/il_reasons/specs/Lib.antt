@@ -7,3 +7,5 @@ pub mod TokenReasons
 pub mod TreeReasons
 pub mod TaskReasons
 pub mod LeftOut
+pub mod LimitReasons
+pub mod Parentheses

@@ -4,6 +4,7 @@ use Rattle.il_spec.specs.declared.token.Kind.{Kind}
 use Rattle.il_spec.specs.declared.token.Kind.TheVariants.{LineEnd, Word}
 use Rattle.il_spec.specs.declared.token.Token.{Token}
 use Rattle.il_spec.specs.declared.tree.Config.{Config}
+use Rattle.il_spec.specs.declared.tree.Place.{Place}
 use Rattle.il_spec.specs.declared.keyword.Keyword.{Keyword}
 use Rattle.il_spec.specs.Text.{name_of}
 use Rattle.il_spec.specs.Words.{keyword_of}
@@ -11,6 +12,7 @@ use Rattle.il_spec.specs.Grammar.{Spells}
 use Rattle.il_reasons.specs.declared.expected.Expected.{Expected}
 use Rattle.il_reasons.specs.ExpectedKinds.{ExpectedKind, kind_of, expected_kinds}
 use Rattle.il_reasons.specs.LeftOut.{left_out_lines}
+use Rattle.il_reasons.specs.Parentheses.{open_lines}
 
 -- a text of the language
 abbrev pub IsOfLanguage : List ℕ → Type 0
@@ -63,13 +65,13 @@ abbrev pub expected_line : List ExpectedKind → List ℕ
 expected_line [] = []
 expected_line (kind ∷ kinds) = codes "there could stand: " ++ kind.words ++ (other_words kinds ++ codes "\n")
 
--- What is told of the token at a place of a text with these tokens: what stands there, at most eight kinds that can stand there, and what the
--- language leaves out.
-pub record AreToldOfToken (text : List ℕ) (tokens : List Token) (offset : ℕ) (lines : List ℕ) : Type 0 where
+-- What is told of the token at a place of a text with these tokens: what stands there, at most eight kinds that can stand there, what the
+-- language leaves out, and a parenthesis that is open.
+pub record AreToldOfToken (text : List ℕ) (tokens : List Token) (place : Place) (lines : List ℕ) : Type 0 where
   pub kinds : List ExpectedKind
   pub few : length kinds ≤ 8
-  pub can : CanStandOf text offset kinds expected_kinds
-  pub are : lines ≡ (found_line text offset (token_at offset tokens) ++ expected_line kinds) ++ left_out_lines text tokens (token_at offset tokens) offset
+  pub can : CanStandOf text place.offset kinds expected_kinds
+  pub are : lines ≡ ((found_line text place.offset (token_at place.offset tokens) ++ expected_line kinds) ++ left_out_lines text tokens (token_at place.offset tokens) place.offset) ++ open_lines tokens place
 
 -- AS THE CODE FINDS THEM
 

@@ -15,6 +15,7 @@ use Rattle.il_name_reasons.specs.NamesUnknown.{instruction_text, unknown_lines}
 use Rattle.il_type_reasons.specs.ResultReasons.{IsResultToldIf}
 use Rattle.il_type_reasons.specs.TypeReasons.{is_type_number, type_lines}
 use Rattle.il_type_reasons.specs.WrittenReasons.{misplaced_lines}
+use Rattle.il_reasons.specs.LimitReasons.{limit_lines, slots_line}
 use Rattle.il_reasons.specs.TaskReasons.{bad_task_lines, sizes_lines, backward_line}
 
 -- of the names of an instruction
@@ -41,11 +42,13 @@ step_lines c unit number offset step = if step.place.offset == offset then instr
 abbrev pub unit_lines : Config → ℕ → ℕ → ProgramUnit → List ℕ
 unit_lines c number offset unit = flat_map (step_lines c unit number offset) unit.body.steps
 
--- of what is declared at a place: a name again, the name of no type or global, a size, a task, an initial value or a type
+-- of what is declared at a place: too many slots, a name again, the name of no type or global, limits, a size, a task, an initial value or a type
 unfoldable pub place_lines : Config → ℕ → Place → List ℕ
 place_lines c number place =
-    if number == 20 then again_lines c place
+    if number == 12 then slots_line
+    else if number == 20 then again_lines c place
     else if number == 21 then unknown_lines c place
+    else if number == 22 then limit_lines c place.offset
     else if number == 23 then sizes_lines c place.offset
     else if number == 24 then bad_task_lines c place.offset
     else if number == 25 then initials_lines c place.offset ++ misplaced_lines c place.offset else []

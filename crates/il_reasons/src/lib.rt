@@ -6,6 +6,7 @@ ghost use Rattle.il_spec.specs.Grammar.{Spells};
 ghost use Rattle.il_spec.specs.Text.{AreTokens};
 ghost use Rattle.il_parse.specs.Refused.{IsFault};
 ghost use Rattle.lift_load.specs.Loading.{SpellsNone};
+ghost use Rattle.il_reasons.specs.LimitReasons.{size_line};
 ghost use Rattle.il_reasons.specs.Reasons.{IsReason, AreTold, left_out_of, is_of_ranges, is_of_chains, is_of_costs};
 
 mod chain_search;
@@ -15,6 +16,8 @@ mod costs;
 mod expected;
 mod expected_search;
 mod left_out;
+mod limits;
+mod parentheses;
 mod tasks;
 mod tree;
 mod unexpected;
@@ -62,9 +65,25 @@ fn unspelled(alloc: Global, text: &[u8], number: u16, place: Place) -> Result<Ve
         token_told(alloc, text, number, place)
     } else if number == 1 {
         byte_told(alloc, text, number, place)
+    } else if number == 12 {
+        size_told(alloc, text, number, place)
     } else {
         Ok(Vec::new(alloc))
     }
+}
+
+// What is told of a text with too many units, or of a unit with too many instructions.
+#[tactic(auto, unfolding(crate::specs::LimitReasons::size_line))]
+fn size_told(alloc: Global, text: &[u8], number: u16, place: Place) -> Result<Vec<u8>, AllocError>
+    requires spelled { SpellsNone text.now }
+    requires number { number ≡ 12 }
+    ensures { IfOk result (λ lines. IsReason text.now number place lines.items) }
+{
+    let mut lines = Vec::new(alloc);
+    lines.extend_from_slice(
+        b"a unit has at most 4096 instructions, and a text at most 64 units\n",
+    )?;
+    Ok(lines)
 }
 
 // What is told of a byte that has no place in a text.
@@ -86,7 +105,7 @@ fn token_told(alloc: Global, text: &[u8], number: u16, place: Place) -> Result<V
     ensures { IfOk result (λ lines. IsReason text.now number place lines.items) }
 {
     match tokens(alloc, text) {
-        Ok(tokens) => unexpected::told(alloc, text, &tokens, place.offset),
+        Ok(tokens) => unexpected::told(alloc, text, &tokens, place),
         Err(Refusal::Memory) => Err(AllocError),
         Err(Refusal::Fault { .. }) => Ok(Vec::new(alloc)),
     }

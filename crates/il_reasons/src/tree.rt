@@ -12,6 +12,7 @@ ghost use Rattle.il_reasons.specs.TaskReasons.{backward_line};
 ghost use Rattle.il_reasons.specs.TreeReasons.{named_lines, instruction_lines, step_lines, unit_lines, place_lines, AreToldOfTree};
 ghost use Rattle.il_type_reasons.specs.WrittenReasons.{misplaced_lines};
 
+use crate::limits::{put_limits_at, put_slots};
 use crate::tasks::{put_bad_task, put_sizes};
 use il_name_reasons::names_again::put_again_at;
 use il_name_reasons::names_labels::put_jump;
@@ -30,7 +31,7 @@ use std::alloc::{AllocError, Global};
 /// What is told of a fault that the tree shows: lines, each with its line feed, or none (own rule). Of 30, 31 and 32 the type that the
 /// current result has and the one that it must have, and the operands with their types, of 37 the arguments and what is taken, of 25
 /// in an instruction the names of another kind, and at an initial value or a type the declared names with their types, of 33 and 38 the
-/// targets, of 23 the limits of a size, of 24 what is wrong with the tasks, and of 35 that there are no loops. Of an unknown name (21)
+/// targets, of 12 how many slots there may be, of 22 the limits that are none, of 23 the limits of a size, of 24 what is wrong with the tasks, and of 35 that there are no loops. Of an unknown name (21)
 /// and of a label that does not stand in its unit (34) there is a line.
 pub(crate) fn told(
     alloc: Global,
@@ -69,8 +70,10 @@ fn put_declared(
     ensures { OnOk result (Puts text.old text.new (place_lines names.now number place)) }
 {
     match number {
+        12 => put_slots(text),
         20 => put_again_at(alloc, text, names, place),
         21 => put_unknown_at(alloc, text, names, place),
+        22 => put_limits_at(text, names.config(), place.offset),
         23 => put_sizes(text, names.config(), place.offset),
         24 => put_bad_task(text, names, place.offset),
         25 => put_of_other_type(text, names.config(), place.offset),

@@ -10,10 +10,12 @@ ghost use Rattle.il_reasons.specs.TokenReasons.{IsOfLanguage, CanStand, CanStand
 use crate::expected::{Expected, kinds};
 use crate::expected_search::Search;
 use crate::left_out::{put_named, put_words, token_before};
+use crate::parentheses::put_open;
 use crate::spelled;
 use il_read::{Source, keyword_of};
 use il_spec::fault::Refusal;
 use il_spec::token::{Kind, Token};
+use il_spec::tree::Place;
 use std::alloc::{AllocError, Global};
 
 // How many kinds are told at most.
@@ -399,20 +401,21 @@ pub(crate) fn put_named_at(
 }
 
 /// What is told of a token with which no text of the language goes on (own rule): what stands there, at most eight kinds that
-/// can stand there, each with some rest behind it, and what the language leaves out.
+/// can stand there, each with some rest behind it, what the language leaves out, and a parenthesis that is open.
 pub(crate) fn told(
     alloc: Global,
     text: &[u8],
     tokens: &[Token],
-    offset: u32,
+    place: Place,
 ) -> Result<Vec<u8>, AllocError>
     requires { AreTokens text.now 0 tokens.now }
-    ensures { IfOk result (λ lines. AreToldOfToken text.now tokens.now offset lines.items) }
+    ensures { IfOk result (λ lines. AreToldOfToken text.now tokens.now place lines.items) }
 {
-    let kinds = kinds_at(alloc, text, tokens, offset as usize)?;
+    let kinds = kinds_at(alloc, text, tokens, place.offset as usize)?;
     let mut lines = Vec::new(alloc);
-    put_found(alloc, &mut lines, text, tokens, offset)?;
+    put_found(alloc, &mut lines, text, tokens, place.offset)?;
     put_expected(&mut lines, &kinds)?;
-    put_left_out(alloc, &mut lines, text, tokens, offset)?;
+    put_left_out(alloc, &mut lines, text, tokens, place.offset)?;
+    put_open(alloc, &mut lines, tokens, place)?;
     Ok(lines)
 }
