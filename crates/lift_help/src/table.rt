@@ -93,7 +93,7 @@ const TEXT_FLAG: Argument = Argument {
 const JSON_FLAG: Argument = Argument {
     name: JSON,
     standing: Standing::Alone,
-    help: "Prints JSON, an object a line; docs/COMMANDS.md has the keys",
+    help: "Prints JSON, an object a line, and one below a refusal; docs/COMMANDS.md has the keys",
 };
 
 const ROUNDS_WORD: Argument = Argument {
