@@ -32,7 +32,7 @@ class Command:
 FIRE = Option("--fire", "ROUND", "From this round on, fire recall is on")
 CALLS = Option("--calls", "CALLS", "Also makes the calls of the file CALLS, and sets FIRE and RUNLIMIT as it says; docs/COMMANDS.md has its lines")
 CUT = Option("--cut", "", "Takes a trace that was cut off, up to its last whole line")
-JSON = Option("--json", "", "Prints JSON, an object a line; docs/COMMANDS.md has the keys")
+JSON = Option("--json", "", "Prints JSON, an object a line, and one below a refusal; docs/COMMANDS.md has the keys")
 EXPLAIN = Option("--explain", "", "Shows below a fault its line and what it means")  # with every command; `liftplc help` names it in a sentence
 HELP = Option("--help", "", "Print help")
 COMMANDS = (
