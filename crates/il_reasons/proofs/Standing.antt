@@ -66,12 +66,12 @@ stands text offset kind rest whole is ends spelled = record { rest = rest; spell
 pub all_told : (text : List ℕ) (tokens : List Token) (place : Place) (rows shown : List Expected) (start found kinds out lines : List ℕ) → shown ≡ rows → length rows ≤ 8 → CanStandOf text place.offset (map kind_of rows) expected_kinds
     → start ≡ [] → found ≡ start ++ found_line text place.offset (token_at place.offset tokens) → kinds ≡ found ++ expected_line (map kind_of shown)
     → out ≡ kinds ++ left_out_lines text tokens (token_at place.offset tokens) place.offset → lines ≡ out ++ open_lines tokens place → AreToldOfToken text tokens place lines
-all_told text tokens place rows shown start found kinds out lines same few can empty first last left open =
+all_told text tokens place rows shown start found kinds out lines same few can empty first last left more =
     record {
       kinds = map kind_of rows;
       few = subst (λ n. n ≤ 8) (sym (length-map rows kind_of)) few;
       can = can;
-      are = open ∙ ap (λ l. l ++ open_lines tokens place)
+      are = more ∙ ap (λ l. l ++ open_lines tokens place)
           (left ∙ ap (λ l. l ++ left_out_lines text tokens (token_at place.offset tokens) place.offset)
           (last ∙ ap (λ (ks : List Expected). found ++ expected_line (map kind_of ks)) same
           ∙ ap (λ l. l ++ expected_line (map kind_of rows)) (first ∙ ap (λ l. l ++ found_line text place.offset (token_at place.offset tokens)) empty)));

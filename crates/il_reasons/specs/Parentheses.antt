@@ -9,37 +9,37 @@ use Rattle.il_spec.specs.declared.tree.Place.{Place}
 
 -- the parentheses that are open, the innermost one last: one more, or one less
 abbrev pub open_after_sign : List Token → Token → Sign → List Token
-open_after_sign open t Assign = open
-open_after_sign open t Arrow = open
-open_after_sign open t Range = open
-open_after_sign open t Colon = open
-open_after_sign open t Semicolon = open
-open_after_sign open t Comma = open
-open_after_sign open t OpenParenthesis = open ++ t ∷ []
-open_after_sign open t CloseParenthesis = take (length open - 1) open
-open_after_sign open t OpenBracket = open
-open_after_sign open t CloseBracket = open
-open_after_sign open t Dot = open
-open_after_sign open t Ampersand = open
+open_after_sign stack t Assign = stack
+open_after_sign stack t Arrow = stack
+open_after_sign stack t Range = stack
+open_after_sign stack t Colon = stack
+open_after_sign stack t Semicolon = stack
+open_after_sign stack t Comma = stack
+open_after_sign stack t OpenParenthesis = stack ++ t ∷ []
+open_after_sign stack t CloseParenthesis = take (length stack - 1) stack
+open_after_sign stack t OpenBracket = stack
+open_after_sign stack t CloseBracket = stack
+open_after_sign stack t Dot = stack
+open_after_sign stack t Ampersand = stack
 
 abbrev pub open_after_kind : List Token → Token → Kind → List Token
-open_after_kind open t Word = open
-open_after_kind open t (Number n) = open
-open_after_kind open t (Typed literal) = open
-open_after_kind open t (OfSign sign) = open_after_sign open t sign
-open_after_kind open t LineEnd = open
+open_after_kind stack t Word = stack
+open_after_kind stack t (Number n) = stack
+open_after_kind stack t (Typed literal) = stack
+open_after_kind stack t (OfSign sign) = open_after_sign stack t sign
+open_after_kind stack t LineEnd = stack
 
 -- those that are open after a token
 abbrev pub open_after : List Token → Token → List Token
-open_after open t = open_after_kind open t t.kind
+open_after stack t = open_after_kind stack t t.kind
 
 -- those that are open before the token at a place, with some before these tokens
 abbrev pub open_from : List Token → ℕ → List Token → List Token
-open_from open offset [] = open
-open_from open offset (t ∷ ts) = if nat_le offset t.start then open else open_from (open_after open t) offset ts
+open_from stack offset [] = stack
+open_from stack offset (t ∷ ts) = if nat_le offset t.start then stack else open_from (open_after stack t) offset ts
 
 abbrev pub last_of : List Token → Option Token
-last_of open = slice_get open (length open - 1)
+last_of stack = slice_get stack (length stack - 1)
 
 -- the innermost one
 abbrev pub open_at : ℕ → List Token → Option Token

@@ -128,11 +128,7 @@ fn put_form(text: &mut String, form: &Form) -> Result<(), AllocError>
 }
 
 // The same of a type at a place.
-fn put_declared(
-    text: &mut String,
-    offset: u32,
-    declaration: &Declaration,
-) -> Result<(), AllocError>
+fn put_declared(text: &mut String, offset: u32, declaration: &Declaration) -> Result<(), AllocError>
     ensures { OnOk result (Puts text.old text.new (declared_lines offset declaration.now)) }
 {
     if declaration.declared.place.offset == offset {
@@ -202,5 +198,8 @@ pub(crate) fn put_limits_at(
 pub(crate) fn put_slots(text: &mut String) -> Result<(), AllocError>
     ensures { OnOk result (Puts text.old text.new slots_line) }
 {
-    put(text, "a task has at most 4096 slots, and so have the globals\n")
+    put(
+        text,
+        "a task has at most 4096 slots, and so have the globals\n",
+    )
 }

@@ -9,36 +9,36 @@ use std::alloc::{AllocError, Global};
 
 // The innermost parenthesis that is open before the token at a place.
 fn open_at(alloc: Global, tokens: &[Token], offset: u32) -> Result<Option<Token>, AllocError>
-    ensures { IfOk result (λ open. open ≡ open_at offset tokens.now) }
+    ensures { IfOk result (λ found. found ≡ open_at offset tokens.now) }
 {
-    let mut open = Vec::new(alloc);
+    let mut stack = Vec::new(alloc);
     'tokens: for token in tokens {
         if offset <= token.start {
-            return Ok(last_of(&open));
+            return Ok(last_of(&stack));
         }
-        follow(&mut open, token)?;
+        follow(&mut stack, token)?;
     }
-    Ok(last_of(&open))
+    Ok(last_of(&stack))
 }
 
 // The parentheses that are open after a token.
-fn follow(open: &mut Vec<Token>, token: &Token) -> Result<(), AllocError>
-    ensures { OnOk result (open.new.items ≡ open_after open.old.items token.now) }
+fn follow(stack: &mut Vec<Token>, token: &Token) -> Result<(), AllocError>
+    ensures { OnOk result (stack.new.items ≡ open_after stack.old.items token.now) }
 {
     match token.kind {
-        Kind::Sign(Sign::OpenParenthesis) => open.push(*token),
+        Kind::Sign(Sign::OpenParenthesis) => stack.push(*token),
         Kind::Sign(Sign::CloseParenthesis) => {
-            open.truncate(open.len().saturating_sub(1));
+            stack.truncate(stack.len().saturating_sub(1));
             Ok(())
         }
         _ => Ok(()),
     }
 }
 
-fn last_of(open: &[Token]) -> Option<Token>
-    ensures { result ≡ last_of open.now }
+fn last_of(stack: &[Token]) -> Option<Token>
+    ensures { result ≡ last_of stack.now }
 {
-    open.get(open.len().saturating_sub(1)).copied()
+    stack.get(stack.len().saturating_sub(1)).copied()
 }
 
 /// Of a parenthesis that is open at a place, and began in an earlier line.
@@ -50,23 +50,23 @@ pub(crate) fn put_open(
 ) -> Result<(), AllocError>
     ensures { OnOk result (lines.new.items ≡ lines.old.items ++ open_lines tokens.now place) }
 {
-    let open = open_at(alloc, tokens, place.offset)?;
-    put_open_by(alloc, lines, place.line, open)
+    let found = open_at(alloc, tokens, place.offset)?;
+    put_open_by(alloc, lines, place.line, found)
 }
 
 fn put_open_by(
     alloc: Global,
     lines: &mut Vec<u8>,
     line: u32,
-    open: Option<Token>,
+    found: Option<Token>,
 ) -> Result<(), AllocError>
-    ensures { OnOk result (lines.new.items ≡ lines.old.items ++ open_by line open) }
+    ensures { OnOk result (lines.new.items ≡ lines.old.items ++ open_by line found) }
 {
-    let Some(open) = open else {
+    let Some(token) = found else {
         return Ok(());
     };
-    if open.line < line {
-        put_open_line(alloc, lines, open.line)
+    if token.line < line {
+        put_open_line(alloc, lines, token.line)
     } else {
         Ok(())
     }

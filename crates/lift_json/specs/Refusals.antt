@@ -21,10 +21,13 @@ text_member name text = key name ∷ string text ∷ []
 abbrev pub number_member : List ℕ → ℕ → List Token
 number_member name n = key name ∷ number (decimal n) ∷ []
 
--- where it is: the file, the line and the column, both counted from 1, and how many bytes are marked
+-- where it is in a line: the column, counted from 1, and how many bytes are marked
+abbrev pub column_members : List ℕ → List ℕ → List Token
+column_members front back = number_member (codes "column") (length front + 1) ++ number_member (codes "length") (marked back)
+
+-- where it is: the file, and the line, counted from 1
 abbrev pub place_members : List ℕ → ℕ → List ℕ → List ℕ → List Token
-place_members name line front back =
-    text_member (codes "file") name ++ (number_member (codes "line") line ++ (number_member (codes "column") (length front + 1) ++ number_member (codes "length") (marked back)))
+place_members name line front back = text_member (codes "file") name ++ (number_member (codes "line") line ++ column_members front back)
 
 -- a byte of lines as it is shown
 abbrev pub line_byte : ℕ → ℕ

@@ -1,11 +1,11 @@
 // A refusal as JSON.
 
-ghost use Rattle.std.specs.Prelude.{◌≡◌, ◌+◌, ◌++◌, List, map, flat_map, length, codes, IfOk, OnOk, string_bytes};
+ghost use Rattle.std.specs.Prelude.{◌≡◌, ◌+◌, ◌++◌, ℕ, List, map, flat_map, length, codes, IfOk, OnOk, string_bytes};
 ghost use Rattle.json.specs.Token.{Token};
 ghost use Rattle.lift_messages.specs.Places.{IsTitle};
 ghost use Rattle.lift_json.specs.Pieces.{pieces};
 ghost use Rattle.lift_json.specs.declared.pieces.Cut.TheVariants.{Feed};
-ghost use Rattle.lift_json.specs.Refusals.{Adds, AreRefusalTokens, IsRefusalLine, line_byte, line_tokens, number_member, place_members, text_member, told_member};
+ghost use Rattle.lift_json.specs.Refusals.{Adds, AreRefusalTokens, IsRefusalLine, column_members, line_byte, line_tokens, number_member, place_members, text_member, told_member};
 
 use crate::pieces::{Cut, first_piece};
 use base_shown::shown::shown;
@@ -72,7 +72,16 @@ fn put_place(
 {
     put_text(json, "file", name)?;
     put_number(json, "line", at as u64)?;
-    put_number(json, "column", (line.front.len() + 1) as u64)?;
+    put_column(json, line)
+}
+
+// Where it is in its line.
+fn put_column(json: &mut Writer<Global>, line: Line<'_>) -> Result<(), AllocError>
+    ensures { OnOk result (Adds json.old json.new
+        (column_members line.entry.front.now line.entry.back.now)) }
+{
+    let column = line.front.len() + 1;
+    put_number(json, "column", column as u64)?;
     put_number(json, "length", marked(line.back) as u64)
 }
 

@@ -1,5 +1,5 @@
 -- What is shown below a refusal (own rules).
-use Rattle.std.specs.Prelude.{◌≡◌, ◌⊎◌, Contains, ℕ, zero, suc, ◌+◌, ◌-◌, min, max, ◌&&◌, ◌||◌, ◌==◌, Bool, List, [], ◌∷◌, ◌++◌, length, map, take, drop, replicate, nat_le, nat_lt, if◌then◌else◌, codes, decimal}
+use Rattle.std.specs.Prelude.{◌≡◌, ◌⊎◌, Contains, ℕ, zero, suc, ◌+◌, ◌-◌, min, max, ◌&&◌, ◌||◌, ◌==◌, List, [], ◌∷◌, ◌++◌, length, map, take, drop, replicate, nat_le, nat_lt, if◌then◌else◌, codes, decimal}
 use Rattle.std.specs.List.{prefix_len}
 use Rattle.base_shown.specs.Shown.{shown}
 use Rattle.il_spec.specs.declared.tree.Place.{Place}

@@ -4,4 +4,4 @@ use Rattle.il_reasons.proofs.parentheses.open_at.Given as goal
 
 -- what is left answers for all
 abbrev pub invariant-tokens : goal.invariant-tokens
-invariant-tokens l = open_from l.open.items l.offset (drop l.token-index l.tokens) ≡ open_from [] l.offset l.tokens
+invariant-tokens l = open_from l.stack.items l.offset (drop l.token-index l.tokens) ≡ open_from [] l.offset l.tokens
