@@ -1,5 +1,5 @@
 -- What is told of subranges and bounds that are none (22), and of what is too many (12) (own rules).
-use Rattle.std.specs.Prelude.{ℕ, ℤ, pos, ◌-ℤ◌, int_lt, ◌==◌, ◌&&◌, if◌then◌else◌, List, [], ◌++◌, flat_map, Option, Some, None, codes}
+use Rattle.std.specs.Prelude.{ℕ, pos, ◌-ℤ◌, int_lt, ◌==◌, ◌&&◌, if◌then◌else◌, List, [], ◌++◌, flat_map, Option, Some, None, codes}
 use Rattle.std.specs.Fmt.{signed_decimal}
 use Rattle.il_spec.specs.declared.tree.Config.{Config}
 use Rattle.il_spec.specs.declared.tree.Declaration.{Declaration}
@@ -47,17 +47,13 @@ subrange_lines scalar = subrange_of scalar.elementary scalar.subrange
 unfoldable pub outside_line : List ℕ
 outside_line = codes "the bounds of an array are -32768..32767\n"
 
--- `an array has at most 256 elements, and its bounds are 256 apart`
-unfoldable pub long_line : ℤ → List ℕ
-long_line apart = codes "an array has at most 256 elements, and its bounds are " ++ (signed_decimal apart ++ codes " apart\n")
-
-abbrev pub long_by : ℤ → List ℕ
-long_by apart = if int_lt apart (pos 256) then [] else long_line apart
+unfoldable pub long_line : List ℕ
+long_line = codes "an array has at most 256 elements\n"
 
 abbrev pub long_lines : Subrange → List ℕ
-long_lines s = long_by (s.upper -ℤ s.lower)
+long_lines s = if int_lt (s.upper -ℤ s.lower) (pos 256) then [] else long_line
 
--- of bounds that are empty, beyond INT or too far apart
+-- of bounds that are empty, beyond INT or too many
 abbrev pub bounds_lines : Subrange → List ℕ
 bounds_lines s =
     if int_lt s.upper s.lower then above_line s

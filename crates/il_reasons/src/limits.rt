@@ -90,27 +90,22 @@ fn put_outside(text: &mut String) -> Result<(), AllocError>
     text.push_str("the bounds of an array are -32768..32767\n")
 }
 
-// `an array has at most 256 elements, and this one 257`
+// `an array has at most 256 elements`, where it has more.
 fn put_long(text: &mut String, of: Subrange) -> Result<(), AllocError>
     ensures { OnOk result (Puts text.old text.new (long_lines of)) }
 {
-    let apart = i128::from(of.upper) - i128::from(of.lower);
-    if apart < 256 {
+    if i128::from(of.upper) - i128::from(of.lower) < 256 {
         Ok(())
     } else {
-        put_long_line(text, apart)
+        put_long_line(text)
     }
 }
 
 #[tactic(auto, unfolding(crate::specs::LimitReasons::long_line))]
-fn put_long_line(text: &mut String, apart: i128) -> Result<(), AllocError>
-    ensures { OnOk result (Puts text.old text.new (long_line apart)) }
+fn put_long_line(text: &mut String) -> Result<(), AllocError>
+    ensures { OnOk result (Puts text.old text.new long_line) }
 {
-    write!(
-        text,
-        "an array has at most 256 elements, and its bounds are {} apart\n",
-        apart
-    )
+    text.push_str("an array has at most 256 elements\n")
 }
 
 // What is wrong with a type.

@@ -26,7 +26,10 @@ fn follow(stack: &mut Vec<Token>, token: &Token) -> Result<(), AllocError>
     ensures { OnOk result (stack.new.items ≡ open_after stack.old.items token.now) }
 {
     match token.kind {
-        Kind::Sign(Sign::OpenParenthesis) => stack.push(*token),
+        Kind::Sign(Sign::OpenParenthesis) => {
+            stack.push(*token)?;
+            Ok(())
+        }
         Kind::Sign(Sign::CloseParenthesis) => {
             stack.truncate(stack.len().saturating_sub(1));
             Ok(())
