@@ -1,7 +1,6 @@
 -- The tasks of cars, by their names.
-use Rattle.std.proofs.Common.{◌≡◌, ℕ, List, map, flat_map, sym, ap, ◌∙◌}
+use Rattle.std.proofs.Common.{◌≡◌, List, map, flat_map, sym, ap, ◌∙◌}
 use Rattle.std.proofs.lemmas.List.Folds.{flat_map-map}
-use Rattle.il_rules.specs.Names.{Spelling}
 use Rattle.il_spec.specs.declared.tree.Config.{Config}
 use Rattle.il_reasons.specs.declared.tasks.CarWord.{CarWord}
 use Rattle.il_reasons.specs.TaskReasons.{missing_car, car_words}

@@ -1,6 +1,6 @@
 -- The line of a step (own rules).
-use Rattle.std.specs.Prelude.{ℕ, ◌-◌, ◌==◌, bytes_eq, min, Bool, true, false, nat_lt, List, [], ◌++◌, flat_map, map, take, drop, length, replicate, slice_get, Option, Some, None, option_map, if◌then◌else◌, codes, decimal}
-use Rattle.std.specs.List.{prefix_len, list_any}
+use Rattle.std.specs.Prelude.{ℕ, ◌-◌, bytes_eq, min, Bool, true, false, nat_lt, List, [], ◌++◌, flat_map, take, length, replicate, slice_get, Option, Some, None, option_map, if◌then◌else◌, codes, decimal}
+use Rattle.std.specs.List.{list_any}
 use Rattle.il_spec.specs.declared.tree.Argument.{Argument}
 use Rattle.il_spec.specs.declared.tree.Argument.TheVariants.{Input, Output}
 use Rattle.il_spec.specs.declared.tree.Config.{Config}
