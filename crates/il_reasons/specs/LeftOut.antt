@@ -141,6 +141,13 @@ is_constant word = bytes_eq word (codes "CONSTANT")
 unfoldable pub is_of : Spelling → Bool
 is_of word = bytes_eq word (codes "OF")
 
+-- a word that begins a list of declarations (2.4.3)
+unfoldable pub is_list : Spelling → Bool
+is_list word = bytes_eq word (codes "VAR") || (bytes_eq word (codes "VAR_INPUT") || (bytes_eq word (codes "VAR_OUTPUT") || bytes_eq word (codes "VAR_EXTERNAL")))
+
+unfoldable pub lists_line : List ℕ
+lists_line = codes "declarations come first, each list once and in this order: VAR_INPUT and VAR in a FUNCTION, VAR_INPUT, VAR_OUTPUT and VAR in a FUNCTION_BLOCK, VAR and VAR_EXTERNAL in a PROGRAM\n"
+
 unfoldable pub retain_line : List ℕ
 retain_line = codes "the language has no RETAIN: a trace or a state keeps values over a restart\n"
 
@@ -162,10 +169,14 @@ behind_by (Some before) word =
     if is_retain before then retain_line
     else if is_of before then elements_by word (absent_type word) else []
 
+-- of a word that begins a list of declarations, or of another one
+abbrev pub list_by : Option Spelling → Spelling → List ℕ
+list_by before word = if is_list word then lists_line else behind_by before word
+
 -- of a word at the place
 abbrev pub words_lines : Option Spelling → Option Spelling → List ℕ
 words_lines before None = []
-words_lines before (Some word) = if is_constant word then constant_line else behind_by before word
+words_lines before (Some word) = if is_constant word then constant_line else list_by before word
 
 -- of the token at a place of a text with these tokens
 abbrev pub left_out_lines : List ℕ → List Token → Option Token → ℕ → List ℕ

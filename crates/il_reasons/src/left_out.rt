@@ -1,7 +1,7 @@
 // What IEC 61131-3 has and the language leaves out, and what there is instead.
 
 ghost use Rattle.std.specs.Prelude.{◌≡◌, ◌++◌, ◌+◌, ◌<◌, None, OnOk, map, option_map, slice_get};
-ghost use Rattle.il_reasons.specs.LeftOut.{is_fraction, is_long, is_bits, is_characters, is_date, absent_type, instead, absent_line, type_by, type_line, slash_or, star_or, stray_of, stray_line, stray_lines, byte_stray, stray_at, before_from, token_before, is_retain, is_constant, is_of, retain_line, constant_line, elements_line, elements_by, behind_by, words_lines, named_by};
+ghost use Rattle.il_reasons.specs.LeftOut.{is_fraction, is_long, is_bits, is_characters, is_date, absent_type, instead, absent_line, type_by, type_line, slash_or, star_or, stray_of, stray_line, stray_lines, byte_stray, stray_at, before_from, token_before, is_retain, is_constant, is_list, is_of, lists_line, list_by, retain_line, constant_line, elements_line, elements_by, behind_by, words_lines, named_by};
 
 use il_spec::token::Token;
 use std::alloc::AllocError;
@@ -314,6 +314,13 @@ fn is_constant(word: &str) -> bool
     word == "CONSTANT"
 }
 
+#[tactic(auto, unfolding(crate::specs::LeftOut::is_list))]
+fn is_list(word: &str) -> bool
+    ensures { result ≡ is_list word.now }
+{
+    word == "VAR" || word == "VAR_INPUT" || word == "VAR_OUTPUT" || word == "VAR_EXTERNAL"
+}
+
 #[tactic(auto, unfolding(crate::specs::LeftOut::is_of))]
 fn is_of(word: &str) -> bool
     ensures { result ≡ is_of word.now }
@@ -381,6 +388,28 @@ fn put_behind(lines: &mut Vec<u8>, before: Option<&str>, word: &str) -> Result<(
     }
 }
 
+#[tactic(auto, unfolding(crate::specs::LeftOut::lists_line))]
+fn put_lists(lines: &mut Vec<u8>) -> Result<(), AllocError>
+    ensures { OnOk result (lines.new.items ≡ lines.old.items ++ lists_line) }
+{
+    put(
+        lines,
+        "declarations come first, each list once and in this order: VAR_INPUT and VAR in a FUNCTION, VAR_INPUT, VAR_OUTPUT and VAR in a FUNCTION_BLOCK, VAR and VAR_EXTERNAL in a PROGRAM\n",
+    )
+}
+
+// Of a word that begins a list of declarations, or of another one.
+fn put_list(lines: &mut Vec<u8>, before: Option<&str>, word: &str) -> Result<(), AllocError>
+    ensures { OnOk result (lines.new.items ≡ lines.old.items
+        ++ list_by (option_map (λ w. w.now) before.entry) word.now) }
+{
+    if is_list(word) {
+        put_lists(lines)
+    } else {
+        put_behind(lines, before, word)
+    }
+}
+
 /// Of an unexpected word (10), where one stands there, and the word before it.
 pub(crate) fn put_words(
     lines: &mut Vec<u8>,
@@ -395,7 +424,7 @@ pub(crate) fn put_words(
             if is_constant(word) {
                 put_constant(lines)
             } else {
-                put_behind(lines, before, word)
+                put_list(lines, before, word)
             }
         }
         None => Ok(()),
