@@ -2,6 +2,10 @@
 use Rattle.std.specs.Prelude.{◌≡◌, ℕ, ◌==◌, Bool, ◌||◌, List, [], ◌∷◌, ◌++◌, flat_map, Option, Some, None, codes}
 use Rattle.il_spec.specs.declared.tree.Argument.{Argument}
 use Rattle.il_spec.specs.declared.tree.Argument.TheVariants.{Input, Output}
+use Rattle.il_spec.specs.declared.tree.Arithmetic.{Arithmetic}
+use Rattle.il_spec.specs.declared.tree.Arithmetic.TheVariants.{Add, Sub, Mul, Div, Mod}
+use Rattle.il_spec.specs.declared.tree.Comparison.{Comparison}
+use Rattle.il_spec.specs.declared.tree.Comparison.TheVariants.{Greater, GreaterOrEqual, Equal, NotEqual, LessOrEqual, Less}
 use Rattle.il_spec.specs.declared.tree.Condition.{Condition}
 use Rattle.il_spec.specs.declared.tree.Condition.TheVariants.{Always, WhenTrue, WhenFalse}
 use Rattle.il_spec.specs.declared.tree.Config.{Config}
@@ -16,7 +20,7 @@ use Rattle.il_spec.specs.declared.tree.Instruction.TheVariants.{Load, Store as S
 use Rattle.il_spec.specs.declared.tree.Named.{Named}
 use Rattle.il_spec.specs.declared.tree.Operand.{Operand}
 use Rattle.il_spec.specs.declared.tree.Operator.{Operator}
-use Rattle.il_spec.specs.declared.tree.Operator.TheVariants.{Logic as LogicOperator}
+use Rattle.il_spec.specs.declared.tree.Operator.TheVariants.{Logic as LogicOperator, Arithmetic as ArithmeticOperator, Comparison as ComparisonOperator}
 use Rattle.il_spec.specs.declared.tree.Reference.{Reference}
 use Rattle.il_spec.specs.declared.tree.Reference.TheVariants.{Literal as OfLiteral, Variable as OfVariable, Element as OfElement, Member as OfMember}
 use Rattle.il_spec.specs.declared.tree.Store.{Store}
@@ -140,6 +144,36 @@ abbrev pub wanted_line : Option Elementary → List ℕ
 wanted_line None = []
 wanted_line (Some wanted) = codes "the result must be " ++ (type_word wanted ++ codes "\n")
 
+-- WHAT AN OPERATOR TAKES
+
+-- of arithmetic (3.2.2; TIME has no products, own rule)
+abbrev pub arithmetic_line : Arithmetic → List ℕ
+arithmetic_line Add = codes "ADD and SUB take two whole numbers of one type, or two TIME\n"
+arithmetic_line Sub = codes "ADD and SUB take two whole numbers of one type, or two TIME\n"
+arithmetic_line Mul = codes "MUL, DIV and MOD take two whole numbers of one type\n"
+arithmetic_line Div = codes "MUL, DIV and MOD take two whole numbers of one type\n"
+arithmetic_line Mod = codes "MUL, DIV and MOD take two whole numbers of one type\n"
+
+-- of a comparison (3.2.2)
+abbrev pub comparison_line : Comparison → List ℕ
+comparison_line Greater = codes "GT, GE, LE and LT take two whole numbers of one type, or two TIME\n"
+comparison_line GreaterOrEqual = codes "GT, GE, LE and LT take two whole numbers of one type, or two TIME\n"
+comparison_line Equal = codes "EQ and NE take two of one type\n"
+comparison_line NotEqual = codes "EQ and NE take two of one type\n"
+comparison_line LessOrEqual = codes "GT, GE, LE and LT take two whole numbers of one type, or two TIME\n"
+comparison_line Less = codes "GT, GE, LE and LT take two whole numbers of one type, or two TIME\n"
+
+abbrev pub operator_line : Operator → List ℕ
+operator_line (LogicOperator logic negated) = codes "AND, OR and XOR take two BOOL\n"
+operator_line (ArithmeticOperator arithmetic) = arithmetic_line arithmetic
+operator_line (ComparisonOperator comparison) = comparison_line comparison
+
+-- the types that an instruction's operator takes, if it has one
+abbrev pub taken_line : Instruction → List ℕ
+taken_line (Operate operator operand) = operator_line operator
+taken_line (Defer operator first) = operator_line operator
+taken_line _ = []
+
 -- THE INPUTS OF OWN FUNCTIONS
 
 -- `B of F is BOOL`, of an input with this type
@@ -166,6 +200,6 @@ called_lines c _ = []
 abbrev pub is_type_number : ℕ → Bool
 is_type_number number = number == 30 || number == 31 || number == 32
 
--- the type that the current result must have, those of an own function's inputs, and those of the operands
+-- the type that the current result must have, what the operator takes, the types of an own function's inputs, and those of the operands
 abbrev pub type_lines : Config → ProgramUnit → Instruction → List ℕ
-type_lines c unit instruction = wanted_line (wanted_type c unit instruction) ++ (called_lines c instruction ++ operand_lines c unit instruction)
+type_lines c unit instruction = wanted_line (wanted_type c unit instruction) ++ (taken_line instruction ++ (called_lines c instruction ++ operand_lines c unit instruction))

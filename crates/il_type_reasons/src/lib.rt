@@ -9,6 +9,7 @@ pub mod types_inputs;
 pub mod types_kinds;
 pub mod types_operands;
 pub mod types_results;
+mod types_taken;
 pub mod types_wanted;
 pub mod types_words;
 pub mod types_written;

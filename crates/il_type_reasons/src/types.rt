@@ -6,12 +6,13 @@ ghost use Rattle.il_type_reasons.specs.TypeReasons.{is_type_number, type_lines};
 
 use crate::types_inputs::put_called;
 use crate::types_operands::put_operands_of;
+use crate::types_taken::put_taken;
 use crate::types_wanted::put_wanted;
 use il_scope::UnitScope;
 use il_spec::tree::Instruction;
 use std::alloc::AllocError;
 
-/// The type that the current result must have, those of an own function's inputs, and those of the operands.
+/// The type that the current result must have, what the operator takes, the types of an own function's inputs, and those of the operands.
 pub fn put_types(
     text: &mut String,
     scope: &UnitScope<'_>,
@@ -21,6 +22,7 @@ pub fn put_types(
         (type_lines scope.now.config scope.now.unit instruction.now)) }
 {
     put_wanted(text, scope, instruction)?;
+    put_taken(text, instruction)?;
     put_called(text, scope.names(), instruction)?;
     put_operands_of(text, scope, instruction)
 }
