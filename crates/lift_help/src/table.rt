@@ -313,7 +313,7 @@ static COMMANDS: [Row; 13] = [
     },
     Row {
         name: Named::Serve,
-        about: "Runs FILE behind lines: fields in, outputs back; docs/SERVE.md has the lines",
+        about: "Runs FILE behind lines: R, P, K and E in, outputs back; docs/SERVE.md has the lines",
         arguments: &[FILE_WORD, FROM_OPTION, TRACE_OPTION, SYNC_FLAG],
     },
     Row {

@@ -86,7 +86,7 @@ COMMANDS = (
         ),
     ),
     Command(
-        "serve", "Runs FILE behind lines: fields in, outputs back; docs/SERVE.md has the lines", "<FILE>",
+        "serve", "Runs FILE behind lines: R, P, K and E in, outputs back; docs/SERVE.md has the lines", "<FILE>",
         (
             Option("--from", "OLD", "With --trace: goes on where the trace OLD ends: its calls, cars and variables are there again, every output still; TRACE begins with that state"),
             Option("--trace", "TRACE", "Writes each event to TRACE, a new file, before it happens"),
