@@ -12,6 +12,7 @@ mod sizes;
 mod taken;
 mod tasks;
 mod types;
+mod unit_faults;
 mod units;
 mod whole;
 
