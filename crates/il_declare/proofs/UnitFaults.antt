@@ -2,7 +2,7 @@
 use Rattle.std.proofs.Common.{◌≡◌, ℕ, inl, inr, List, [], ◌∷◌, ◌++◌, Option, Some, None, refl, sym, ap, subst}
 use Rattle.il_spec.specs.declared.tree.Place.{Place}
 use Rattle.il_rules.specs.Least.{NumberedFault, IsLeast}
-use Rattle.il_declare.specs.declared.unit_faults.UnitFault.{UnitFault}
+use Rattle.il_declare.specs.declared.per_unit.UnitFault.{UnitFault}
 use Rattle.il_declare.specs.UnitFaults.{AreFirst, listed}
 
 module _ {A : Type 0} (rule : A → ℕ → Place → Type 0) where

@@ -3,7 +3,7 @@ use Rattle.std.specs.Prelude.{◌≡◌, ◌⊎◌, ℕ, List, [], ◌∷◌, Op
 use Rattle.il_spec.specs.declared.tree.Place.{Place}
 use Rattle.il_rules.specs.Faults.{IsFirst, HasNoFault}
 use Rattle.il_rules.specs.Least.{NumberedFault}
-use Rattle.il_declare.specs.declared.unit_faults.UnitFault.{UnitFault}
+use Rattle.il_declare.specs.declared.per_unit.UnitFault.{UnitFault}
 
 -- The faults are the first ones of the units, in the order of the units: a unit that breaks no rule has none, and one that breaks some has one, its first.
 abbrev pub AreFirst : {A : Type 0} → (A → ℕ → Place → Type 0) → List A → List UnitFault → Type 0

@@ -12,7 +12,7 @@ mod sizes;
 mod taken;
 mod tasks;
 mod types;
-mod unit_faults;
+mod per_unit;
 mod units;
 mod whole;
 
@@ -26,6 +26,7 @@ use il_rules::{Written, refusal};
 use il_scope::Scoped;
 use il_spec::fault::Refusal;
 use std::alloc::Global;
+pub use per_unit::{UnitFault, put_found, unit_faults};
 
 /// Checks the declarations of a configuration as a text spells it (20 to 25), and finds what its names mean.
 /// Of the faults the one at the earliest place is named, at one place the one with the lowest number.
@@ -35,6 +36,15 @@ pub fn declare(alloc: Global, written: Written) -> Result<Declared, Refusal>
     ensures refused { IfErr result (IsRefusedBy (BreaksDeclarations written)) }
 {
     let scoped = Scoped::of(alloc, written)?;
+    declare_scoped(alloc, scoped)
+}
+
+/// The same of a configuration of which it is known what its names mean.
+pub fn declare_scoped(alloc: Global, scoped: Scoped) -> Result<Declared, Refusal>
+    ensures same { IfOk result (λ d. d ≡ scoped) }
+    ensures accepted { IfOk result (λ _. HasNoFault (BreaksDeclarations scoped)) }
+    ensures refused { IfErr result (IsRefusedBy (BreaksDeclarations scoped)) }
+{
     check(alloc, &scoped)?;
     Ok(Declared::of(scoped))
 }
