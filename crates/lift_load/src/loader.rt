@@ -70,8 +70,8 @@ pub fn unbroken(alloc: Global, text: &[u8]) -> Result<Ordered, Refusal>
     in_order(alloc, written)
 }
 
-// The configuration that a text spells. Its tokens are given up before it is verified.
-fn parsed(alloc: Global, text: &[u8]) -> Result<Written, Refusal>
+/// The configuration that a text spells. Its tokens are given up before it is verified.
+pub fn parsed(alloc: Global, text: &[u8]) -> Result<Written, Refusal>
     ensures only { IfOk result (SpellsOnly text.now) }
     ensures written { IfOk result IsWritten }
     ensures nested { IfOk result IsNested }
