@@ -11,7 +11,7 @@ use il_spec::tree::Place;
 use std::alloc::{AllocError, Global};
 
 /// A fault of a unit.
-#[derive(Clone, Copy, Debug, PartialEq, Eq)]
+#[derive(Clone, Copy, Debug)]
 pub struct UnitFault {
     /// Its number.
     pub number: u16,
