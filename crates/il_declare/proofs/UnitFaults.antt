@@ -1,5 +1,7 @@
 -- The first faults of units, one unit after another.
-use Rattle.std.proofs.Common.{◌≡◌, ℕ, ◌+◌, ◌<◌, ◌≤◌, inl, inr, List, [], ◌∷◌, ◌++◌, take, length, get_or, Option, Some, None, refl, sym, ap, subst, arith}
+use Rattle.std.proofs.Common.{◌≡◌, ℕ, zero, suc, ◌+◌, ◌<◌, ◌≤◌, inl, inr, List, [], ◌∷◌, ◌++◌, take, length, get_or, Option, Some, None, refl, sym, ap, subst, arith}
+use Rattle.std.specs.Prelude.{Contains}
+use Rattle.std.proofs.lemmas.List.Elements.{Contains-append_right}
 use Rattle.il_spec.specs.declared.tree.Place.{Place}
 use Rattle.il_rules.specs.Least.{NumberedFault, IsLeast}
 use Rattle.il_scope.proofs.Filled.{take_next, take_all}
@@ -26,6 +28,19 @@ module _ {A : Type 0} (rule : A → ℕ → Place → Type 0) where
       subst (λ fs. AreFirst rule (take (at + 1) units) fs) (sym is)
       (subst (λ us. AreFirst rule us (faults ++ listed found)) (sym (take_next units at unit (subst (λ l. at < length l) same low) (subst (λ l. unit ≡ get_or l at unit) same there)))
       (first_last (take at units) unit faults found before least))
+
+  -- each of them is a fault of a unit
+  pub first_broken : (units : List A) (faults : List UnitFault) → AreFirst rule units faults → (f : UnitFault) → Contains faults f → (unit : A) × Contains units unit × rule unit f.number f.place
+  first_broken [] faults none f among = by_none (subst (λ fs. Contains fs f) none among)
+    where
+      by_none : Contains [] f → (unit : A) × Contains [] unit × rule unit f.number f.place
+      by_none (k, low, e) = absurd (omega arith)
+  first_broken (u ∷ units) faults (inl (well, rest)) f among = let r = first_broken units faults rest f among in (r.0, Contains-append_right (u ∷ []) units r.0 r.1, r.2)
+  first_broken (u ∷ units) faults (inr (first, others, are, is, rest)) f among = by_place (first_broken units others rest f) (subst (λ fs. Contains fs f) are among)
+    where
+      by_place : (Contains others f → (unit : A) × Contains units unit × rule unit f.number f.place) → Contains (first ∷ others) f → (unit : A) × Contains (u ∷ units) unit × rule unit f.number f.place
+      by_place further (zero, low, e) = (u, (0, omega arith, refl), subst (λ g. rule u g.number g.place) e is.broken)
+      by_place further (suc k, low, e) = let r = further (k, omega (arith, low), e) in (r.0, Contains-append_right (u ∷ []) units r.0 r.1, r.2)
 
   -- and at its end all of them
   pub first_all : (rows units : List A) (at : ℕ) (faults : List UnitFault) → rows ≡ units → length rows ≤ at → AreFirst rule (take at units) faults → AreFirst rule units faults

@@ -1,8 +1,10 @@
 // The first fault of each unit, side by side.
 
-ghost use Rattle.std.specs.Prelude.{◌≡◌, ◌++◌, IfOk, OnOk};
+ghost use Rattle.std.specs.Prelude.{◌≡◌, ◌++◌, Contains, IfOk, OnOk};
+ghost use Rattle.il_rules.specs.Faults.{BreaksDeclarations};
 ghost use Rattle.il_declare.specs.Units.{UnitBreaks};
 ghost use Rattle.il_declare.specs.UnitFaults.{AreFirst, listed};
+ghost use Rattle.il_declare.specs.declared.per_unit.UnitFault.{UnitFault as FaultOf};
 
 use crate::units::unit_fault;
 use il_rules::{Found, PhaseFault};
@@ -24,6 +26,8 @@ pub struct UnitFault {
 pub fn unit_faults(alloc: Global, names: &Scoped) -> Result<Vec<UnitFault>, AllocError>
     ensures all { IfOk result (λ faults. AreFirst (UnitBreaks names.now) names.now.units
         faults.items) }
+    ensures broken { IfOk result (λ faults. (fault : FaultOf) → Contains faults.items fault
+        → BreaksDeclarations names.now fault.number fault.place) }
 {
     let units = names.config().units.as_slice();
     let mut faults = Vec::new(alloc);
