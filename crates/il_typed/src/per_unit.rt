@@ -1,6 +1,8 @@
 // The first fault of types of each unit, side by side.
 
-ghost use Rattle.std.specs.Prelude.{IfOk};
+ghost use Rattle.std.specs.Prelude.{Contains, IfOk};
+ghost use Rattle.il_rules.specs.Faults.{Broken, Typing};
+ghost use Rattle.il_declare.specs.declared.per_unit.UnitFault.{UnitFault as FaultOf};
 ghost use Rattle.il_declare.specs.UnitFaults.{AreFirst};
 ghost use Rattle.il_typed.specs.Faults.{UnitBreaks};
 ghost use Rattle.il_typed.specs.Judged.{AreShort};
@@ -15,6 +17,8 @@ use std::alloc::{AllocError, Global};
 pub fn unit_faults(alloc: Global, declared: &Declared) -> Result<Vec<UnitFault>, AllocError>
     ensures all { IfOk result (λ faults. AreFirst (UnitBreaks declared.now) declared.now.units
         faults.items) }
+    ensures broken { IfOk result (λ faults. (fault : FaultOf) → Contains faults.items fault
+        → Broken Typing declared.now fault.number fault.place) }
 {
     let names = declared.names();
     let _few = names.written().tree();
