@@ -34,7 +34,11 @@ use Rattle.il_scan_laws.proofs.Costs.{can_pass, left_at, falls_on, falls_by, fal
 use Rattle.il_scan_laws.proofs.Moving.{stack_of}
 use Rattle.il_scan_laws.proofs.Running.{block_is_unit}
 use Rattle.il_scan_laws.proofs.Scanning.{step_sound, starts}
-use Rattle.il_work_laws.specs.Work.{instruction_work, step_work, work_behind, work_of, called_work, own_work, work_table, most_within, most_work, WorksWithin}
+use Rattle.il_work_laws.specs.Work.{instruction_work, step_work, work_behind, work_of, called_work, own_work, work_table, most_within, most_work, WorksWithin, ScansDoNoMore}
+use Rattle.il_rules.specs.Faults.{Declaring, Typing, Broken, HasNoFault}
+use Rattle.il_rules.specs.Written.{IsWritten}
+use Rattle.il_scan_laws.specs.Accepted.{IsOrdered}
+use Rattle.il_scan_laws.proofs.Premises.{in_order}
 use Rattle.il_work_laws.proofs.Outcomes as every
 
 -- WHAT IS LEFT
@@ -287,3 +291,7 @@ scans_work_within c p annotated order variables given holds n =
     let all = works c p order annotated n (begins p variables given) start.agrees in
     let whole = ap (λ o. (rest_at (table_by 15 c o) 0 0).cost) order.named in
     omega arith
+
+-- of a configuration in which no rule is broken, and whose instructions have ranges
+pub scans_do_no_more : (c : Config) → IsWritten c → HasNoFault (Broken Declaring c) → HasNoFault (Broken Typing c) → IsOrdered c → Annotated c → ScansDoNoMore c
+scans_do_no_more c written declared typed ordered annotated p named = scans_work_within c p annotated (in_order c p (record { written = written; declared = declared; typed = typed; ordered = ordered; program = named }))

@@ -5,7 +5,7 @@ use Rattle.il_spec.specs.declared.tree.Instruction.TheVariants.{Call, Invoke}
 use Rattle.il_spec.specs.declared.tree.Operand.{Operand}
 use Rattle.il_spec.specs.declared.tree.Unit.{Unit as ProgramUnit}
 use Rattle.il_spec.specs.declared.tree.Config.{Config}
-use Rattle.il_rules.specs.Names.{function_named, unit_named}
+use Rattle.il_rules.specs.Names.{function_named, program_named, unit_named}
 use Rattle.il_run.specs.declared.value.Value.{Value}
 use Rattle.il_run.specs.State.{Values, Frame, State}
 use Rattle.il_run.specs.Meaning.{depth, fresh_values}
@@ -80,3 +80,7 @@ most_work c u = most_within depth c u
 -- no scan of the program from values of the declared sets does more work than that, whatever of it is run
 abbrev pub WorksWithin : Config → ProgramUnit → Type 0
 WorksWithin c p = (variables : Values) (given : List (Text × Value)) → Holds c p (begins p variables given).values → (n : ℕ) → work_of n c (begins p variables given) ≤ most_work c p
+
+-- no scan of any program of the configuration does
+abbrev pub ScansDoNoMore : Config → Type 0
+ScansDoNoMore c = (p : ProgramUnit) → program_named c p.name.name ≡ Some p → WorksWithin c p
