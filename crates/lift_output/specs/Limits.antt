@@ -10,6 +10,8 @@ use Rattle.il_machine.specs.Scanning.{Program}
 use Rattle.il_order.specs.Counted.{number_at}
 use Rattle.il_order.specs.Related.{holds, tabulate}
 use Rattle.il_order.specs.Used.{uses}
+use Rattle.il_work_laws.specs.Work.{most_work}
+use Rattle.il_work.specs.Sizes.{capped}
 use Rattle.lift_spec.specs.Image.{sizes_of}
 use Rattle.lift_spec.specs.Snapshot.{program_of, task_name}
 use Rattle.lift_output.specs.declared.limits.Measure.{Measure}
@@ -112,6 +114,21 @@ car_slots c (suc car) = car_slots c car ++ task_slots c (suc car)
 abbrev pub slots_text : Config → List ℕ
 slots_text c = car_slots c (sizes_of c).cars ++ task_slots c 0
 
+-- WORK
+
+-- the most work of a unit: its steps, and the values that calls set and copy
+abbrev pub work_use : Config → ProgramUnit → UnitUse
+work_use c unit = record { name = unit.name.name; used = capped (most_work c unit) }
+
+-- `work N in UNIT`; there is none without units
+unfoldable pub work_line : Option UnitUse → List ℕ
+work_line None = []
+work_line (Some unit) = codes "work " ++ (decimal unit.used ++ (codes " in " ++ (unit.name ++ codes "\n")))
+
+-- of the unit that does the most
+abbrev pub work_text : Config → List ℕ
+work_text c = work_line (most_of None (map (work_use c) c.units))
+
 -- ALL LIMITS
 
 -- of a text of so many bytes, and of its units
@@ -128,6 +145,6 @@ run_limits p =
     ++ (slots_text p.config
     ++ (limit_line (codes "globals") (length (global_cells p.config)) 4096 ++ most_line (codes "cost") (most_of None (map cost_use (unit_lines p.config.units p.costs))) 1000000))
 
--- of a program whose text has so many bytes
+-- of a program whose text has so many bytes, and its work, which has no limit of its own
 abbrev pub limits_text : Program → ℕ → List ℕ
-limits_text p bytes = unit_limits p.config bytes ++ run_limits p
+limits_text p bytes = unit_limits p.config bytes ++ (run_limits p ++ work_text p.config)

@@ -9,13 +9,16 @@ ghost use Rattle.il_order.specs.Related.{tabulate};
 ghost use Rattle.il_order.specs.Used.{uses};
 ghost use Rattle.lift_spec.specs.Image.{sizes_of};
 ghost use Rattle.lift_spec.specs.Snapshot.{program_of, task_name};
-ghost use Rattle.lift_output.specs.Limits.{chain_from, chain_through, chains, cost_use, limit_line, limit_words, limits_text, longest_chain, longest_of, run_limits, measured, most_line, most_of, slots_text, slots_words, task_slots, unit_limits, unit_use, use_shown, with_more};
+ghost use Rattle.lift_output.specs.Limits.{chain_from, chain_through, chains, cost_use, limit_line, limit_words, limits_text, longest_chain, longest_of, run_limits, measured, most_line, most_of, slots_text, slots_words, task_slots, unit_limits, unit_use, use_shown, with_more, work_use, work_line, work_text};
+ghost use Rattle.il_work_laws.specs.Work.{most_work};
+ghost use Rattle.il_work.specs.Sizes.{capped};
 
 use il_machine::Verified;
 use il_order::relation::{Relation, holds};
 use il_order::uses::uses;
 use il_scope::Scoped;
 use il_spec::tree::{Config, Instruction, Step, Unit};
+use il_work::works;
 use lists::Items;
 use std::alloc::{AllocError, Global};
 
@@ -51,7 +54,7 @@ enum Measure {
 }
 
 /// Writes how much a configuration uses of each limit, where its text has so many bytes: a line of each, of what is
-/// counted by unit the first that uses the most, and of slots each task.
+/// counted by unit the first that uses the most, and of slots each task. The last line has the most work of a unit.
 pub fn put_limits(
     alloc: Global,
     text: &mut String,
@@ -61,7 +64,8 @@ pub fn put_limits(
     ensures { OnOk result (Puts text.old text.new (limits_text verified.now bytes)) }
 {
     put_unit_limits(text, verified.config(), bytes)?;
-    put_run_limits(alloc, text, verified)
+    put_run_limits(alloc, text, verified)?;
+    put_work(alloc, text, verified.names())
 }
 
 // Of a text of so many bytes, and of its units.
@@ -197,6 +201,36 @@ fn most_costly(verified: &Verified) -> Option<Usage<'_>>
         let usage = Usage {
             name: unit.name,
             used: unit.cost as usize,
+        };
+        best = Some(with_more(best, usage));
+    }
+    best
+}
+
+// Which unit does the most work: `work N in UNIT`.
+#[tactic(auto, unfolding(crate::specs::Limits::work_line))]
+fn put_work(alloc: Global, text: &mut String, names: &Scoped) -> Result<(), AllocError>
+    ensures { OnOk result (Puts text.old text.new (work_text names.now)) }
+{
+    let works = works(alloc, names)?;
+    match busiest(names.config(), &works) {
+        Some(unit) => writeln!(text, "work {} in {}", unit.used, unit.name),
+        None => Ok(()),
+    }
+}
+
+// The first unit that does the most work, by the work of each.
+fn busiest<'c>(config: &'c Config, works: &Items<usize>) -> Option<Usage<'c>>
+    requires { works.now ≡ map (λ u. capped (most_work config.now u)) config.now.units }
+    ensures { option_map use_shown result
+        ≡ most_of None (map (work_use config.now) config.now.units) }
+{
+    let units = config.units.as_slice();
+    let mut best = None;
+    'units: for at in 0..units.len() {
+        let usage = Usage {
+            name: units[at].name.name.as_str(),
+            used: number_at(works, at),
         };
         best = Some(with_more(best, usage));
     }
