@@ -7,12 +7,12 @@ mod declared;
 mod externals;
 mod fault;
 mod mentions;
+mod per_unit;
 mod sets;
 mod sizes;
 mod taken;
 mod tasks;
 mod types;
-mod per_unit;
 mod units;
 mod whole;
 
@@ -25,8 +25,8 @@ pub use fault::DeclareFault;
 use il_rules::{Written, refusal};
 use il_scope::Scoped;
 use il_spec::fault::Refusal;
-use std::alloc::Global;
 pub use per_unit::{UnitFault, put_found, unit_faults};
+use std::alloc::Global;
 
 /// Checks the declarations of a configuration as a text spells it (20 to 25), and finds what its names mean.
 /// Of the faults the one at the earliest place is named, at one place the one with the lowest number.

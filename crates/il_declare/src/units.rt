@@ -33,7 +33,10 @@ pub fn units_fault(alloc: Global, names: &Scoped) -> Result<Option<Found<Declare
 }
 
 /// The first fault of a unit.
-pub fn unit_fault(alloc: Global, here: &UnitScope) -> Result<Option<Found<DeclareFault>>, AllocError>
+pub fn unit_fault(
+    alloc: Global,
+    here: &UnitScope,
+) -> Result<Option<Found<DeclareFault>>, AllocError>
     ensures { IfOk result (λ found. IsLeast found (UnitBreaks here.now.config here.now.unit)) }
 {
     let again = again_fault(alloc, here.tree())?;

@@ -1318,12 +1318,7 @@ fn add_plain(
 }
 
 // Whether a word is one of the flags that are not the command's first one.
-fn is_other_flag(
-    second: Option<&str>,
-    third: Option<&str>,
-    json: Option<&str>,
-    word: &str,
-) -> bool
+fn is_other_flag(second: Option<&str>, third: Option<&str>, json: Option<&str>, word: &str) -> bool
     ensures { result ≡ is_other_flag (option_map (λ f. f.now) second.entry)
         (option_map (λ f. f.now) third.entry) (option_map (λ f. f.now) json.entry) word.now }
 {

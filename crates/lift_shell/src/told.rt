@@ -131,7 +131,15 @@ fn put_fault<C: Commands>(
         × (told.new.items ≡ told.old.items ++ (also_line fault ++ own))) }
 {
     put_also(told, fault)?;
-    let own = text_told(alloc, request, text, commands, fault.number, fault.place, explained)?;
+    let own = text_told(
+        alloc,
+        request,
+        text,
+        commands,
+        fault.number,
+        fault.place,
+        explained,
+    )?;
     told.extend_from_slice(&own)?;
     Ok(())
 }
