@@ -2,7 +2,7 @@
 use Rattle.std.specs.Prelude.{◌≡◌, ℕ, ℤ, Bool, List, [], ◌∷◌, ◌++◌, codes, decimal}
 use Rattle.std.specs.Fmt.{signed_decimal}
 use Rattle.json.specs.Print.{print}
-use Rattle.json.specs.Token.{Token, begin_object, end_object, key, string, number, boolean, null}
+use Rattle.json.specs.Token.{Token, begin_object, end_object, begin_array, end_array, key, string, number, boolean, null}
 use Rattle.base_json.specs.declared.object.Object.TheInside.{Inside}
 
 -- MEMBERS
@@ -26,6 +26,10 @@ truth_member name truth = key name ∷ boolean truth ∷ []
 -- no value
 abbrev pub null_member : List ℕ → List Token
 null_member name = key name ∷ null ∷ []
+
+-- a list of these items
+abbrev pub list_member : List ℕ → List Token → List Token
+list_member name items = key name ∷ begin_array ∷ (items ++ end_array ∷ [])
 
 -- LINES
 

@@ -16,6 +16,7 @@ use std::marker::Model;
 #[derive(Drop)]
 pub struct Object {
     json: Writer<Global>,
+    alloc: Global,
 }
 
 impl Model for Object {
@@ -40,7 +41,7 @@ impl Object {
     {
         let mut json = Writer::new(Vec::new(alloc));
         json.begin_object()?;
-        Ok(Object { json })
+        Ok(Object { json, alloc })
     }
 
     /// Adds the name of a member.
@@ -62,6 +63,14 @@ impl Object {
         ensures { OnOk result (self.new ≡ self.old ++ number (decimal n) ∷ []) }
     {
         self.json.u64(n)
+    }
+
+    /// Adds an integer, which may be below 0.
+    pub fn integer(&mut self, z: i128) -> Result<(), AllocError>
+        ensures { OnOk result (self.new ≡ self.old ++ number (signed_decimal z) ∷ []) }
+    {
+        let digits = format!(in self.alloc; "{}", z)?;
+        self.json.number(&digits)
     }
 
     /// Begins an object inside.
@@ -109,11 +118,11 @@ impl Object {
     }
 
     /// Adds a member: an integer, which may be below 0.
-    pub fn integer_member(&mut self, name: &str, z: i64) -> Result<(), AllocError>
+    pub fn integer_member(&mut self, name: &str, z: i128) -> Result<(), AllocError>
         ensures { OnOk result (self.new ≡ self.old ++ integer_member name.now z) }
     {
         self.key(name)?;
-        self.json.i64(z)
+        self.integer(z)
     }
 
     /// Adds a member: true or false.
@@ -138,7 +147,7 @@ impl Object {
         ensures read { OnOk result (tokens (print (self ++ end_object ∷ []))
             ≡ self ++ end_object ∷ []) }
     {
-        let Object { mut json } = self;
+        let Object { mut json, .. } = self;
         json.end_object()?;
         let Ok(line) = String::from_utf8(json.into_inner()) else {
             unreachable!()
