@@ -83,7 +83,14 @@ fn put_unit_limits(
     put_limit(alloc, text, form, "bytes", bytes, MOST_BYTES)?;
     put_limit(alloc, text, form, "units", units.len(), MOST_UNITS)?;
     let instructions = greatest(units, Measure::Instructions);
-    put_most(alloc, text, form, "instructions", instructions, MOST_INSTRUCTIONS)?;
+    put_most(
+        alloc,
+        text,
+        form,
+        "instructions",
+        instructions,
+        MOST_INSTRUCTIONS,
+    )?;
     let nesting = greatest(units, Measure::Nesting);
     put_most(alloc, text, form, "nesting", nesting, MOST_NESTING)
 }
@@ -101,7 +108,14 @@ fn put_run_limits(
     let chain = longest_chain(alloc, verified.names())?;
     put_limit(alloc, text, form, "chain", chain, MOST_CHAIN)?;
     put_slots(alloc, text, form, verified)?;
-    put_limit(alloc, text, form, "globals", verified.globals().len(), MOST_SLOTS)?;
+    put_limit(
+        alloc,
+        text,
+        form,
+        "globals",
+        verified.globals().len(),
+        MOST_SLOTS,
+    )?;
     put_most(alloc, text, form, "cost", most_costly(verified), MOST_COST)
 }
 

@@ -78,14 +78,8 @@ impl Observer for Denials {
             round,
             report.denials.as_slice(),
         )?;
-        put_answers(
-            alloc,
-            &mut self.text,
-            form,
-            round,
-            task,
-            report.answers.as_slice(),
-        )
+        let answers = report.answers.as_slice();
+        put_answers(alloc, &mut self.text, form, round, task, answers)
     }
 
     fn ended(&mut self, _round: u16, _world: &World) -> Result<(), AllocError> {
