@@ -160,10 +160,12 @@ heading_text u = kind_word u.kind ++ (codes " " ++ (u.name.name ++ (codes " line
 -- OBJECTS
 
 -- the line, the result, and the variables that the instruction names
+abbrev pub reached_with : ℕ → Option Known → List RangedVariable → List Token
+reached_with line found variables =
+    number_member (codes "line") line ++ (key (codes "result") ∷ (result_tokens found ++ list_member (codes "variables") (flat_map variable_tokens variables)))
+
 abbrev pub reached_members : Step → Knowledge → List Token
-reached_members s k =
-    number_member (codes "line") s.place.line
-    ++ (key (codes "result") ∷ (result_tokens k.result ++ list_member (codes "variables") (flat_map variable_tokens (instruction_variables k s.instruction))))
+reached_members s k = reached_with s.place.line k.result (instruction_variables k s.instruction)
 
 -- the line, and that nothing reaches it
 abbrev pub not_reached_members : Step → List Token

@@ -1,18 +1,19 @@
 // The lines of a unit.
 
-ghost use Rattle.std.specs.Prelude.{◌≡◌, ◌++◌, option_map, OnOk};
+ghost use Rattle.std.specs.Prelude.{◌≡◌, ◌++◌, map, option_map, OnOk};
 ghost use Rattle.base_json.specs.Forms.{row_in};
 ghost use Rattle.base_json.specs.Objects.{line_of, object};
 ghost use Rattle.base_texts.specs.Puts.{Puts};
-ghost use Rattle.il_reports.specs.RangeLines.{front_text, reached_text, not_reached_text, refused_line, kind_word, heading_text, reached_members, not_reached_members, refused_members, heading_members, refused_row, heading_row};
+ghost use Rattle.il_reports.specs.RangeLines.{front_text, reached_text, not_reached_text, refused_line, kind_word, heading_text, reached_members, reached_with, not_reached_members, variable_shown, refused_members, heading_members, refused_row, heading_row};
 
 use crate::range_values::{add_result, add_variables, put_result, put_variables};
-use crate::range_variables::instruction_variables;
+use crate::range_variables::{RangedVariable, instruction_variables};
 use crate::source::put_told;
 use base_json::form::Form;
 use base_json::object::Object;
 use il_ranges::{PlaceFacts, RangeFault, Witness};
 use il_rules::Found;
+use il_run::known::Known;
 use il_spec::tree::{Step, Unit, UnitKind};
 use std::alloc::{AllocError, Global};
 
@@ -99,10 +100,28 @@ fn put_reached_object(
 {
     let variables = instruction_variables(alloc, known, &step.instruction)?;
     let mut object = Object::begin(alloc)?;
-    object.number_member("line", u64::from(step.place.line))?;
-    add_result(&mut object, known.result())?;
-    add_variables(&mut object, variables.as_slice())?;
+    add_reached(
+        &mut object,
+        step.place.line,
+        known.result(),
+        variables.as_slice(),
+    )?;
     object.put_line(text)
+}
+
+// Its line, its result and its variables.
+fn add_reached(
+    object: &mut Object,
+    line: u32,
+    found: Option<Known>,
+    variables: &[RangedVariable<'_>],
+) -> Result<(), AllocError>
+    ensures { OnOk result (object.new ≡ object.old ++ reached_with line found
+        (map variable_shown variables.now)) }
+{
+    object.number_member("line", u64::from(line))?;
+    add_result(object, found)?;
+    add_variables(object, variables)
 }
 
 // The object of an instruction that is not reached.
@@ -194,8 +213,14 @@ fn put_heading_object(alloc: Global, text: &mut String, unit: &Unit) -> Result<(
     ensures { OnOk result (Puts text.old text.new (line_of (object (heading_members unit.now)))) }
 {
     let mut object = Object::begin(alloc)?;
+    add_heading(&mut object, unit)?;
+    object.put_line(text)
+}
+
+fn add_heading(object: &mut Object, unit: &Unit) -> Result<(), AllocError>
+    ensures { OnOk result (object.new ≡ object.old ++ heading_members unit.now) }
+{
     object.text_member("kind", kind_word(unit.kind))?;
     object.text_member("unit", unit.name.name.as_str())?;
-    object.number_member("line", u64::from(unit.place.line))?;
-    object.put_line(text)
+    object.number_member("line", u64::from(unit.place.line))
 }

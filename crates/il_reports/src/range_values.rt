@@ -1,10 +1,10 @@
 // Values and variables, as they are written.
 
-ghost use Rattle.std.specs.Prelude.{◌≡◌, ◌++◌, ◌∷◌, codes, flat_map, map, OnOk};
+ghost use Rattle.std.specs.Prelude.{◌≡◌, ◌++◌, ◌∷◌, [], codes, flat_map, map, OnOk};
 ghost use Rattle.base_json.specs.Objects.{list_member, text_member};
 ghost use Rattle.base_texts.specs.Puts.{Puts};
 ghost use Rattle.il_reports.specs.RangeLines.{type_word, range_text, result_text, variable_text, range_members, result_tokens, variable_tokens, variable_shown};
-ghost use Rattle.json.specs.Token.{begin_object, key};
+ghost use Rattle.json.specs.Token.{begin_array, begin_object, key};
 
 use crate::range_variables::RangedVariable;
 use base_json::object::Object;
@@ -142,8 +142,14 @@ pub fn add_variables(
     ensures { OnOk result (object.new ≡ object.old ++ list_member (codes "variables")
         (flat_map variable_tokens (map variable_shown variables.now))) }
 {
-    object.key("variables")?;
-    object.begin_list()?;
+    begin_variables(object)?;
     add_each(object, variables)?;
     object.end_list()
+}
+
+fn begin_variables(object: &mut Object) -> Result<(), AllocError>
+    ensures { OnOk result (object.new ≡ object.old ++ key (codes "variables") ∷ begin_array ∷ []) }
+{
+    object.key("variables")?;
+    object.begin_list()
 }

@@ -1,7 +1,8 @@
 // What `check` prints.
 
-ghost use Rattle.std.specs.Prelude.{◌≡◌, ◌++◌, flat_map, IfOk, OnOk, string_bytes};
-ghost use Rattle.base_json.specs.Objects.{line_of, object};
+ghost use Rattle.std.specs.Prelude.{◌≡◌, ◌++◌, ◌∷◌, [], codes, flat_map, IfOk, OnOk, string_bytes};
+ghost use Rattle.base_json.specs.Objects.{line_of, list_member, object};
+ghost use Rattle.json.specs.Token.{begin_array, key};
 ghost use Rattle.base_texts.specs.Puts.{Puts};
 ghost use Rattle.il_machine.specs.Listing.{task_lines, unit_lines, task_shown, unit_shown};
 ghost use Rattle.lift_output.specs.Listing.{task_text, unit_text, path_shown, task_members, path_tokens, unit_members, accepted_row, task_row, unit_row, listing};
@@ -102,12 +103,18 @@ fn put_task_object(alloc: Global, text: &mut String, task: TaskInfo<'_>) -> Resu
         (line_of (object (task_members (task_shown task.entry))))) }
 {
     let mut object = Object::begin(alloc)?;
+    add_task(&mut object, task)?;
+    object.put_line(text)
+}
+
+fn add_task(object: &mut Object, task: TaskInfo<'_>) -> Result<(), AllocError>
+    ensures { OnOk result (object.new ≡ object.old ++ task_members (task_shown task.entry)) }
+{
     object.text_member("task", task.name)?;
     object.integer_member("interval", i128::from(task.interval))?;
     object.integer_member("priority", i128::from(task.priority))?;
     object.text_member("program", task.program)?;
-    object.number_member("budget", u64::from(task.budget))?;
-    object.put_line(text)
+    object.number_member("budget", u64::from(task.budget))
 }
 
 fn put_unit(
@@ -151,17 +158,36 @@ fn put_unit_object(alloc: Global, text: &mut String, unit: UnitInfo<'_>) -> Resu
         (line_of (object (unit_members (unit_shown unit.entry))))) }
 {
     let mut object = Object::begin(alloc)?;
-    object.text_member("unit", unit.name)?;
-    object.number_member("cost", u64::from(unit.cost))?;
-    object.key("path")?;
-    object.begin_list()?;
-    add_path(&mut object, unit.path)?;
-    object.end_list()?;
+    add_unit(&mut object, unit)?;
     object.put_line(text)
 }
 
-// The lines of a path.
+fn add_unit(object: &mut Object, unit: UnitInfo<'_>) -> Result<(), AllocError>
+    ensures { OnOk result (object.new ≡ object.old ++ unit_members (unit_shown unit.entry)) }
+{
+    object.text_member("unit", unit.name)?;
+    object.number_member("cost", u64::from(unit.cost))?;
+    add_path(object, unit.path)
+}
+
+// The list of the lines of a path.
 fn add_path(object: &mut Object, path: &[u32]) -> Result<(), AllocError>
+    ensures { OnOk result (object.new ≡ object.old
+        ++ list_member (codes "path") (path_tokens path.now)) }
+{
+    begin_path(object)?;
+    add_lines(object, path)?;
+    object.end_list()
+}
+
+fn begin_path(object: &mut Object) -> Result<(), AllocError>
+    ensures { OnOk result (object.new ≡ object.old ++ key (codes "path") ∷ begin_array ∷ []) }
+{
+    object.key("path")?;
+    object.begin_list()
+}
+
+fn add_lines(object: &mut Object, path: &[u32]) -> Result<(), AllocError>
     ensures { OnOk result (object.new ≡ object.old ++ path_tokens path.now) }
 {
     'lines: for line in path {

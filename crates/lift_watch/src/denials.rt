@@ -4,7 +4,7 @@ ghost use Rattle.std.specs.Prelude.{◌≡◌, ◌++◌, [], codes, decimal, OnO
 ghost use Rattle.base_json.specs.declared.form.Form.TheVariants.{Plain};
 ghost use Rattle.base_json.specs.Objects.{line_of, object};
 ghost use Rattle.base_texts.specs.Puts.{Puts};
-ghost use Rattle.lift_watch.specs.Denials.{denial_text, denial_members, denial_row, refresh_denial_row, refresh_rows, is_end_stop, undone_text, undone_members, undone_row, answer_row, denials_rows, answers_rows, denied_in};
+ghost use Rattle.lift_watch.specs.Denials.{denial_text, denial_members, denial_row, event_members, rule_members, answer_members, refresh_denial_row, refresh_rows, is_end_stop, undone_text, undone_members, undone_row, answer_row, denials_rows, answers_rows, denied_in};
 ghost use Rattle.lift_spec.specs.Snapshot.{task_name};
 
 use base_json::form::Form;
@@ -195,12 +195,34 @@ fn put_denial_object(
 {
     let task = format!(in alloc; "CAR{}", denial.car)?;
     let mut object = Object::begin(alloc)?;
+    add_event(&mut object, round, event, &task)?;
+    add_rule(&mut object, denial.rule)?;
+    object.put_line(text)
+}
+
+// The round, the event and its task.
+fn add_event(object: &mut Object, round: u32, event: &str, task: &str) -> Result<(), AllocError>
+    ensures { OnOk result (object.new ≡ object.old ++ event_members round event.now task.now) }
+{
     object.number_member("round", u64::from(round))?;
     object.text_member("by", event)?;
-    object.text_member("task", &task)?;
-    object.number_member("rule", u64::from(denial.rule.number()))?;
-    object.text_member("says", denial.rule.sentence())?;
-    object.put_line(text)
+    object.text_member("task", task)
+}
+
+// A rule, and what it says.
+fn add_rule(object: &mut Object, rule: Rule) -> Result<(), AllocError>
+    ensures { OnOk result (object.new ≡ object.old ++ rule_members rule) }
+{
+    object.number_member("rule", u64::from(rule.number()))?;
+    object.text_member("says", rule.sentence())
+}
+
+// A slot, and what its tell or serve was answered.
+fn add_answer(object: &mut Object, slot: u8, answer: &str) -> Result<(), AllocError>
+    ensures { OnOk result (object.new ≡ object.old ++ answer_members slot answer.now) }
+{
+    object.number_member("slot", u64::from(slot))?;
+    object.text_member("answer", answer)
 }
 
 /// The tells of a commit, or its serve, that were not done.
@@ -271,11 +293,8 @@ fn put_undone_object(
     let mut name = String::new(alloc);
     put_task(&mut name, task)?;
     let mut object = Object::begin(alloc)?;
-    object.number_member("round", u64::from(round))?;
-    object.text_member("by", "commit")?;
-    object.text_member("task", &name)?;
-    object.number_member("slot", u64::from(slot))?;
-    object.text_member("answer", answer)?;
+    add_event(&mut object, round, "commit", &name)?;
+    add_answer(&mut object, slot, answer)?;
     object.put_line(text)
 }
 

@@ -1,6 +1,6 @@
 use Rattle.std.proofs.Common.{◌≡◌, ◌++◌, take}
 use Rattle.lift_output.specs.Listing.{path_tokens}
-use Rattle.lift_output.proofs.check.add_path.Given as goal
+use Rattle.lift_output.proofs.check.add_lines.Given as goal
 
 -- the lines so far
 abbrev pub invariant-lines : goal.invariant-lines
