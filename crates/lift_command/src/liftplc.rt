@@ -3,10 +3,12 @@
 ghost use Rattle.std.specs.Prelude.{◌≡◌, ◌≢◌, ℕ, List, Some, Ok, Err, true, false};
 ghost use Rattle.il_reasons.specs.Reasons.{IsReason};
 ghost use Rattle.lift_command.specs.Loaded.{IsLoaded};
+ghost use Rattle.lift_command.specs.Others.{AreOthers};
 ghost use Rattle.lift_command.specs.Runs.{IsInForm, IsKnown, IsPlainOutcome, IsRefusedOutcome, IsTextOutcome};
 ghost use Rattle.lift_output.specs.Outcomes.{AreWarned, IsProgramOutcome};
 ghost use Rattle.lift_shell.specs.Runs.{runs};
 
+use crate::others::others;
 use base_json::form::Form;
 use il_machine::Verified;
 use il_reasons::reason;
@@ -21,7 +23,7 @@ use lift_json::lines::json_lines;
 use lift_load::{load, unbroken};
 use lift_messages::output::{Output, Warned};
 use lift_output::outcome::{outcome, ran};
-use lift_shell::commands::Commands;
+use lift_shell::commands::{Commands, OtherFault};
 use std::alloc::{AllocError, Global};
 use std::sync::Wait;
 use std::thread::Threads;
@@ -34,6 +36,8 @@ impl Commands for Liftplc {
     ghost gives = { λ _. IsTextOutcome };
 
     ghost reasons = { λ _. IsReason };
+
+    ghost others = { λ _. AreOthers };
 
     fn outcome(
         &self,
@@ -68,6 +72,16 @@ impl Commands for Liftplc {
         place: Place,
     ) -> Result<Vec<u8>, AllocError> {
         reason(alloc, text, number, place)
+    }
+
+    fn others(
+        &self,
+        alloc: Global,
+        text: &[u8],
+        number: u16,
+        place: Place,
+    ) -> Result<Vec<OtherFault>, AllocError> {
+        others(alloc, text, number, place)
     }
 }
 

@@ -14,6 +14,8 @@ use Rattle.il_machine.specs.Scanning.{Program}
 use Rattle.il_order.specs.Counted.{number_at}
 use Rattle.il_order.specs.Related.{holds, tabulate}
 use Rattle.il_order.specs.Used.{uses}
+use Rattle.il_work_laws.specs.Work.{most_work}
+use Rattle.il_work.specs.Sizes.{capped}
 use Rattle.lift_spec.specs.Image.{sizes_of}
 use Rattle.lift_spec.specs.Snapshot.{program_of, task_name}
 use Rattle.lift_output.specs.declared.limits.Measure.{Measure}
@@ -134,6 +136,27 @@ car_slots form c (suc car) = car_slots form c car ++ task_slots form c (suc car)
 abbrev pub slots_rows : Form → Config → List ℕ
 slots_rows form c = car_slots form c (sizes_of c).cars ++ task_slots form c 0
 
+-- WORK
+
+-- the most work of a unit: its steps, and the values that calls set and copy
+abbrev pub work_use : Config → ProgramUnit → UnitUse
+work_use c unit = record { name = unit.name.name; used = capped (most_work c unit) }
+
+-- `work N in UNIT`
+unfoldable pub work_line : ℕ → Text → List ℕ
+work_line used name = codes "work " ++ (decimal used ++ (codes " in " ++ (name ++ codes "\n")))
+
+abbrev pub work_members : ℕ → Text → List Token
+work_members used name = number_member (codes "work") used ++ text_member (codes "in") name
+
+-- the row of the unit that does the most; there is none without units
+abbrev pub work_row : Form → Option UnitUse → List ℕ
+work_row form None = []
+work_row form (Some unit) = row_in form (work_line unit.used unit.name) (work_members unit.used unit.name)
+
+abbrev pub work_rows : Form → Config → List ℕ
+work_rows form c = work_row form (most_of None (map (work_use c) c.units))
+
 -- ALL LIMITS
 
 -- of a text of so many bytes, and of its units
@@ -150,6 +173,6 @@ run_limits form p =
     ++ (slots_rows form p.config
     ++ (limit_row form (codes "globals") (length (global_cells p.config)) 4096 ++ most_row form (codes "cost") (most_of None (map cost_use (unit_lines p.config.units p.costs))) 1000000))
 
--- of a program whose text has so many bytes
+-- of a program whose text has so many bytes, and its work, which has no limit of its own
 abbrev pub limits_rows : Form → Program → ℕ → List ℕ
-limits_rows form p bytes = unit_limits form p.config bytes ++ run_limits form p
+limits_rows form p bytes = unit_limits form p.config bytes ++ (run_limits form p ++ work_rows form p.config)

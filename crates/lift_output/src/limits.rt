@@ -1,7 +1,7 @@
 // How much of each limit a configuration uses.
 
 ghost use Rattle.std.specs.Prelude.{◌≡◌, ◌≤◌, ◌<◌, ◌+◌, ◌++◌, IfOk, OnOk, None, Some, false, length, map, option_map};
-ghost use Rattle.base_json.specs.Objects.{line_of, object};
+ghost use Rattle.base_json.specs.Forms.{row_in};
 ghost use Rattle.base_texts.specs.Puts.{Puts};
 ghost use Rattle.il_spec.specs.Grammar.{depth_after, greatest_depth};
 ghost use Rattle.il_machine.specs.Listing.{unit_lines};
@@ -10,7 +10,9 @@ ghost use Rattle.il_order.specs.Related.{tabulate};
 ghost use Rattle.il_order.specs.Used.{uses};
 ghost use Rattle.lift_spec.specs.Image.{sizes_of};
 ghost use Rattle.lift_spec.specs.Snapshot.{program_of, task_name};
-ghost use Rattle.lift_output.specs.Limits.{chain_from, chain_through, chains, cost_use, limit_line, limit_line_in, limit_members, limit_members_in, limit_row, limit_row_in, limit_words, limits_rows, longest_chain, longest_of, run_limits, measured, most_row, most_of, slots_rows, slots_row, task_slots, unit_limits, unit_use, use_shown, with_more};
+ghost use Rattle.lift_output.specs.Limits.{chain_from, chain_through, chains, cost_use, limit_line, limit_line_in, limit_members, limit_members_in, limit_row, limit_row_in, limit_words, limits_rows, longest_chain, longest_of, run_limits, measured, most_row, most_of, slots_rows, slots_row, task_slots, unit_limits, unit_use, use_shown, with_more, work_use, work_line, work_members, work_rows};
+ghost use Rattle.il_work_laws.specs.Work.{most_work};
+ghost use Rattle.il_work.specs.Sizes.{capped};
 
 use base_json::form::Form;
 use base_json::object::Object;
@@ -19,6 +21,7 @@ use il_order::relation::{Relation, holds};
 use il_order::uses::uses;
 use il_scope::Scoped;
 use il_spec::tree::{Config, Instruction, Step, Unit};
+use il_work::works;
 use lists::Items;
 use std::alloc::{AllocError, Global};
 
@@ -54,7 +57,7 @@ enum Measure {
 }
 
 /// Writes how much a configuration uses of each limit, where its text has so many bytes: a row of each, of what is
-/// counted by unit the first that uses the most, and of slots each task.
+/// counted by unit the first that uses the most, and of slots each task. The last row has the most work of a unit.
 pub fn put_limits(
     alloc: Global,
     text: &mut String,
@@ -65,7 +68,8 @@ pub fn put_limits(
     ensures { OnOk result (Puts text.old text.new (limits_rows form verified.now bytes)) }
 {
     put_unit_limits(alloc, text, form, verified.config(), bytes)?;
-    put_run_limits(alloc, text, form, verified)
+    put_run_limits(alloc, text, form, verified)?;
+    put_work(alloc, text, form, verified.names())
 }
 
 // Of a text of so many bytes, and of its units.
@@ -291,6 +295,64 @@ fn most_costly(verified: &Verified) -> Option<Usage<'_>>
         let usage = Usage {
             name: unit.name,
             used: unit.cost as usize,
+        };
+        best = Some(with_more(best, usage));
+    }
+    best
+}
+
+// Which unit does the most work.
+fn put_work(alloc: Global, text: &mut String, form: Form, names: &Scoped) -> Result<(), AllocError>
+    ensures { OnOk result (Puts text.old text.new (work_rows form names.now)) }
+{
+    let works = works(alloc, names)?;
+    match busiest(names.config(), &works) {
+        Some(unit) => put_work_row(alloc, text, form, unit.used, unit.name),
+        None => Ok(()),
+    }
+}
+
+fn put_work_row(
+    alloc: Global,
+    text: &mut String,
+    form: Form,
+    used: usize,
+    name: &str,
+) -> Result<(), AllocError>
+    ensures { OnOk result (Puts text.old text.new
+        (row_in form (work_line used name.now) (work_members used name.now))) }
+{
+    match form {
+        Form::Plain => put_work_line(text, used, name),
+        Form::Json => {
+            let mut object = Object::begin(alloc)?;
+            object.number_member("work", used as u64)?;
+            object.text_member("in", name)?;
+            object.put_line(text)
+        }
+    }
+}
+
+// `work N in UNIT`.
+#[tactic(auto, unfolding(crate::specs::Limits::work_line))]
+fn put_work_line(text: &mut String, used: usize, name: &str) -> Result<(), AllocError>
+    ensures { OnOk result (Puts text.old text.new (work_line used name.now)) }
+{
+    writeln!(text, "work {} in {}", used, name)
+}
+
+// The first unit that does the most work, by the work of each.
+fn busiest<'c>(config: &'c Config, works: &Items<usize>) -> Option<Usage<'c>>
+    requires { works.now ≡ map (λ u. capped (most_work config.now u)) config.now.units }
+    ensures { option_map use_shown result
+        ≡ most_of None (map (work_use config.now) config.now.units) }
+{
+    let units = config.units.as_slice();
+    let mut best = None;
+    'units: for at in 0..units.len() {
+        let usage = Usage {
+            name: units[at].name.name.as_str(),
+            used: number_at(works, at),
         };
         best = Some(with_more(best, usage));
     }
