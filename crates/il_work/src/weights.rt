@@ -68,10 +68,10 @@ fn moves(names: &Scoped, sizes: &[usize], instruction: &Instruction) -> usize
     ensures { result ≡ moves_of names.now sizes.now instruction.now }
 {
     match instruction {
-        Instruction::Call { arguments, .. } => arguments.len(),
+        Instruction::Call { arguments, .. } => arguments.as_slice().len(),
         Instruction::Invoke { function, operands } => {
             let number = names.function(function.name.as_str());
-            invoked_moves(sizes, number, operands.len())
+            invoked_moves(sizes, number, operands.as_slice().len())
         }
         _ => 0,
     }
