@@ -142,14 +142,25 @@ pub fn add_variables(
     ensures { OnOk result (object.new ≡ object.old ++ list_member (codes "variables")
         (flat_map variable_tokens (map variable_shown variables.now))) }
 {
-    begin_variables(object)?;
+    add_list(object, "variables", variables)
+}
+
+fn add_list(
+    object: &mut Object,
+    name: &str,
+    variables: &[RangedVariable<'_>],
+) -> Result<(), AllocError>
+    ensures { OnOk result (object.new ≡ object.old ++ list_member name.now
+        (flat_map variable_tokens (map variable_shown variables.now))) }
+{
+    begin_list(object, name)?;
     add_each(object, variables)?;
     object.end_list()
 }
 
-fn begin_variables(object: &mut Object) -> Result<(), AllocError>
-    ensures { OnOk result (object.new ≡ object.old ++ key (codes "variables") ∷ begin_array ∷ []) }
+fn begin_list(object: &mut Object, name: &str) -> Result<(), AllocError>
+    ensures { OnOk result (object.new ≡ object.old ++ key name.now ∷ begin_array ∷ []) }
 {
-    object.key("variables")?;
+    object.key(name)?;
     object.begin_list()
 }
