@@ -129,7 +129,7 @@ pub(crate) const OF_CONFIGURATIONS: [Meaning; 32] = [
     },
     Meaning {
         number: 50,
-        text: "50: a unit that costs too much\n\nA control path of the unit costs more than 1000000, as `LANGUAGE.md` counts under *The scan*, with the units that it calls. Named is the heading of the first such unit.\n\n    FUNCTION F : INT\n    VAR_INPUT A : INT; END_VAR\n    LD A             (* and 1997 more such lines, up to line 2000 *)\n    ST F\n    END_FUNCTION\n    PROGRAM C\n    LD 1\n    F                (* and 499 more such lines, up to line 2504 *)\n    END_PROGRAM\n\nrefused 50 at line 2003\n\nF costs 2000, and a call of it 2001; so C costs 1000502. Call less in a row: one scan can do a part of the work, and the next one the rest. With 499 calls C costs 998501, and the text is accepted.\n\nA cost is a number of steps. How long a scan takes depends on the values that its calls move, too: `check --limits` prints that work of an accepted text.\n",
+        text: "50: a unit that costs too much\n\nA control path of the unit costs more than 1000000, as `LANGUAGE.md` counts under *The scan*, with the units that it calls. Named is the heading of the first such unit.\n\n    FUNCTION F : INT\n    VAR_INPUT A : INT; END_VAR\n    LD A             (* and 1997 more such lines, up to line 2000 *)\n    ST F\n    END_FUNCTION\n    PROGRAM C\n    LD 1\n    F                (* and 499 more such lines, up to line 2504 *)\n    END_PROGRAM\n\nrefused 50 at line 2003\n\nF costs 2000, and a call of it 2001; so C costs 1000502. Call less in a row: one scan can do a part of the work, and the next one the rest. With 499 calls C costs 998501, and the text is accepted.\n",
     },
 ];
 

@@ -1,4 +1,4 @@
-use Rattle.std.proofs.Common.{◌≡◌, ◌∙◌, ap, subst, inl, inr}
+use Rattle.std.proofs.Common.{◌∙◌, ap, subst, inl, inr}
 use Rattle.il_rules.specs.Least.{IsLeast}
 use Rattle.il_declare.specs.Units.{UnitBreaks}
 use Rattle.il_declare.proofs.AllBroken.{is_broken}
