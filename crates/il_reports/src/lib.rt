@@ -9,6 +9,7 @@ mod never;
 mod range_lines;
 mod range_units;
 mod range_values;
+mod range_variables;
 pub mod source;
 mod texts;
 pub mod unit_uses;
@@ -16,6 +17,6 @@ pub mod uses;
 mod warnings;
 mod xref;
 
-pub use range_units::ranges_text;
+pub use range_units::{ranges_in, ranges_text};
 pub use warnings::warnings_text;
 pub use xref::xref_text;

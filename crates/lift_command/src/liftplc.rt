@@ -9,15 +9,16 @@ ghost use Rattle.lift_output.specs.Outcomes.{AreWarned, IsProgramOutcome};
 ghost use Rattle.lift_shell.specs.Runs.{runs};
 
 use crate::others::others;
+use base_json::form::Form;
 use il_machine::Verified;
 use il_reasons::reason;
-use il_reports::ranges_text;
+use il_reports::ranges_in;
 use il_spec::fault::Refusal;
 use il_spec::tree::Place;
 use lift_host::files::Reading;
 use lift_host::request::{Request, Showing, Shown, Simulating};
 use lift_host::status::Fault;
-use lift_json::form::Form;
+use lift_json::form::becomes_objects;
 use lift_json::lines::json_lines;
 use lift_load::{load, unbroken};
 use lift_messages::output::{Output, Warned};
@@ -46,7 +47,7 @@ impl Commands for Liftplc {
         trace: &Reading,
     ) -> Result<Output, Fault> {
         let plain = plain_outcome(alloc, request, text, trace);
-        in_form(alloc, Form::of(request), plain)
+        in_form(alloc, becomes_objects(request), plain)
     }
 
     fn run<R: Threads + Wait + Sync>(
@@ -84,7 +85,7 @@ impl Commands for Liftplc {
     }
 }
 
-// What a request that isn't `run` gives of a text, without `--json`.
+// What a request that isn't `run` gives of a text, before the lines of `xref` become objects.
 fn plain_outcome(
     alloc: Global,
     request: Request<'_>,
@@ -101,29 +102,33 @@ fn plain_outcome(
     }
 }
 
-// An outcome in the form that is asked for.
-fn in_form(alloc: Global, form: Option<Form>, plain: Result<Output, Fault>) -> Result<Output, Fault>
-    ensures formed { IsInForm form plain result }
+// An outcome whose lines become objects, where they should.
+fn in_form(
+    alloc: Global,
+    becomes_objects: bool,
+    plain: Result<Output, Fault>,
+) -> Result<Output, Fault>
+    ensures formed { IsInForm becomes_objects plain result }
     ensures unwritten { plain ≢ Err Fault.CannotWrite → result ≢ Err Fault.CannotWrite }
 {
-    let Some(form) = form else {
+    if !becomes_objects {
         return plain;
-    };
+    }
     match plain {
-        Ok(output) => formed(alloc, form, output),
+        Ok(output) => formed(alloc, output),
         Err(fault) => Err(fault),
     }
 }
 
-// An output in a form. No command that has a form prints a trace.
-fn formed(alloc: Global, form: Form, output: Output) -> Result<Output, Fault>
-    ensures formed { IsInForm (Some form) (Ok output) result }
+// An output whose lines become objects. A trace has none.
+fn formed(alloc: Global, output: Output) -> Result<Output, Fault>
+    ensures formed { IsInForm true (Ok output) result }
     ensures unwritten { result ≢ Err Fault.CannotWrite }
 {
     match output {
-        Output::Text(text) => Ok(Output::Text(json_lines(alloc, form, &text)?)),
+        Output::Text(text) => Ok(Output::Text(json_lines(alloc, &text)?)),
         Output::Warned(Warned { text, warnings }) => {
-            let text = json_lines(alloc, form, &text)?;
+            let text = json_lines(alloc, &text)?;
             Ok(Output::Warned(Warned { text, warnings }))
         }
         Output::Trace(_) | Output::Ran(_) => Err(Fault::NoMemory),
@@ -171,11 +176,15 @@ fn refused(
 
 // The ranges of a refused text, where no rule of its declarations, types and order is broken.
 fn known(alloc: Global, asked: Shown<'_>, text: &[u8], refusal: Refusal) -> Result<Output, Fault>
-    ensures is { IsKnown asked.entry.text text.now refusal result }
+    ensures is { IsKnown asked.entry text.now refusal result }
     ensures unwritten { result ≢ Err Fault.CannotWrite }
 {
     match unbroken(alloc, text) {
-        Ok(ordered) => Ok(Output::Text(ranges_text(alloc, ordered.names(), asked.text, text)?)),
+        Ok(ordered) => {
+            let form = Form::of(asked.json);
+            let names = ordered.names();
+            Ok(Output::Text(ranges_in(alloc, names, form, asked.text, text)?))
+        }
         Err(Refusal::Memory) => Err(Fault::NoMemory),
         Err(Refusal::Fault { .. }) => Err(refusal.into()),
     }

@@ -6,7 +6,7 @@ use Rattle.std.proofs.lemmas.List.Sums.{fails_before_first}
 use Rattle.std.proofs.lemmas.List.Splits.{slice_split_none, slice_split_first}
 use Rattle.lift_json.specs.Pieces.{sign_of, is_cut, pieces}
 use Rattle.lift_json.specs.declared.pieces.Cut.{Cut}
-use Rattle.lift_json.specs.declared.pieces.Cut.TheVariants.{Feed, Blank, Comma, Colon, Dot}
+use Rattle.lift_json.specs.declared.pieces.Cut.TheVariants.{Feed, Blank, Comma, Colon}
 
 -- each sign is ASCII
 pub sign_small : (cut : Cut) → sign_of cut < 128
@@ -14,7 +14,6 @@ sign_small Feed = omega arith
 sign_small Blank = omega arith
 sign_small Comma = omega arith
 sign_small Colon = omega arith
-sign_small Dot = omega arith
 
 module _ (cut : Cut) (text : List ℕ) where
   -- a text that is cut nowhere is its one piece
@@ -29,14 +28,3 @@ module _ (cut : Cut) (text : List ℕ) where
   -- all of a text that is cut nowhere stands before the first cut
   pub all_before : position_or_len (is_cut cut) text ≡ length text → text ≡ before_first (is_cut cut) text
   all_before e = sym (take_all (position_or_len (is_cut cut) text) text (omega (arith, e)))
-
--- nothing stands behind the end of a text
-past : (n : ℕ) (text : List ℕ) → length text ≤ n → [] ≡ drop n text
-past zero [] low = refl
-past zero (b ∷ text) low = absurd (omega (arith, low))
-past (suc n) [] low = refl
-past (suc n) (b ∷ text) low = past n text (omega (arith, low))
-
--- nothing stands behind the first cut of a text that is cut nowhere
-pub none_behind : (cut : Cut) (text : List ℕ) → position_or_len (is_cut cut) text ≡ length text → [] ≡ after_first (is_cut cut) text
-none_behind cut text e = past (position_or_len (is_cut cut) text + 1) text (omega (arith, e))

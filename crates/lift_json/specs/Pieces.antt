@@ -1,8 +1,8 @@
 -- Texts in pieces (own rules).
 use Rattle.std.specs.Prelude.{ℕ, Bool, false, nat_le, nat_lt, ◌==◌, ◌||◌, ◌&&◌, List, [], ◌∷◌, length, Option, Some, None}
-use Rattle.std.specs.List.{slice_split, position_or_len, before_first, after_first}
+use Rattle.std.specs.List.{slice_split, position_or_len, before_first}
 use Rattle.lift_json.specs.declared.pieces.Cut.{Cut}
-use Rattle.lift_json.specs.declared.pieces.Cut.TheVariants.{Feed, Blank, Comma, Colon, Dot}
+use Rattle.lift_json.specs.declared.pieces.Cut.TheVariants.{Feed, Blank, Comma, Colon}
 
 -- the character at which a text is cut
 abbrev pub sign_of : Cut → ℕ
@@ -10,7 +10,6 @@ sign_of Feed = 10
 sign_of Blank = 32
 sign_of Comma = 44
 sign_of Colon = 58
-sign_of Dot = 46
 
 abbrev pub is_cut : Cut → ℕ → Bool
 is_cut cut b = b == sign_of cut
@@ -27,10 +26,6 @@ pieces_left cut (Some text) = pieces cut text
 -- what stands before the first cut; all of the text, where there is none
 abbrev pub front : Cut → List ℕ → List ℕ
 front cut text = before_first (is_cut cut) text
-
--- what stands behind it; nothing, where there is none
-abbrev pub behind : Cut → List ℕ → List ℕ
-behind cut text = after_first (is_cut cut) text
 
 -- the place of the first cut; that of the end, where there is none
 abbrev pub cut_place : Cut → List ℕ → ℕ

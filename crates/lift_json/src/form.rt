@@ -1,38 +1,16 @@
-// The forms of lines.
+// Which lines become objects.
 
 ghost use Rattle.std.specs.Prelude.{◌≡◌};
-ghost use Rattle.lift_json.specs.Forms.{form_of};
+ghost use Rattle.lift_json.specs.Forms.{becomes_objects};
 
-use lift_host::request::{Following, Request, Showing, Simulating};
+use lift_host::request::{Request, Showing};
 
-/// Of which command lines are.
-#[derive(Clone, Copy)]
-pub enum Form {
-    /// `check`: words in pairs.
-    Pairs,
-    /// `ranges`.
-    Ranges,
-    /// `xref`.
-    Names,
-    /// `calls`: CSV.
-    Calls,
-    /// `denials`.
-    Denials,
-}
-
-impl Form {
-    /// The form of what a request prints, if it is asked for as JSON.
-    pub fn of(request: Request<'_>) -> Option<Form>
-        ensures { result ≡ form_of request.entry }
-    {
-        match request {
-            Request::Check(checked) if checked.json => Some(Form::Pairs),
-            Request::Show(Showing::Ranges, shown) if shown.json => Some(Form::Ranges),
-            Request::Show(Showing::Xref, shown) if shown.json => Some(Form::Names),
-            Request::Rounds(Simulating::Denials, asked) if asked.json => Some(Form::Denials),
-            Request::Trace(Following::Denials, traced) if traced.json => Some(Form::Denials),
-            Request::Trace(Following::Calls, traced) if traced.json => Some(Form::Calls),
-            _ => None,
-        }
+/// Whether the lines of a request become objects: those of `xref`, where JSON is asked for. Other commands print objects of their own.
+pub fn becomes_objects(request: Request<'_>) -> bool
+    ensures { result ≡ becomes_objects request.entry }
+{
+    match request {
+        Request::Show(Showing::Xref, shown) => shown.json,
+        _ => false,
     }
 }

@@ -1,4 +1,4 @@
-//! What the commands print, as JSON: an object a line.
+//! The lines of `xref` as JSON, an object a line, and a refusal as an object.
 #![tactic(auto)]
 
 pub mod form;

@@ -1,74 +1,49 @@
-// Lines as JSON.
+// The lines of `xref` as JSON.
 
 ghost use Rattle.std.specs.Prelude.{◌≡◌, IfOk, OnOk, string_bytes};
 ghost use Rattle.base_texts.specs.Puts.{Puts};
-ghost use Rattle.lift_json.specs.Lines.{json_text, line_text, is_object, gap, words_text};
+ghost use Rattle.lift_json.specs.Lines.{json_text, line_text, words_text};
 ghost use Rattle.lift_json.specs.Pieces.{pieces};
+ghost use Rattle.lift_json.specs.States.{begin};
+ghost use Rattle.lift_json.specs.declared.pieces.Cut.TheVariants.{Blank};
 
-use crate::form::Form;
-use crate::pieces::{Cut, first_piece, is_number};
+use crate::pieces::{Cut, first_piece};
 use crate::put::{put_end, put_word};
 use crate::states::State;
 use std::alloc::{AllocError, Global};
 
-/// What a command prints, in lines of this form, as JSON: an object a line. The line of CSV with the names of the columns has none.
-pub fn json_lines(alloc: Global, form: Form, text: &str) -> Result<String, AllocError>
-    ensures { IfOk result (λ json. string_bytes json ≡ json_text form text.now) }
+/// What `xref` prints, as JSON: an object a line.
+pub fn json_lines(alloc: Global, text: &str) -> Result<String, AllocError>
+    ensures { IfOk result (λ json. string_bytes json ≡ json_text text.now) }
 {
     let mut json = String::new(alloc);
     let mut rest = Some(text);
     'lines: while let Some(left) = rest {
         let (line, behind) = first_piece(Cut::Feed, left);
-        put_line(&mut json, form, line)?;
+        put_line(&mut json, line)?;
         rest = behind;
     }
     Ok(json)
 }
 
-fn put_line(json: &mut String, form: Form, line: &str) -> Result<(), AllocError>
-    ensures { OnOk result (Puts json.old json.new (line_text form line.now)) }
+fn put_line(json: &mut String, line: &str) -> Result<(), AllocError>
+    ensures { OnOk result (Puts json.old json.new (line_text line.now)) }
 {
-    if !is_object(form, line) {
+    if line.is_empty() {
         return Ok(());
     }
     json.push_str("{")?;
-    put_words(json, State::begin(form), gap(form), line)?;
+    put_words(json, line)?;
     json.push_str("}\n")
 }
 
-// Whether a line is an object.
-fn is_object(form: Form, line: &str) -> bool
-    ensures { result ≡ is_object form line.now }
+fn put_words(json: &mut String, line: &str) -> Result<(), AllocError>
+    ensures { OnOk result (Puts json.old json.new (words_text begin (pieces Blank line.now))) }
 {
-    match form {
-        Form::Pairs => !line.is_empty(),
-        Form::Ranges => !line.is_empty(),
-        Form::Names => !line.is_empty(),
-        Form::Calls => is_number(line),
-        Form::Denials => !line.is_empty(),
-    }
-}
-
-// Where a line is cut into words.
-fn gap(form: Form) -> Cut
-    ensures { result ≡ gap form }
-{
-    match form {
-        Form::Pairs => Cut::Blank,
-        Form::Ranges => Cut::Blank,
-        Form::Names => Cut::Blank,
-        Form::Calls => Cut::Comma,
-        Form::Denials => Cut::Blank,
-    }
-}
-
-fn put_words(json: &mut String, first: State, gap: Cut, line: &str) -> Result<(), AllocError>
-    ensures { OnOk result (Puts json.old json.new (words_text first (pieces gap line.now))) }
-{
-    let mut here = first;
+    let mut here = State::begin();
     let mut rest = Some(line);
     'words: while let Some(left) = rest {
-        let (word, behind) = first_piece(gap, left);
+        let (word, behind) = first_piece(Cut::Blank, left);
         put_word(json, here, word)?;
         here = here.next(word);
         rest = behind;

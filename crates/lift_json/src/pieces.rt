@@ -2,7 +2,7 @@
 
 ghost use Rattle.std.specs.Prelude.{◌≡◌, ◌∷◌, ◌<◌, Some, length, option_map, bytes_eq, MatchOption};
 ghost use Rattle.std.specs.List.{before_first, after_first};
-ghost use Rattle.lift_json.specs.Pieces.{sign_of, is_cut, cut_place, front, behind, has, pieces_left, is_number};
+ghost use Rattle.lift_json.specs.Pieces.{sign_of, is_cut, cut_place, front, has, pieces_left, is_number};
 
 /// Where a text is cut.
 #[derive(Clone, Copy)]
@@ -13,7 +13,6 @@ pub enum Cut {
     Blank,
     Comma,
     Colon,
-    Dot,
 }
 
 impl Cut {
@@ -26,7 +25,6 @@ impl Cut {
             Cut::Blank => ' ',
             Cut::Comma => ',',
             Cut::Colon => ':',
-            Cut::Dot => '.',
         }
     }
 }
@@ -59,16 +57,6 @@ pub fn front(cut: Cut, text: &str) -> &str
     match parts(cut, text) {
         Some((front, _)) => front,
         None => text,
-    }
-}
-
-/// What stands behind the first cut; nothing, where there is none.
-pub fn behind(cut: Cut, text: &str) -> &str
-    ensures { result.now ≡ behind cut text.now }
-{
-    match parts(cut, text) {
-        Some((_, behind)) => behind,
-        None => "",
     }
 }
 

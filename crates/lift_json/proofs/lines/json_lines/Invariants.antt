@@ -7,7 +7,7 @@ use Rattle.lift_json.proofs.lines.json_lines.Given as goal
 
 -- the lines that are left complete the text
 abbrev pub invariant-lines : goal.invariant-lines
-invariant-lines l = string_bytes l.json ++ flat_map (line_text l.form) (pieces_left Feed (option_map (λ left. left.now) l.rest)) ≡ json_text l.form l.text
+invariant-lines l = string_bytes l.json ++ flat_map line_text (pieces_left Feed (option_map (λ left. left.now) l.rest)) ≡ json_text l.text
 
 abbrev pub decreases-lines : goal.decreases-lines
 decreases-lines l = length (pieces_left Feed (option_map (λ left. left.now) l.rest))

@@ -6,5 +6,5 @@ pub returns-clause-gives : goal.returns-clause-gives
 returns-clause-gives c = record {
   plain = c.plain_outcome-plain.result;
   given = c.plain_outcome-plain.ensures.gives;
-  formed = subst (λ f. IsInForm f c.plain_outcome-plain.result c.in_form.result) c.of.ensures c.in_form.ensures.formed;
+  formed = subst (λ f. IsInForm f c.plain_outcome-plain.result c.in_form.result) c.becomes_objects.ensures c.in_form.ensures.formed;
 }
