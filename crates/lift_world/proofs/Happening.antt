@@ -23,10 +23,11 @@ use Rattle.lift_spec.specs.Snapshot.{scan_begins}
 use Rattle.lift_spec.specs.World.{Group, TaskState, flat, task_at, happens, run, reply_to, beginning_of, started_group, committed_group, closed_tasks, refreshed_group}
 use Rattle.lift_spec.proofs.Laws.{fields_in_range_means}
 use Rattle.lift_run_laws.specs.Runs.{IsReached}
-use Rattle.lift_world.specs.declared.controller.Controller.{Controller}
+use Rattle.lift_world.specs.declared.world.World.TheInside.{Inside}
 use Rattle.lift_world.specs.Running.{instructions, up_to_end}
 use Rattle.lift_world.specs.Groups.{holds_tickets, is_open_in, world_by, StoresFit, KeepVariables}
-use Rattle.lift_world.specs.Worlds.{world_in, IsController, Steps, RunsOut}
+use Rattle.lift_world.specs.Kept.{world_in, IsWorld}
+use Rattle.lift_world.specs.Worlds.{Steps, RunsOut}
 use Rattle.lift_world.proofs.Views.{set_same, flat_some, some_of, within, here}
 use Rattle.lift_world.proofs.Keeping.{stores_step, stores_task, variables_step, variables_begun, variables_left}
 use Rattle.il_machine.proofs.Sizes.{sizes_fit}
@@ -66,20 +67,20 @@ other_so a b e = grind (arith, nat_tests)
 -- A TASK THAT IS THERE
 
 -- a task with its store
-pub record There (w : Controller) (t : ℕ) : Type 0 where
+pub record There (w : Inside) (t : ℕ) : Type 0 where
   pub task : TaskState
   pub there : task_at w.core.group t ≡ Some task
   pub store : Standing
   pub kept : flat (slice_get w.stores.items t) ≡ Some store
   pub of : IsOf w.verified.config t store
 
-pub found : (w : Controller) → IsController w → (t : ℕ) (b : Bool) → b ≡ is_some (task_at w.core.group t) → b ≡ true → There w t
+pub found : (w : Inside) → IsWorld w → (t : ℕ) (b : Bool) → b ≡ is_some (task_at w.core.group t) → b ≡ true → There w t
 found w is t b e there =
     let task = some_of (task_at w.core.group t) (sym e ∙ there) in
     let store = some_of (flat (slice_get w.stores.items t)) (is.stores.there t ∙ sym e ∙ there) in
     record { task = task.0; there = task.1; store = store.0; kept = store.1; of = is.stores.each t store.0 store.1 }
 
-module _ (w : Controller) (is : IsController w) (t : ℕ) where
+module _ (w : Inside) (is : IsWorld w) (t : ℕ) where
   abbrev c : Config
   c = w.verified.config
 
@@ -239,10 +240,10 @@ module _ (w : Controller) (is : IsController w) (t : ℕ) where
     )
 
     -- and the world that it leaves
-    pub finish_world : (r : Result ℕ EventFault) (before after : Option Standing) (v : Controller) (i : ℕ) → i ≡ t → is_some x.task.tickets ≡ true → before ≡ Some x.store
+    pub finish_world : (r : Result ℕ EventFault) (before after : Option Standing) (v : Inside) (i : ℕ) → i ≡ t → is_some x.task.tickets ≡ true → before ≡ Some x.store
         → IfOk r (λ n. (s : Standing) → before ≡ Some s → RunsOut c t s after n)
         → IfErr r (λ fault. (fault ≡ NoOpenScan) × (after ≡ before) × ((s : Standing) → before ≡ Some s → s.state.frames ≡ []))
-        → v.verified ≡ w.verified → v.core ≡ w.core → v.desk ≡ w.desk → v.hand ≡ w.hand → v.stores.items ≡ slice_set w.stores.items i after → IsController v
+        → v.verified ≡ w.verified → v.core ≡ w.core → v.desk ≡ w.desk → v.hand ≡ w.hand → v.stores.items ≡ slice_set w.stores.items i after → IsWorld v
     finish_world (Ok n) before after v i at so lent steps ended verified core desk hand put =
         let out = steps x.store lent in
         record {
@@ -266,7 +267,7 @@ module _ (w : Controller) (is : IsController w) (t : ℕ) where
 
 -- REFRESH
 
-module _ (w : Controller) (is : IsController w) (fields : Fields) (inside : fields_in_range (sizes_of w.verified.config) fields ≡ true) where
+module _ (w : Inside) (is : IsWorld w) (fields : Fields) (inside : fields_in_range (sizes_of w.verified.config) fields ≡ true) where
   -- the conditions of a group's refresh
   pub refresh_fields : FieldsInRange (sizes_of w.core.config) fields
   refresh_fields = subst (λ (c : Config). FieldsInRange (sizes_of c) fields) (sym is.same) (fields_in_range_means (sizes_of w.verified.config) fields inside)
@@ -289,8 +290,8 @@ module _ (w : Controller) (is : IsController w) (fields : Fields) (inside : fiel
 
 -- WHAT AN EVENT LEAVES
 
-pub keeps_world : (w v : Controller) (e : Event) (reply : Reply) → IsController w → v.verified ≡ w.verified → v.core.config ≡ w.core.config → StoresFit w.verified.config v.core.group.tasks v.stores.items → KeepVariables v.core.group.tasks v.stores.items
-    → happens w.verified.config (world_in w) e ≡ Ok (world_in v, reply) → IsController v
+pub keeps_world : (w v : Inside) (e : Event) (reply : Reply) → IsWorld w → v.verified ≡ w.verified → v.core.config ≡ w.core.config → StoresFit w.verified.config v.core.group.tasks v.stores.items → KeepVariables v.core.group.tasks v.stores.items
+    → happens w.verified.config (world_in w) e ≡ Ok (world_in v, reply) → IsWorld v
 keeps_world w v e reply is same core stores variables happened = record {
   runnable = rw same is.runnable;
   costs = rw same is.costs;

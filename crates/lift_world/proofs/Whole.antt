@@ -12,10 +12,11 @@ use Rattle.lift_spec.specs.Replies.{Started, Committed}
 use Rattle.lift_spec.specs.Snapshot.{scan_begins}
 use Rattle.lift_spec.specs.World.{Group, TaskState, flat, task_at, scan_at, beginning_of, started_group, committed_group, closed_tasks}
 use Rattle.lift_run_laws.specs.Runs.{IsReached}
-use Rattle.lift_world.specs.declared.controller.Controller.{Controller}
+use Rattle.lift_world.specs.declared.world.World.TheInside.{Inside}
 use Rattle.lift_world.specs.Running.{instructions, up_to_end}
 use Rattle.lift_world.specs.Groups.{ScansWhole, world_by, StoresFit, KeepVariables}
-use Rattle.lift_world.specs.Worlds.{world_in, IsController, IsWholeScan}
+use Rattle.lift_world.specs.Kept.{world_in, IsWorld}
+use Rattle.lift_world.specs.Worlds.{IsWholeScan}
 use Rattle.lift_world.proofs.Views.{set_again, set_there, within}
 use Rattle.lift_world.proofs.Keeping.{stores_step, stores_task, variables_step, variables_begun, variables_left}
 use Rattle.lift_world.proofs.Sound.{reached_well, one_event, many_events}
@@ -25,12 +26,12 @@ use Rattle.lift_world.proofs.Happening.{There, found, lent_is, lent_variables}
 use Rattle.lift_world.proofs.Straight.{committed_again}
 
 -- a task of the group is there
-pub the_task : (w : Controller) → IsController w → (t : ℕ) → HasTask w.verified.config t → There w t
+pub the_task : (w : Inside) → IsWorld w → (t : ℕ) → HasTask w.verified.config t → There w t
 the_task w is t has =
     let task = (reached_well w.verified.config is.runnable (world_in w) is.reached).tasks t has.0 has.1 in
     found w is t true (sym (ap is_some task.1)) refl
 
-module _ (w : Controller) (is : IsController w) (t : ℕ) (has : HasTask w.verified.config t) (closed : scan_at (world_in w) t ≡ None) where
+module _ (w : Inside) (is : IsWorld w) (t : ℕ) (has : HasTask w.verified.config t) (closed : scan_at (world_in w) t ≡ None) where
   abbrev c : Config
   c = w.verified.config
 
@@ -138,7 +139,7 @@ module _ (w : Controller) (is : IsController w) (t : ℕ) (has : HasTask w.verif
         one_event c scans.ended _ (Commit t) (Committed report) ended scans.commit
 
     -- and that is a group's
-    pub leaves : (v : Controller) → v.verified ≡ w.verified → v.core.config ≡ w.core.config → v.core.group ≡ after → v.desk ≡ w.desk → v.hand ≡ w.hand → v.stores.items ≡ slice_set stores i (Some last) → IsController v
+    pub leaves : (v : Inside) → v.verified ≡ w.verified → v.core.config ≡ w.core.config → v.core.group ≡ after → v.desk ≡ w.desk → v.hand ≡ w.hand → v.stores.items ≡ slice_set stores i (Some last) → IsWorld v
     leaves v verified config group_now desk hand put = record {
       runnable = rw verified is.runnable;
       costs = rw verified is.costs;

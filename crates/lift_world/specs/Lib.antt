@@ -2,5 +2,6 @@ pub mod Seen
 pub mod Running
 pub mod Groups
 pub mod Worlds
+pub mod Kept
 pub mod Scanned
 pub mod Setting
