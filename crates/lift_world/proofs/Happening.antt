@@ -18,10 +18,10 @@ use Rattle.lift_spec.specs.declared.event.Reply.{Reply as Answer}
 use Rattle.lift_spec.specs.declared.event.Reply.TheVariants as answer
 use Rattle.lift_spec.specs.Replies.{Reply, Started, More, End, Committed, Refreshed, Refused, reply_with}
 use Rattle.lift_spec.specs.Calls.{enter_all, IsCall}
-use Rattle.lift_spec.specs.Image.{sizes_of, is_floor, fields_in_range, FieldsInRange}
+use Rattle.lift_spec.specs.Image.{sizes_of, is_floor, FieldsInRange}
 use Rattle.lift_spec.specs.Snapshot.{scan_begins}
 use Rattle.lift_spec.specs.World.{Group, TaskState, flat, task_at, happens, run, reply_to, beginning_of, started_group, committed_group, closed_tasks, refreshed_group}
-use Rattle.lift_spec.proofs.Laws.{fields_in_range_means}
+use Rattle.lift_spec.proofs.Laws.{range_test}
 use Rattle.lift_run_laws.specs.Runs.{IsReached}
 use Rattle.lift_world.specs.declared.world.World.TheInside.{Inside}
 use Rattle.lift_world.specs.Running.{instructions, up_to_end}
@@ -267,17 +267,17 @@ module _ (w : Inside) (is : IsWorld w) (t : ℕ) where
 
 -- REFRESH
 
-module _ (w : Inside) (is : IsWorld w) (fields : Fields) (inside : fields_in_range (sizes_of w.verified.config) fields ≡ true) where
+module _ (w : Inside) (is : IsWorld w) (fields : Fields) (inside : FieldsInRange (sizes_of w.verified.config) fields) where
   -- the conditions of a group's refresh
   pub refresh_fields : FieldsInRange (sizes_of w.core.config) fields
-  refresh_fields = subst (λ (c : Config). FieldsInRange (sizes_of c) fields) (sym is.same) (fields_in_range_means (sizes_of w.verified.config) fields inside)
+  refresh_fields = subst (λ (c : Config). FieldsInRange (sizes_of c) fields) (sym is.same) inside
 
   pub refresh_calls : All (IsCall (sizes_of w.core.config)) w.hand
   refresh_calls = subst (λ (c : Config). All (IsCall (sizes_of c)) w.hand) (sym is.same) (reached_well w.verified.config is.runnable (world_in w) is.reached).hand.each
 
   module _ (after : Group) (hand : List Call) (report : Report) (group : refreshed_group w.core.group fields w.hand ≡ (after, report)) where
     pub refreshed_world : hand ≡ (enter_all w.core.group.calls [] w.hand).hand → happens w.verified.config (world_in w) (Refresh fields) ≡ Ok (world_by after w.stores.items w.desk hand, Refreshed report)
-    refreshed_world left = refresh_is w.verified.config w.core.group w.stores.items w.desk w.hand fields after hand report inside group left
+    refreshed_world left = refresh_is w.verified.config w.core.group w.stores.items w.desk w.hand fields after hand report ((range_test (sizes_of w.verified.config) fields).1 inside) group left
 
     same_tasks : after.tasks ≡ w.core.group.tasks
     same_tasks = ap (λ (r : Group × Report). r.0.tasks) (sym group) ∙ refresh_keeps w.core.group fields w.hand

@@ -3,7 +3,7 @@ use Rattle.il_machine.specs.Standing.{Standing}
 use Rattle.il_run.specs.Step.{step}
 use Rattle.il_machine.specs.declared.scanning.Stepped.TheVariants as stepped
 use Rattle.lift_world.proofs.Views.{the_memory}
-use Rattle.lift_world.proofs.controller.advance.Goals as goal
+use Rattle.lift_world.proofs.stores.advance.Goals as goal
 
 pub returns-in-More-clause-step : goal.returns-in-More-clause-step
 returns-in-More-clause-step c = λ s is going.

@@ -1,5 +1,5 @@
 use Rattle.std.proofs.Common.{refl}
-use Rattle.lift_world.proofs.controller.begin.Goals as goal
+use Rattle.lift_world.proofs.stores.begin.Goals as goal
 
 pub start_in_place-requires-clause-kept : goal.start_in_place-requires-clause-kept
 start_in_place-requires-clause-kept c = λ x there. c.requires.variables x c.in-Some.store there c.in-Some.is

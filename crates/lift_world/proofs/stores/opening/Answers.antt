@@ -2,7 +2,7 @@ use Rattle.std.proofs.Common.{◌≤◌, suc, sym, ap, ◌∙◌, subst}
 use Rattle.lift_spec.specs.declared.image.Sizes.{Sizes}
 use Rattle.il_machine.proofs.Sizes.{few_cars}
 use Rattle.lift_world.proofs.Opens.{stores_open, variables_open}
-use Rattle.lift_world.proofs.controller.opening.Goals as goal
+use Rattle.lift_world.proofs.stores.opening.Goals as goal
 
 pub returns-clause-stores : goal.returns-clause-stores
 returns-clause-stores c =

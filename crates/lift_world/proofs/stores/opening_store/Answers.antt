@@ -1,7 +1,7 @@
 use Rattle.std.proofs.Common.{◌∙◌, sym, arith}
 use Rattle.il_machine.proofs.Sizes.{few_cars}
 use Rattle.lift_world.proofs.Opens.{task_there}
-use Rattle.lift_world.proofs.controller.opening_store.Goals as goal
+use Rattle.lift_world.proofs.stores.opening_store.Goals as goal
 
 pub has_task-requires : goal.has_task-requires
 has_task-requires c =

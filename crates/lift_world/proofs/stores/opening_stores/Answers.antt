@@ -3,7 +3,7 @@ use Rattle.std.specs.Prelude.{is_some}
 use Rattle.il_machine.specs.Standing.{IsOf, StillHas, opening_variables_by}
 use Rattle.lift_spec.specs.Snapshot.{program_of}
 use Rattle.lift_world.proofs.Opens.{length_more, holds_more, there_more}
-use Rattle.lift_world.proofs.controller.opening_stores.Goals as goal
+use Rattle.lift_world.proofs.stores.opening_stores.Goals as goal
 
 pub loop-task-preserved : goal.loop-task-preserved
 loop-task-preserved c =

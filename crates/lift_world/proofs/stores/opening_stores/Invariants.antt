@@ -3,7 +3,7 @@ use Rattle.std.specs.Prelude.{slice_get, is_some}
 use Rattle.il_machine.specs.Standing.{Standing, IsOf, StillHas, opening_variables_by}
 use Rattle.lift_spec.specs.Snapshot.{program_of}
 use Rattle.lift_spec.specs.World.{flat}
-use Rattle.lift_world.proofs.controller.opening_stores.Given as goal
+use Rattle.lift_world.proofs.stores.opening_stores.Given as goal
 
 -- the stores up to here are those of the opening
 abbrev pub invariant-loop-task : goal.invariant-loop-task

@@ -9,7 +9,7 @@ use Rattle.lift_spec.specs.World.{flat, task_at}
 use Rattle.lift_world.specs.Groups.{HasVariables}
 use Rattle.lift_world.specs.Setting.{IsSeated}
 use Rattle.lift_world.proofs.Resuming.{stores_resume, variables_resume}
-use Rattle.lift_world.proofs.controller.resumed.Goals as goal
+use Rattle.lift_world.proofs.stores.resumed.Goals as goal
 
 pub resumed_stores-stores-requires-clause-seated : goal.resumed_stores-stores-requires-clause-seated
 resumed_stores-stores-requires-clause-seated c = subst (λ (k : Config). IsSeated k c.args.core.group) c.requires.program c.requires.seated

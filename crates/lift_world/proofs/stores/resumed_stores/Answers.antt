@@ -4,7 +4,7 @@ use Rattle.il_machine.specs.Standing.{IsOf}
 use Rattle.lift_spec.specs.World.{task_at}
 use Rattle.lift_world.specs.Groups.{HasVariables}
 use Rattle.lift_world.proofs.Opens.{length_more, holds_more, there_more}
-use Rattle.lift_world.proofs.controller.resumed_stores.Goals as goal
+use Rattle.lift_world.proofs.stores.resumed_stores.Goals as goal
 
 pub loop-task-preserved : goal.loop-task-preserved
 loop-task-preserved c =

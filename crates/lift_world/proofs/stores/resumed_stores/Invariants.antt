@@ -3,7 +3,7 @@ use Rattle.std.specs.Prelude.{slice_get, is_some}
 use Rattle.il_machine.specs.Standing.{Standing, IsOf}
 use Rattle.lift_spec.specs.World.{flat, task_at}
 use Rattle.lift_world.specs.Groups.{HasVariables}
-use Rattle.lift_world.proofs.controller.resumed_stores.Given as goal
+use Rattle.lift_world.proofs.stores.resumed_stores.Given as goal
 
 -- there is a store for each task up to here, with its variables
 abbrev pub invariant-loop-task : goal.invariant-loop-task

@@ -2,7 +2,7 @@ use Rattle.std.proofs.Common.{refl, subst}
 use Rattle.il_machine.specs.Standing.{Standing}
 use Rattle.il_run.specs.Scan.{Reaches}
 use Rattle.lift_world.proofs.Views.{the_memory}
-use Rattle.lift_world.proofs.controller.run_out.Goals as goal
+use Rattle.lift_world.proofs.stores.run_out.Goals as goal
 
 pub returns-clause-steps : goal.returns-clause-steps
 returns-clause-steps c = λ s is.

@@ -1,12 +1,12 @@
-use Rattle.std.proofs.Common.{◌≡◌, ◌∙◌, subst}
+use Rattle.std.proofs.Common.{◌≡◌, ◌∙◌, [], subst}
 use Rattle.std.specs.Prelude.{IfOk}
-use Rattle.lift_spec.specs.World.{opening_group}
-use Rattle.lift_world.specs.declared.controller.Opened.{Opened}
-use Rattle.lift_world.specs.Groups.{StoresFit, KeepVariables}
+use Rattle.lift_spec.specs.World.{opening, opening_group}
+use Rattle.lift_world.specs.declared.stores.Opened.{Opened}
+use Rattle.lift_world.specs.Groups.{world_by, StoresFit, KeepVariables}
 use Rattle.lift_world.proofs.Opens.{world_opens, tasks_many}
 use Rattle.lift_world.proofs.Sound.{opening_reached}
-use Rattle.lift_world.proofs.controller.Controller.new.Goals.{After-of}
-use Rattle.lift_world.proofs.controller.Controller.new.Goals as goal
+use Rattle.lift_world.proofs.world.World.new.Goals.{After-of}
+use Rattle.lift_world.proofs.world.World.new.Goals as goal
 
 -- what opens, of the configuration
 config : (c : After-of) → c.in_ok-verified.opened.core.config ≡ c.args.verified.config
@@ -21,21 +21,22 @@ stores c = subst (λ r. IfOk r (λ (o : Opened). StoresFit c.args.verified.confi
 variables : (c : After-of) → KeepVariables c.in_ok-verified.opened.core.group.tasks c.in_ok-verified.opened.stores.items
 variables c = subst (λ r. IfOk r (λ (o : Opened). KeepVariables o.core.group.tasks o.stores.items)) c.in_ok-verified.ensures.ok.1 c.opening-opened.ensures.variables
 
-pub returns-clause-opening : goal.returns-clause-opening
-returns-clause-opening c =
-    rw (c.of.ensures.core, c.of.ensures.stores, c.of.ensures.calls.0, c.of.ensures.calls.1)
-    (world_opens c.args.verified.config c.in_ok-verified.opened.core.group c.in_ok-verified.opened.stores.items (group c) ((stores c).as_many ∙ tasks_many c.args.verified.config c.in_ok-verified.opened.core.group (group c)))
+opens : (c : After-of) → world_by c.in_ok-verified.opened.core.group c.in_ok-verified.opened.stores.items [] [] ≡ opening c.args.verified.config
+opens c =
+    world_opens c.args.verified.config c.in_ok-verified.opened.core.group c.in_ok-verified.opened.stores.items (group c) ((stores c).as_many ∙ tasks_many c.args.verified.config c.in_ok-verified.opened.core.group (group c))
 
-pub returns-clause-world : goal.returns-clause-world
-returns-clause-world c =
+pub invariant_of-result : goal.invariant_of-result
+invariant_of-result c =
     let k = c.args.verified.config in
-    let opened = c.in_ok-verified.opened in
-    rw (c.of.ensures.verified, c.of.ensures.core, c.of.ensures.stores, c.of.ensures.calls.0, c.of.ensures.calls.1, c.in_ok-verified.ensures.ok.0)
+    rw (c.new-hand.ensures, c.new-desk.ensures, c.in_ok-verified.ensures.ok.0)
     (record {
       runnable = c.config-config.ensures.runnable;
       costs = c.config-config.ensures.costs;
       same = config c;
       stores = stores c;
       variables = variables c;
-      reached = opening_reached k _ (world_opens k opened.core.group opened.stores.items (group c) ((stores c).as_many ∙ tasks_many k opened.core.group (group c)));
+      reached = opening_reached k _ (opens c);
     })
+
+pub returns-clause-opening : goal.returns-clause-opening
+returns-clause-opening c = rw (c.new-hand.ensures, c.new-desk.ensures) (opens c)

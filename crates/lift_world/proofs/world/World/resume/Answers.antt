@@ -3,12 +3,12 @@ use Rattle.std.specs.Prelude.{IfOk}
 use Rattle.il_spec.specs.declared.tree.Config.{Config}
 use Rattle.lift_run_laws.specs.Holding.{RestsWell}
 use Rattle.lift_run_laws.specs.Runs.{IsReached}
-use Rattle.lift_world.specs.declared.controller.Opened.{Opened}
+use Rattle.lift_world.specs.declared.stores.Opened.{Opened}
 use Rattle.lift_world.specs.Groups.{StoresFit, KeepVariables, world_by}
 use Rattle.lift_world.specs.Setting.{IsSeated, resting}
 use Rattle.lift_world.proofs.Resuming.{world_rests, resting_reached}
-use Rattle.lift_world.proofs.controller.Controller.resume.Goals.{After-of}
-use Rattle.lift_world.proofs.controller.Controller.resume.Goals as goal
+use Rattle.lift_world.proofs.world.World.resume.Goals.{After-of}
+use Rattle.lift_world.proofs.world.World.resume.Goals as goal
 
 -- what goes on, of the core
 core : (c : After-of) → c.in_ok-verified.opened.core ≡ c.args.core
@@ -28,13 +28,10 @@ world : (c : After-of) → world_by c.args.core.group c.in_ok-verified.opened.st
 world c =
     world_rests c.args.verified.config c.args.core.group c.in_ok-verified.opened.stores.items (subst (λ (k : Config). IsSeated k c.args.core.group) c.requires.program c.requires.seated) (rests c).holds.tasks (stores c).as_many
 
-pub returns-clause-between : goal.returns-clause-between
-returns-clause-between c = rw (c.of.ensures.core, c.of.ensures.stores, c.of.ensures.calls.0, c.of.ensures.calls.1, core c) (world c)
-
-pub returns-clause-world : goal.returns-clause-world
-returns-clause-world c =
+pub invariant_of-result : goal.invariant_of-result
+invariant_of-result c =
     let k = c.args.verified.config in
-    rw (c.of.ensures.verified, c.of.ensures.core, c.of.ensures.stores, c.of.ensures.calls.0, c.of.ensures.calls.1, c.in_ok-verified.ensures.ok.0, core c)
+    rw (c.new-hand.ensures, c.new-desk.ensures, c.in_ok-verified.ensures.ok.0, core c)
     (record {
       runnable = c.config-config.ensures.runnable;
       costs = c.config-config.ensures.costs;
@@ -43,3 +40,6 @@ returns-clause-world c =
       variables = variables c;
       reached = subst (IsReached k) (sym (world c)) (resting_reached k (resting k c.args.core.group) (rests c));
     })
+
+pub returns-clause-world : goal.returns-clause-world
+returns-clause-world c = rw (c.new-hand.ensures, c.new-desk.ensures, core c) (world c)
