@@ -1,10 +1,10 @@
-// A store for each task: with what stores a group opens or goes on, and the work of the events on one.
+// The stores of the tasks: those with which a group begins, and what events do to one.
 
 ghost use Rattle.std.specs.Prelude.{◌≡◌, ◌≢◌, ℕ, suc, ◌≤◌, [], length, slice_get, is_some, Some, IfOk, IfErr, IsSome};
-ghost use Rattle.il_machine.specs.Standing.{Standing, IsOf, StillHas, opening_variables_by};
+ghost use Rattle.il_machine.specs.Standing.{Standing, IsOf, StillHas};
 ghost use Rattle.lift_spec.specs.Image.{sizes_of};
 ghost use Rattle.lift_spec.specs.declared.event.EventFault.TheVariants.{NoOpenScan};
-ghost use Rattle.lift_spec.specs.Snapshot.{program_of, scan_begins};
+ghost use Rattle.lift_spec.specs.Snapshot.{scan_begins};
 ghost use Rattle.lift_spec.specs.World.{TaskState, task_at};
 ghost use Rattle.lift_spec.specs.World as model;
 ghost use Rattle.lift_world.specs.Running.{reports_by};
@@ -18,48 +18,6 @@ use il_spec::pair::both;
 use lift_spec::MOST_CARS;
 use lift_spec::event::{EventFault, Reply};
 use std::alloc::{AllocError, Global};
-
-// A store for a task, if the group has it.
-fn opening_store(alloc: Global, verified: &Verified, task: u8) -> Result<Option<Store>, AllocError>
-    requires { task ≤ (sizes_of verified.now.config).cars }
-    ensures there { IfOk result (λ o. is_some o ≡ is_some (program_of verified.now.config task)) }
-    ensures of { IfOk result (λ o. (s : Standing) → o ≡ Some s → IsOf verified.now.config task s) }
-    ensures variables { IfOk result (λ o. (s : Standing) → o ≡ Some s
-        → StillHas
-        (opening_variables_by verified.now.config (program_of verified.now.config task)) s.state) }
-{
-    let _config = verified.config();
-    if !verified.has_task(task) {
-        return Ok(None);
-    }
-    Ok(Some(Store::new(alloc, verified, task)?))
-}
-
-// A store for each task: GROUP, and then the cars.
-fn opening_stores(
-    alloc: Global,
-    verified: &Verified,
-    cars: u8,
-) -> Result<Vec<Option<Store>>, AllocError>
-    requires few { cars ≤ MOST_CARS }
-    requires all { cars ≡ (sizes_of verified.now.config).cars }
-    ensures as_many { IfOk result (λ ss. length ss.items ≡ suc cars) }
-    ensures there { IfOk result (λ ss. (t : ℕ) → t ≤ cars
-        → is_some (model.flat (slice_get ss.items t))
-        ≡ is_some (program_of verified.now.config t)) }
-    ensures each { IfOk result (λ ss. (t : ℕ) (s : Standing)
-        → model.flat (slice_get ss.items t) ≡ Some s → IsOf verified.now.config t s) }
-    ensures variables { IfOk result (λ ss. (t : ℕ) (s : Standing)
-        → model.flat (slice_get ss.items t) ≡ Some s
-        → StillHas
-        (opening_variables_by verified.now.config (program_of verified.now.config t)) s.state) }
-{
-    let mut stores = Vec::new(alloc);
-    for task in 0..cars + 1 {
-        stores.push(opening_store(alloc, verified, task)?)?;
-    }
-    Ok(stores)
-}
 
 // A store for a task, if the group has it, with the task's variables.
 fn resumed_store(
@@ -175,14 +133,14 @@ pub fn run_out(verified: &Verified, task: u8, store: &mut Option<Store>) -> Resu
     }
 }
 
-/// What a group opens with beside its configuration: what its tasks share, and a store for each task.
+/// What a group of a configuration begins with: what its tasks share, and a store for each task.
 #[derive(Drop)]
 pub struct Opened {
     pub core: Core,
     pub stores: Vec<Option<Store>>,
 }
 
-/// What a group of a configuration opens with.
+/// What a group of a configuration opens with (own rule).
 pub fn opening(alloc: Global, verified: &Verified) -> Result<Opened, AllocError>
     ensures config { IfOk result (λ o. o.core.config ≡ verified.now.config) }
     ensures group { IfOk result (λ o. o.core.group ≡ model.opening_group verified.now.config) }
@@ -190,10 +148,8 @@ pub fn opening(alloc: Global, verified: &Verified) -> Result<Opened, AllocError>
         (λ o. StoresFit verified.now.config o.core.group.tasks o.stores.items) }
     ensures variables { IfOk result (λ o. KeepVariables o.core.group.tasks o.stores.items) }
 {
-    let _config = verified.config();
     let core = Core::new(alloc, verified)?;
-    let stores = opening_stores(alloc, verified, verified.sizes().cars)?;
-    Ok(Opened { core, stores })
+    resumed(alloc, verified, core)
 }
 
 /// What a group between scans goes on with.
@@ -202,8 +158,8 @@ pub fn resumed(alloc: Global, verified: &Verified, core: Core) -> Result<Opened,
     requires seated { IsSeated core.config core.group }
     ensures core { IfOk result (λ o. o.core ≡ core) }
     ensures stores { IfOk result
-        (λ o. StoresFit verified.now.config core.group.tasks o.stores.items) }
-    ensures variables { IfOk result (λ o. KeepVariables core.group.tasks o.stores.items) }
+        (λ o. StoresFit verified.now.config o.core.group.tasks o.stores.items) }
+    ensures variables { IfOk result (λ o. KeepVariables o.core.group.tasks o.stores.items) }
 {
     let _config = verified.config();
     core.rests();

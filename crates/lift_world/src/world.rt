@@ -26,7 +26,7 @@ ghost use Rattle.lift_world.specs.Setting.{IsSeated, resting};
 use crate::group::Core;
 use crate::held::{Held, refresh};
 use crate::replies::Replies;
-use crate::stores::{advance, begin, opening, resumed, run_out};
+use crate::stores::{advance, begin, resumed, run_out};
 use il_machine::{Store, Value, Verified};
 use il_spec::fault::Refusal;
 use il_spec::pair::both;
@@ -82,16 +82,9 @@ impl World {
         ensures opening { IfOk result (λ w. w.world ≡ model.opening verified.config) }
         ensures memory { IfErr result (λ e. e ≡ Memory) }
     {
-        let _config = verified.config();
-        let opened = opening(alloc, &verified);
-        let (verified, opened) = both(verified, opened)?;
-        Ok(World {
-            verified,
-            core: opened.core,
-            stores: opened.stores,
-            desk: Hand::new(),
-            hand: Held::new(),
-        })
+        let core = Core::new(alloc, &verified);
+        let (verified, core) = both(verified, core)?;
+        World::resume(alloc, verified, core)
     }
 
     /// The world of a group between scans. No call is on the desk or in the hand.

@@ -1,17 +1,21 @@
-use Rattle.std.proofs.Common.{◌≤◌, suc, sym, ap, ◌∙◌, subst}
-use Rattle.lift_spec.specs.declared.image.Sizes.{Sizes}
-use Rattle.il_machine.proofs.Sizes.{few_cars}
-use Rattle.lift_world.proofs.Opens.{stores_open, variables_open}
+use Rattle.std.proofs.Common.{◌≡◌, ◌∙◌, ap}
+use Rattle.std.proofs.lemmas.Result.{IfOk-weaker}
+use Rattle.lift_spec.specs.World.{opening_group}
+use Rattle.lift_world.specs.declared.stores.Opened.{Opened}
+use Rattle.lift_world.specs.Groups.{GroupOf}
 use Rattle.lift_world.proofs.stores.opening.Goals as goal
 
-pub returns-clause-stores : goal.returns-clause-stores
-returns-clause-stores c =
-    let many = c.in_ok-stores.ensures.as_many ∙ ap (λ (s : Sizes). suc s.cars) c.sizes.ensures in
-    stores_open c.args.verified.now.config c.in_ok-core.core.group c.in_ok-stores.stores.items c.in_ok-core.ensures.group many
-    (λ t few. c.in_ok-stores.ensures.there t (subst (λ (s : Sizes). t ≤ s.cars) (sym c.sizes.ensures) few)) c.in_ok-stores.ensures.each
+pub resumed-requires-clause-program : goal.resumed-requires-clause-program
+resumed-requires-clause-program c = c.in_ok-core.ensures.config
 
-pub returns-clause-variables : goal.returns-clause-variables
-returns-clause-variables c = variables_open c.args.verified.now.config c.in_ok-core.core.group c.in_ok-stores.stores.items c.in_ok-core.ensures.group c.in_ok-stores.ensures.variables
+pub resumed-requires-clause-seated : goal.resumed-requires-clause-seated
+resumed-requires-clause-seated c = c.in_ok-core.ensures.seated
 
-pub opening_stores-requires-clause-few : goal.opening_stores-requires-clause-few
-opening_stores-requires-clause-few c = subst (λ (s : Sizes). s.cars ≤ 8) (sym c.sizes.ensures) (few_cars _ c.config-config.ensures.runnable.declared)
+pub returns-clause-config : goal.returns-clause-config
+returns-clause-config c =
+    IfOk-weaker c.resumed.result (λ (o : Opened). o.core ≡ c.in_ok-core.core) (λ (o : Opened). o.core.config ≡ c.args.verified.now.config) (λ o same. ap (λ (k : GroupOf). k.config) same ∙ c.in_ok-core.ensures.config) c.resumed.ensures.core
+
+pub returns-clause-group : goal.returns-clause-group
+returns-clause-group c =
+    IfOk-weaker c.resumed.result (λ (o : Opened). o.core ≡ c.in_ok-core.core) (λ (o : Opened). o.core.group ≡ opening_group c.args.verified.now.config) (λ o same. ap (λ (k : GroupOf). k.group) same ∙ c.in_ok-core.ensures.group)
+    c.resumed.ensures.core

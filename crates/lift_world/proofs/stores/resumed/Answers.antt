@@ -28,10 +28,12 @@ returns-clause-stores c =
     let many = subst (λ r. IfOk r (λ ss. length ss.items ≡ suc c.sizes.result.cars)) is e.as_many in
     let found = subst (λ r. IfOk r (λ ss. (t : ℕ) → t ≤ c.sizes.result.cars → is_some (flat (slice_get ss.items t)) ≡ is_some (task_at group t))) is e.there in
     let each = subst (λ r. IfOk r (λ ss. (t : ℕ) (s : Standing) → flat (slice_get ss.items t) ≡ Some s → IsOf config t s)) is e.each in
-    stores_resume config group c.in_ok-core.stores.items tasks (many ∙ ap suc cars) (λ t few. found t (subst (λ n. t ≤ n) (sym cars) few)) each
+    rw c.in_ok-core.ensures.ok.0
+    (stores_resume config group c.in_ok-core.stores.items tasks (many ∙ ap suc cars) (λ t few. found t (subst (λ n. t ≤ n) (sym cars) few)) each)
 
 pub returns-clause-variables : goal.returns-clause-variables
 returns-clause-variables c =
     let group = c.args.core.group in
-    variables_resume group c.in_ok-core.stores.items
-    (subst (λ r. IfOk r (λ ss. (t : ℕ) (s : Standing) → flat (slice_get ss.items t) ≡ Some s → HasVariables group t s)) c.in_ok-core.ensures.ok.1 c.resumed_stores-stores.ensures.variables)
+    rw c.in_ok-core.ensures.ok.0
+    (variables_resume group c.in_ok-core.stores.items
+    (subst (λ r. IfOk r (λ ss. (t : ℕ) (s : Standing) → flat (slice_get ss.items t) ≡ Some s → HasVariables group t s)) c.in_ok-core.ensures.ok.1 c.resumed_stores-stores.ensures.variables))

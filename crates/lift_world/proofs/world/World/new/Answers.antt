@@ -1,42 +1,29 @@
-use Rattle.std.proofs.Common.{◌≡◌, ◌∙◌, [], subst}
-use Rattle.std.specs.Prelude.{IfOk}
+use Rattle.std.proofs.Common.{◌≡◌, ◌∙◌, sym, ap}
+use Rattle.std.proofs.lemmas.Result.{IfOk-at_ok, IfOk-weaker}
+use Rattle.il_machine.specs.Scanning.{Program}
 use Rattle.lift_spec.specs.World.{opening, opening_group}
-use Rattle.lift_world.specs.declared.stores.Opened.{Opened}
-use Rattle.lift_world.specs.Groups.{world_by, StoresFit, KeepVariables}
-use Rattle.lift_world.proofs.Opens.{world_opens, tasks_many}
-use Rattle.lift_world.proofs.Sound.{opening_reached}
-use Rattle.lift_world.proofs.world.World.new.Goals.{After-of}
+use Rattle.lift_world.specs.Groups.{GroupOf}
+use Rattle.lift_world.specs.Setting.{IsSeated, resting}
+use Rattle.lift_world.specs.Worlds.{WorldOf}
+use Rattle.lift_world.proofs.Resuming.{opening_rests}
 use Rattle.lift_world.proofs.world.World.new.Goals as goal
 
--- what opens, of the configuration
-config : (c : After-of) → c.in_ok-verified.opened.core.config ≡ c.args.verified.config
-config c = subst (λ r. IfOk r (λ (o : Opened). o.core.config ≡ c.args.verified.config)) c.in_ok-verified.ensures.ok.1 c.opening-opened.ensures.config
+pub resume-requires-clause-program : goal.resume-requires-clause-program
+resume-requires-clause-program c =
+    let ok = c.in_ok-verified.ensures.ok in
+    IfOk-at_ok (λ (k : GroupOf). k.config ≡ c.args.verified.config) ok.1 c.new-core.ensures.config ∙ ap (λ (p : Program). p.config) (sym ok.0)
 
-group : (c : After-of) → c.in_ok-verified.opened.core.group ≡ opening_group c.args.verified.config
-group c = subst (λ r. IfOk r (λ (o : Opened). o.core.group ≡ opening_group c.args.verified.config)) c.in_ok-verified.ensures.ok.1 c.opening-opened.ensures.group
+pub resume-requires-clause-seated : goal.resume-requires-clause-seated
+resume-requires-clause-seated c = IfOk-at_ok (λ (k : GroupOf). IsSeated k.config k.group) c.in_ok-verified.ensures.ok.1 c.new-core.ensures.seated
 
-stores : (c : After-of) → StoresFit c.args.verified.config c.in_ok-verified.opened.core.group.tasks c.in_ok-verified.opened.stores.items
-stores c = subst (λ r. IfOk r (λ (o : Opened). StoresFit c.args.verified.config o.core.group.tasks o.stores.items)) c.in_ok-verified.ensures.ok.1 c.opening-opened.ensures.stores
-
-variables : (c : After-of) → KeepVariables c.in_ok-verified.opened.core.group.tasks c.in_ok-verified.opened.stores.items
-variables c = subst (λ r. IfOk r (λ (o : Opened). KeepVariables o.core.group.tasks o.stores.items)) c.in_ok-verified.ensures.ok.1 c.opening-opened.ensures.variables
-
-opens : (c : After-of) → world_by c.in_ok-verified.opened.core.group c.in_ok-verified.opened.stores.items [] [] ≡ opening c.args.verified.config
-opens c =
-    world_opens c.args.verified.config c.in_ok-verified.opened.core.group c.in_ok-verified.opened.stores.items (group c) ((stores c).as_many ∙ tasks_many c.args.verified.config c.in_ok-verified.opened.core.group (group c))
-
-pub invariant_of-result : goal.invariant_of-result
-invariant_of-result c =
-    let k = c.args.verified.config in
-    rw (c.new-hand.ensures, c.new-desk.ensures, c.in_ok-verified.ensures.ok.0)
-    (record {
-      runnable = c.config-config.ensures.runnable;
-      costs = c.config-config.ensures.costs;
-      same = config c;
-      stores = stores c;
-      variables = variables c;
-      reached = opening_reached k _ (opens c);
-    })
+pub returns-clause-same : goal.returns-clause-same
+returns-clause-same c =
+    IfOk-weaker c.resume.result (λ (w : WorldOf). w.program ≡ c.in_ok-verified.verified) (λ (w : WorldOf). w.program ≡ c.args.verified) (λ w is. is ∙ c.in_ok-verified.ensures.ok.0) c.resume.ensures.same
 
 pub returns-clause-opening : goal.returns-clause-opening
-returns-clause-opening c = rw (c.new-hand.ensures, c.new-desk.ensures) (opens c)
+returns-clause-opening c =
+    let ok = c.in_ok-verified.ensures.ok in
+    let config = c.args.verified.config in
+    let group = IfOk-at_ok (λ (k : GroupOf). k.group ≡ opening_group config) ok.1 c.new-core.ensures.group in
+    IfOk-weaker c.resume.result (λ (w : WorldOf). w.world ≡ resting c.in_ok-verified.verified.config c.in_ok-verified.core.group) (λ (w : WorldOf). w.world ≡ opening config)
+    (λ w is. is ∙ opening_rests config c.in_ok-verified.verified.config c.in_ok-verified.core.group (ap (λ (p : Program). p.config) ok.0) group) c.resume.ensures.world
