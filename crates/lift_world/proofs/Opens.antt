@@ -3,21 +3,20 @@ use Rattle.std.proofs.Common.{◌≡◌, ℕ, zero, suc, ◌+◌, ◌⊎◌, inl
 use Rattle.std.specs.Prelude.{slice_get, is_some, replicate}
 use Rattle.il_spec.specs.declared.tree.Config.{Config}
 use Rattle.il_spec.specs.declared.tree.Unit.{Unit as Organized}
-use Rattle.il_table.specs.NameMap.{empty}
 use Rattle.il_run.specs.State.{Values}
 use Rattle.il_run.specs.Scan.{opening_variables}
 use Rattle.il_layout.specs.Layout.{Rows}
 use Rattle.il_machine.specs.Scanning.{HasTask, variables_in}
-use Rattle.il_machine.specs.Standing.{Standing, IsOf, StillHas, opening_variables_by}
+use Rattle.il_machine.specs.Standing.{Standing}
 use Rattle.lift_spec.specs.Image.{sizes_of}
 use Rattle.lift_spec.specs.Snapshot.{program_of, has_task}
 use Rattle.lift_spec.specs.World.{Group, TaskState, flat, task_at, opening, opening_group, opening_task, opening_tasks_from}
 use Rattle.std.proofs.lemmas.List.{length-append}
-use Rattle.std.proofs.lemmas.Bool.{cases_eq, cases_lt}
+use Rattle.std.proofs.lemmas.Bool.{cases_eq}
 use Rattle.lift_world.specs.declared.shared.TaskMemory.{TaskMemory}
 use Rattle.lift_world.specs.Running.{task_in, task_by, tasks_in}
-use Rattle.lift_world.specs.Groups.{scan_by, scans_by, world_by, StoresFit, KeepVariables}
-use Rattle.lift_world.proofs.Views.{flat_of, beyond, within}
+use Rattle.lift_world.specs.Groups.{scan_by, scans_by, world_by}
+use Rattle.lift_world.proofs.Views.{flat_of, within}
 
 -- a task that is there has a program
 there_is : {X : Type 0} (o : Option X) → is_some o ≡ true → (x : X) × (o ≡ Some x)

@@ -3,5 +3,4 @@ pub mod Running
 pub mod Groups
 pub mod Worlds
 pub mod Kept
-pub mod Scanned
 pub mod Setting
