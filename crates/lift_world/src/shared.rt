@@ -1,7 +1,6 @@
 // What the tasks share, by its rows, and what a commit does to them.
 
 ghost use Rattle.std.specs.Prelude.{◌≡◌, ℕ, suc, ◌≤◌, [], List, Option, length, map, slice_get, Some, None, IfOk, IsSome, option_copied};
-ghost use Rattle.il_table.specs.NameMap as values;
 ghost use Rattle.lift_world.specs.declared.shared.TaskMemory.{TaskMemory as MemoryOf};
 ghost use Rattle.il_machine.specs.Scanning.{FitsOwn};
 ghost use Rattle.il_machine.specs.Standing.{IsOf};
@@ -17,14 +16,9 @@ ghost use Rattle.il_machine.specs.Sharing.{globals_in};
 use crate::calling::{clear, report_denials, serve, tell_all, tell_all_now, ticket_in};
 use crate::taking::{take_fields, take_outputs};
 use crate::tickets::Tickets;
-use il_machine::{
-    Begin, FirstRows, Rows, Store, Unset, Value, Verified, finish, opening_image, set_global,
-    set_variable, variable,
-};
+use il_machine::{Begin, FirstRows, Rows, Store, Unset, Value, Verified, opening_image, set_variable};
 use lift_calls::book::CallBook;
 use lift_interlock::{replace, settle_car, settle_each};
-use lift_spec::calls::Slot;
-use lift_spec::hand::Hand;
 use lift_spec::image::Wishes;
 use lift_spec::report::{Answered, Report};
 use lift_spec::{Bounded, Fields, Image, MOST_CARS, Motor, SLOT_PLACES};
