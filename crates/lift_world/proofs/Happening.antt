@@ -25,7 +25,7 @@ use Rattle.lift_spec.proofs.Laws.{range_test}
 use Rattle.lift_run_laws.specs.Runs.{IsReached}
 use Rattle.lift_world.specs.declared.world.World.TheInside.{Inside}
 use Rattle.lift_world.specs.Running.{instructions, up_to_end}
-use Rattle.lift_world.specs.Groups.{holds_tickets, is_open_in, world_by, StoresFit, KeepVariables}
+use Rattle.lift_world.specs.Groups.{GroupOf, holds_tickets, is_open_in, world_by, StoresFit, KeepVariables}
 use Rattle.lift_world.specs.Kept.{world_in, IsWorld}
 use Rattle.lift_world.specs.Worlds.{Steps, RunsOut}
 use Rattle.lift_world.proofs.Views.{set_same, flat_some, some_of, within, here}
@@ -63,6 +63,23 @@ same_so a b e = grind (arith, nat_tests)
 
 pub other_so : (a b : ℕ) → a ≢ b → (a == b) ≡ false
 other_so a b e = grind (arith, nat_tests)
+
+-- WHAT AN EVENT LEAVES
+
+-- a world keeps what it has to where its stores fit and a history leads to it
+pub keeps : (w v : Inside) → IsWorld w → v.verified ≡ w.verified → v.core.config ≡ w.core.config → StoresFit w.verified.config v.core.group.tasks v.stores.items → KeepVariables v.core.group.tasks v.stores.items → IsReached w.verified.config (world_in v) → IsWorld v
+keeps w v is same core stores variables reached = record {
+  runnable = rw same is.runnable;
+  costs = rw same is.costs;
+  same = core ∙ is.same ∙ ap (λ (p : Program). p.config) (sym same);
+  stores = subst (λ (p : Program). StoresFit p.config v.core.group.tasks v.stores.items) (sym same) stores;
+  variables = variables;
+  reached = subst (λ (p : Program). IsReached p.config (world_in v)) (sym same) reached;
+}
+
+pub keeps_world : (w v : Inside) (e : Event) (reply : Reply) → IsWorld w → v.verified ≡ w.verified → v.core.config ≡ w.core.config → StoresFit w.verified.config v.core.group.tasks v.stores.items → KeepVariables v.core.group.tasks v.stores.items
+    → happens w.verified.config (world_in w) e ≡ Ok (world_in v, reply) → IsWorld v
+keeps_world w v e reply is same core stores variables happened = keeps w v is same core stores variables (one_event w.verified.config (world_in w) (world_in v) e reply is.reached happened)
 
 -- A TASK THAT IS THERE
 
@@ -246,24 +263,11 @@ module _ (w : Inside) (is : IsWorld w) (t : ℕ) where
         → v.verified ≡ w.verified → v.core ≡ w.core → v.desk ≡ w.desk → v.hand ≡ w.hand → v.stores.items ≡ slice_set w.stores.items i after → IsWorld v
     finish_world (Ok n) before after v i at so lent steps ended verified core desk hand put =
         let out = steps x.store lent in
-        record {
-          runnable = rw verified is.runnable;
-          costs = rw verified is.costs;
-          same = rw (verified, core) is.same;
-          stores = rw (verified, core, put) (finished_stores after n i at out);
-          variables = rw (core, put) (open_variables so after i at);
-          reached = rw (verified, core, desk, hand, put) (many_events c (world_in w) _ (instructions t n) [] (up_to_end n) is.reached (finished after n i at so out));
-        }
+        keeps w v is verified (ap (λ (k : GroupOf). k.config) core) (rw (core, put) (finished_stores after n i at out)) (rw (core, put) (open_variables so after i at))
+        (rw (core, desk, hand, put) (many_events c (world_in w) _ (instructions t n) [] (up_to_end n) is.reached (finished after n i at so out)))
     finish_world (Err e) before after v i at so lent steps ended verified core desk hand put =
         let same : slice_set w.stores.items i after ≡ w.stores.items = rw (at, ended.1, lent) (set_same w.stores.items t (Some x.store) (flat_some _ x.store x.kept)) in
-        record {
-          runnable = rw verified is.runnable;
-          costs = rw verified is.costs;
-          same = rw (verified, core) is.same;
-          stores = rw (verified, core, put, same) is.stores;
-          variables = rw (core, put) (open_variables so after i at);
-          reached = rw (verified, core, desk, hand, put, same) is.reached;
-        }
+        keeps w v is verified (ap (λ (k : GroupOf). k.config) core) (rw (core, put, same) is.stores) (rw (core, put) (open_variables so after i at)) (rw (core, desk, hand, put, same) is.reached)
 
 -- REFRESH
 
@@ -287,16 +291,3 @@ module _ (w : Inside) (is : IsWorld w) (fields : Fields) (inside : FieldsInRange
 
     pub refreshed_variables : KeepVariables after.tasks w.stores.items
     refreshed_variables = subst (λ ts. KeepVariables ts w.stores.items) (sym same_tasks) is.variables
-
--- WHAT AN EVENT LEAVES
-
-pub keeps_world : (w v : Inside) (e : Event) (reply : Reply) → IsWorld w → v.verified ≡ w.verified → v.core.config ≡ w.core.config → StoresFit w.verified.config v.core.group.tasks v.stores.items → KeepVariables v.core.group.tasks v.stores.items
-    → happens w.verified.config (world_in w) e ≡ Ok (world_in v, reply) → IsWorld v
-keeps_world w v e reply is same core stores variables happened = record {
-  runnable = rw same is.runnable;
-  costs = rw same is.costs;
-  same = core ∙ is.same ∙ ap (λ (p : Program). p.config) (sym same);
-  stores = subst (λ (p : Program). StoresFit p.config v.core.group.tasks v.stores.items) (sym same) stores;
-  variables = variables;
-  reached = subst (λ (p : Program). IsReached p.config (world_in v)) (sym same) (one_event w.verified.config (world_in w) (world_in v) e reply is.reached happened);
-}

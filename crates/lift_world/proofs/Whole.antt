@@ -3,7 +3,7 @@ use Rattle.std.proofs.Common.{◌≡◌, ℕ, Bool, true, false, List, [], map, 
 use Rattle.std.specs.Prelude.{slice_get, slice_set, slice_index_or, is_some}
 use Rattle.il_spec.specs.declared.tree.Config.{Config}
 use Rattle.il_run.specs.State.{State}
-use Rattle.il_machine.specs.Scanning.{Program, HasTask}
+use Rattle.il_machine.specs.Scanning.{HasTask}
 use Rattle.il_machine.specs.Standing.{Standing, StillHas}
 use Rattle.lift_spec.specs.declared.event.Event.TheVariants.{Start, Commit}
 use Rattle.lift_spec.specs.declared.report.Report.{Report}
@@ -22,7 +22,7 @@ use Rattle.lift_world.proofs.Keeping.{stores_step, stores_task, variables_step, 
 use Rattle.lift_world.proofs.Sound.{reached_well, one_event, many_events}
 use Rattle.lift_world.proofs.Events.{open_scan, start_is, commit_is, commit_closes, ended_so}
 use Rattle.lift_world.proofs.Finishing.{finishes}
-use Rattle.lift_world.proofs.Happening.{There, found, lent_is, lent_variables}
+use Rattle.lift_world.proofs.Happening.{There, found, keeps, lent_is, lent_variables}
 use Rattle.lift_world.proofs.Straight.{committed_again}
 
 -- a task of the group is there
@@ -140,11 +140,5 @@ module _ (w : Inside) (is : IsWorld w) (t : ℕ) (has : HasTask w.verified.confi
 
     -- and that is a group's
     pub leaves : (v : Inside) → v.verified ≡ w.verified → v.core.config ≡ w.core.config → v.core.group ≡ after → v.desk ≡ w.desk → v.hand ≡ w.hand → v.stores.items ≡ slice_set stores i (Some last) → IsWorld v
-    leaves v verified config group_now desk hand put = record {
-      runnable = rw verified is.runnable;
-      costs = rw verified is.costs;
-      same = config ∙ is.same ∙ ap (λ (p : Program). p.config) (sym verified);
-      stores = rw (verified, group_now, put, put_once) fit_after;
-      variables = rw (group_now, put, put_once) keep_after;
-      reached = rw (verified, group_now, desk, hand, put) reached_after;
-    }
+    leaves v verified config group_now desk hand put =
+        keeps w v is verified config (rw (group_now, put, put_once) fit_after) (rw (group_now, put, put_once) keep_after) (rw (group_now, desk, hand, put) reached_after)

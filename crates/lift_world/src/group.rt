@@ -293,7 +293,7 @@ impl Core {
     }
 
     /// A whole scan of a task, in a store that still has its variables: its start, its instructions to the end, and its commit, under the
-    /// tickets that the slots have all along. The task is between scans behind it. No allocation.
+    /// tickets that the slots have all along. The task is between scans after it. No allocation.
     #[inline(always)]
     pub fn scan_whole(
         &mut self,

@@ -254,6 +254,7 @@ impl Shared {
     }
 
     /// What a scan of a task begins with.
+    #[inline(always)]
     pub fn beginning<'b>(&'b self, memory: &'b TaskMemory) -> Begin<'b>
         ensures variables { result.variables.now ≡ memory.now.variables }
         ensures globals { result.globals.now ≡ self.now.globals }

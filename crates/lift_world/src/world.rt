@@ -276,7 +276,7 @@ impl World {
         }
     }
 
-    /// A run over a list of events, with a reply for each, behind those that are there. What room is left is left for a further run.
+    /// A run over a list of events, with a reply for each, after those that are there. What room is left is left for a further run.
     pub fn run(&mut self, events: &[Event], replies: &mut Replies)
         requires room { length replies.old.items + length events.now ≤ replies.old.room }
         requires report_room { replies.old.reports + reporting events.now
