@@ -16,7 +16,9 @@ ghost use Rattle.il_machine.specs.Sharing.{globals_in};
 use crate::calling::{clear, report_denials, serve, tell_all, tell_all_now, ticket_in};
 use crate::taking::{take_fields, take_outputs};
 use crate::tickets::Tickets;
-use il_machine::{Begin, FirstRows, Rows, Store, Unset, Value, Verified, opening_image, set_variable};
+use il_machine::{
+    Begin, FirstRows, Rows, Store, Unset, Value, Verified, opening_image, set_variable,
+};
 use lift_calls::book::CallBook;
 use lift_interlock::{replace, settle_car, settle_each};
 use lift_spec::image::Wishes;

@@ -2,7 +2,6 @@ use Rattle.std.proofs.Common.{rules, ◌≡◌, ◌∙◌, sym, ap, refl, true, 
 use Rattle.std.specs.Prelude.{is_some}
 use Rattle.il_machine.specs.Scanning.{HasTask}
 use Rattle.lift_spec.specs.World.{scan_at}
-
 use Rattle.lift_world.specs.Worlds.{WorldOf}
 use Rattle.lift_world.proofs.Happening.{store_within, lent_is, lent_of}
 use Rattle.lift_world.proofs.Whole.{the_task, kept_variables, scans, leaves}
