@@ -42,7 +42,12 @@ def last_left(folder: str, binary: str, file: str) -> Left:
         said.append(f"passed over: {' to '.join(dict.fromkeys((found[empty - 1], found[0])))}, without a round")
     if empty == len(found):
         return Left(said=said)
-    asked = subprocess.run([binary, "replay", file, found[empty], "--cut"], capture_output=True, encoding="utf-8", errors="backslashreplace")
+    asked = subprocess.run(
+        [binary, "replay", file, found[empty], "--cut"],
+        capture_output=True,
+        encoding="utf-8",
+        errors="backslashreplace",
+    )
     if not asked.returncode:
         return Left(found[empty], now_of(asked.stdout), said)
     why = (asked.stderr.strip().splitlines() or [f"status {asked.returncode}"])[0]
@@ -59,7 +64,9 @@ def has_round(trace: str) -> bool:
     """Whether it has a whole R line. One that can't be read counts as such."""
     try:
         with open(trace, encoding="ascii", errors="replace", newline="\n") as file:
-            return any(line.startswith("R ") and line.endswith("\n") for line in iter(lambda: file.readline(LONGEST), ""))
+            return any(
+                line.startswith("R ") and line.endswith("\n") for line in iter(lambda: file.readline(LONGEST), "")
+            )
     except OSError:
         return True
 

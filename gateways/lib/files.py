@@ -42,7 +42,9 @@ def there(name: str) -> list[tuple[int, str]]:
 def must_be_new(name: str):
     """Whether the file can be made is tried, and it is removed again: serve makes it."""
     if os.path.lexists(name):
-        raise NoFile(f"{name} is there already, and is never overwritten; a % in its name becomes a new number at each start")
+        raise NoFile(
+            f"{name} is there already, and is never overwritten; a % in its name becomes a new number at each start"
+        )
     try:
         os.close(os.open(name, os.O_WRONLY | os.O_CREAT | os.O_EXCL, 0o666))
         os.remove(name)

@@ -13,7 +13,14 @@ EXCEPTION = 0x80  # of a function's number
 COIL_ON = 0xFF00
 HEADER = struct.Struct(">HHHB")  # transaction, protocol 0, bytes from the unit on, unit
 LEAST, MOST = 3, 254  # bytes from the unit on
-EXCEPTIONS = {1: "illegal function", 2: "illegal data address", 3: "illegal data value", 4: "device failure", 5: "acknowledge", 6: "device busy"}
+EXCEPTIONS = {
+    1: "illegal function",
+    2: "illegal data address",
+    3: "illegal data value",
+    4: "device failure",
+    5: "acknowledge",
+    6: "device busy",
+}
 
 
 class FieldFault(Exception):
@@ -86,7 +93,10 @@ class Client:
             self.limit(until)
             self.socket.sendall(HEADER.pack(self.transaction, 0, len(request) + 1, self.unit) + request)
             transaction, protocol, size, unit = HEADER.unpack(self.read(HEADER.size, until))
-            self.check((transaction, protocol, unit) == (self.transaction, 0, self.unit) and LEAST <= size <= MOST, "of another request")
+            self.check(
+                (transaction, protocol, unit) == (self.transaction, 0, self.unit) and LEAST <= size <= MOST,
+                "of another request",
+            )
             answer = self.read(size - 1, until)
         except TimeoutError as why:
             raise FieldFault("no answer of the field in time") from why
@@ -94,7 +104,9 @@ class Client:
             raise FieldFault(f"the connection is lost: {why.strerror or why}") from why
         if answer[0] == request[0] | EXCEPTION and len(answer) == 2:
             self.is_whole = True
-            raise Refused(f"the field answered exception {answer[1]}{f', {EXCEPTIONS[answer[1]]}' if answer[1] in EXCEPTIONS else ''}")
+            raise Refused(
+                f"the field answered exception {answer[1]}{f', {EXCEPTIONS[answer[1]]}' if answer[1] in EXCEPTIONS else ''}"
+            )
         self.check(answer[0] == request[0], "of another function")
         self.is_whole = True
         return answer

@@ -55,7 +55,11 @@ def find_program(named: str = "") -> Program:
             raise NoProgram(f"{named} is no program")
         return Program(found, True)
     build = os.environ.get("LIFTPLC_BUILD") or f"{TOP}/build"
-    for path, is_proved in ((f"{build}/liftplc", True), (f"{build}/optimised/liftplc", False), (f"{build}/unproved/liftplc", False)):
+    for path, is_proved in (
+        (f"{build}/liftplc", True),
+        (f"{build}/optimised/liftplc", False),
+        (f"{build}/unproved/liftplc", False),
+    ):
         if is_program(path):
             return Program(path, is_proved)
     raise NoProgram(f"{build} has no program: run ./liftplc check FILE (unproved, in minutes) or ./liftplc --prove")
@@ -142,7 +146,11 @@ def answer_of(lines: bytes) -> Answer:
 def can_keep(name: str) -> bool:
     """Whether a K line can have this name: UTF-8, on one line, and not too long."""
     named = os.fsencode(name)
-    return 0 < len(named) <= LONGEST_NAME and b"\n" not in named and named.decode("utf-8", "replace").encode("utf-8") == named
+    return (
+        0 < len(named) <= LONGEST_NAME
+        and b"\n" not in named
+        and named.decode("utf-8", "replace").encode("utf-8") == named
+    )
 
 
 def outputs_of(words: Sequence[str]) -> list[Output]:
@@ -162,7 +170,9 @@ class Serve:
         errors = subprocess.PIPE if hears else None
         # Python ignores SIGXFSZ, and so does the child then: a trace that gets too large is one that can't be written.
         given = {"bufsize": 0, "start_new_session": True, "restore_signals": False}
-        self.process = subprocess.Popen(list(words), stdin=subprocess.PIPE, stdout=subprocess.PIPE, stderr=errors, **given)
+        self.process = subprocess.Popen(
+            list(words), stdin=subprocess.PIPE, stdout=subprocess.PIPE, stderr=errors, **given
+        )
         self.into, self.out = self.process.stdin.fileno(), self.process.stdout.fileno()
         self.err = self.process.stderr.fileno() if hears else None
 
@@ -172,7 +182,9 @@ class Serve:
     def __exit__(self, *_: object):
         self.close()
 
-    def round(self, now: int, limit: int, fire: int, cars: Sequence[tuple[int, Sequence[bool]]], until: float | None = None) -> Answer:
+    def round(
+        self, now: int, limit: int, fire: int, cars: Sequence[tuple[int, Sequence[bool]]], until: float | None = None
+    ) -> Answer:
         return self.answer(round_line(now, limit, fire, cars), until)
 
     def answer(self, line: str, until: float | None = None) -> Answer:

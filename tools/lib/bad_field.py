@@ -32,7 +32,9 @@ class Request:
         return struct.unpack(">HH", self.body[1:5])
 
     def frame(self, answer: bytes, transaction: int = 0, unit: int = 0, size: int = 0) -> bytes:
-        return HEADER.pack(self.transaction + transaction & 0xFFFF, 0, size or len(answer) + 1, unit or self.unit) + answer
+        return (
+            HEADER.pack(self.transaction + transaction & 0xFFFF, 0, size or len(answer) + 1, unit or self.unit) + answer
+        )
 
 
 def of_registers(values: list[int]) -> bytes:
@@ -130,7 +132,12 @@ class BadField:
 
     def is_spoiled(self, request: Request) -> bool:
         """Whether this request gets the wrong answer."""
-        if not self.kind or self.beats < self.after or (self.is_once and self.began) or self.function() != request.function:
+        if (
+            not self.kind
+            or self.beats < self.after
+            or (self.is_once and self.began)
+            or self.function() != request.function
+        ):
             return False
         if request.function == WRITE_REGISTERS and request.numbers()[0] != OUTPUTS:
             return False

@@ -2,7 +2,15 @@
 import base64, contextlib, json, os, pathlib, select, shutil, signal, socket, struct, subprocess, tempfile, time, urllib.parse
 
 NAMES = ("chromium", "chromium-browser", "google-chrome")
-OPTIONS = ("--headless=new", "--no-sandbox", "--disable-gpu", "--disable-extensions", "--hide-scrollbars", "--no-first-run", "--remote-debugging-port=0")
+OPTIONS = (
+    "--headless=new",
+    "--no-sandbox",
+    "--disable-gpu",
+    "--disable-extensions",
+    "--hide-scrollbars",
+    "--no-first-run",
+    "--remote-debugging-port=0",
+)
 START, ANSWER = 60, 60  # seconds, at most
 TEXT, CLOSE, PING, PONG, LAST = 0x1, 0x8, 0x9, 0xA, 0x80
 SHORT, MIDDLE, LONG = 125, 126, 127  # lengths of a frame, and marks of longer ones
@@ -22,7 +30,9 @@ class WebSocket:
         self.heard = b""
         key = base64.b64encode(os.urandom(16)).decode()
         upgrade = "Upgrade: websocket", "Connection: Upgrade", f"Sec-WebSocket-Key: {key}", "Sec-WebSocket-Version: 13"
-        self.socket.sendall("\r\n".join((f"GET {parts.path} HTTP/1.1", f"Host: {parts.netloc}", *upgrade, "", "")).encode())
+        self.socket.sendall(
+            "\r\n".join((f"GET {parts.path} HTTP/1.1", f"Host: {parts.netloc}", *upgrade, "", "")).encode()
+        )
         while b"\r\n\r\n" not in self.heard:
             self.hear()
         head, self.heard = self.heard.split(b"\r\n\r\n", 1)
@@ -85,7 +95,9 @@ class Browser:
         self.folder, self.count, self.said = tempfile.mkdtemp(prefix="browser-"), 0, []
         started = [binary, *OPTIONS, f"--user-data-dir={self.folder}", "about:blank"]
         with open(f"{self.folder}/said", "wb") as said:
-            self.process = subprocess.Popen(started, stdin=subprocess.DEVNULL, stdout=said, stderr=said, start_new_session=True)
+            self.process = subprocess.Popen(
+                started, stdin=subprocess.DEVNULL, stdout=said, stderr=said, start_new_session=True
+            )
         self.session = None
         self.socket = WebSocket(self.address())
         target = next(it for it in self.ask("Target.getTargets")["targetInfos"] if it["type"] == "page")
@@ -121,7 +133,9 @@ class Browser:
         """Keeps what the page complained of."""
         kind, about = message.get("method"), message.get("params", {})
         if kind == "Runtime.exceptionThrown":
-            self.said.append(about["exceptionDetails"].get("exception", {}).get("description", about["exceptionDetails"]["text"]))
+            self.said.append(
+                about["exceptionDetails"].get("exception", {}).get("description", about["exceptionDetails"]["text"])
+            )
         elif kind == "Runtime.consoleAPICalled" and about["type"] in ("error", "warning"):
             self.said.append(" ".join(str(it.get("value", it.get("description"))) for it in about["args"]))
 
@@ -152,7 +166,10 @@ class Browser:
 
     def size(self, width: int, height: int, dark: bool):
         self.ask("Emulation.setDeviceMetricsOverride", width=width, height=height, deviceScaleFactor=1, mobile=False)
-        self.ask("Emulation.setEmulatedMedia", features=[{"name": "prefers-color-scheme", "value": "dark" if dark else "light"}])
+        self.ask(
+            "Emulation.setEmulatedMedia",
+            features=[{"name": "prefers-color-scheme", "value": "dark" if dark else "light"}],
+        )
 
     def picture(self, path: str, whole: bool = True):
         """A PNG of the whole page, or of what stands in the window."""
@@ -162,7 +179,14 @@ class Browser:
     def press(self, key: str, code: str = "", shift: bool = False):
         text = {"text": key} if len(key) == 1 else {}
         for kind in ("keyDown", "keyUp"):
-            self.ask("Input.dispatchKeyEvent", type=kind, key=key, code=code or key, modifiers=8 if shift else 0, **(text if kind == "keyDown" else {}))
+            self.ask(
+                "Input.dispatchKeyEvent",
+                type=kind,
+                key=key,
+                code=code or key,
+                modifiers=8 if shift else 0,
+                **(text if kind == "keyDown" else {}),
+            )
 
     def metrics(self) -> dict[str, float]:
         return {it["name"]: it["value"] for it in self.ask("Performance.getMetrics")["metrics"]}

@@ -8,7 +8,9 @@ from dataclasses import dataclass
 from math import ceil, floor
 from typing import Callable
 
-sys.path.append(f"{os.path.dirname(os.path.dirname(os.path.dirname(os.path.realpath(__file__))))}/gateways")  # `lib` is there too
+sys.path.append(
+    f"{os.path.dirname(os.path.dirname(os.path.dirname(os.path.realpath(__file__))))}/gateways"
+)  # `lib` is there too
 from lib.failures import Failure
 from lib.kinematics import Drive, flight
 from lib.serve import Ended, Serve
@@ -88,7 +90,9 @@ class Timetable:
             for way in (range(start, self.floors + 1), range(start, 0, -1)):
                 stops = [self.last_stop[start][goal] for goal in way]
                 if any(later <= earlier for earlier, later in zip(stops, stops[1:])):
-                    raise Trouble(2, "floors are too near to each other for this speed: a car passes two of them in a round")
+                    raise Trouble(
+                        2, "floors are too near to each other for this speed: a car passes two of them in a round"
+                    )
 
 
 class Controller(Serve):
@@ -104,7 +108,9 @@ class Controller(Serve):
         try:
             return super().ask(lines)
         except Ended as end:  # where it has a status, it has said why
-            raise Trouble(end.status, "") if end.status > 0 else Trouble(5, f"serve has ended before its answer, with status {end.status}") from end
+            raise Trouble(end.status, "") if end.status > 0 else Trouble(
+                5, f"serve has ended before its answer, with status {end.status}"
+            ) from end
 
 
 class Call:
@@ -139,7 +145,13 @@ class Car:
     """A car, its drive, its door and the people in it. Its fields are what the group is shown of it."""
 
     def __init__(self, number: int, plant: Plant, times: Timetable):
-        self.number, self.times, self.top, self.capacity, self.transfer = number, times, times.floors, plant.capacity, plant.transfer
+        self.number, self.times, self.top, self.capacity, self.transfer = (
+            number,
+            times,
+            times.floors,
+            plant.capacity,
+            plant.transfer,
+        )
         self.motor = self.open = 0  # the outputs of the last round
         self.opens_by, self.shuts_by = plant.closing, plant.opening  # a round's part of the door's way
         self.wide = plant.opening * plant.closing  # the door's way
@@ -147,11 +159,21 @@ class Car:
         self.opened_at = 0  # the round in which the door began to open
         self.shown, self.level = 1, True  # the selector: POS and LEVEL
         self.direction = 0  # of the flight; 0 at standstill
-        self.start = self.ahead = self.target = self.flown = 0  # floors of the flight, and rounds since its start; `target` is 0 until it lands
-        self.aboard, self.waiting, self.unboarded = (defaultdict(deque) for _ in range(3))  # by floor: people in it, people told to it, calls told to it
+        self.start = (
+            self.ahead
+        ) = (
+            self.target
+        ) = self.flown = 0  # floors of the flight, and rounds since its start; `target` is 0 until it lands
+        self.aboard, self.waiting, self.unboarded = (
+            defaultdict(deque) for _ in range(3)
+        )  # by floor: people in it, people told to it, calls told to it
         self.strays: list[Passenger] = []  # of those aboard, whose call was served elsewhere
         self.load = self.left_loaded = self.loads = self.greatest = 0
-        self.crosser, self.crossing, self.inward = None, 0, False  # who is in the doorway, for how many rounds more, and which way
+        self.crosser, self.crossing, self.inward = (
+            None,
+            0,
+            False,
+        )  # who is in the doorway, for how many rounds more, and which way
         self.faults: list[str] = []
         self.is_dead = self.door_stays = self.level_is_lost = False  # what fails
         self.fields = b""
@@ -214,7 +236,9 @@ class Building:
         self.arrived = self.carried = 0
         self.now = 0  # the last round
         self.pressing: list[Passenger] = []  # who press in this round
-        self.pressed: dict[tuple[int, int], deque[list[Passenger]]] = defaultdict(deque)  # by call: for each one that has not entered, its people
+        self.pressed: dict[tuple[int, int], deque[list[Passenger]]] = defaultdict(
+            deque
+        )  # by call: for each one that has not entered, its people
         self.calls: list[Call] = []  # by ticket, from 1
         self.denied = [0] * (RULES + 1)  # by rule, from 1
         self.already = 0  # presses that were on the desk already
@@ -240,7 +264,11 @@ class Building:
         while self.due[self.arrived] <= self.now:
             self.pressing.append(self.people[self.arrived])
             self.arrived += 1
-        lines = b"R %d %d %d" % (MS_A_ROUND * self.now, self.limit, self.fire) + b"".join([car.fields for car in self.cars]) + b"\n"
+        lines = (
+            b"R %d %d %d" % (MS_A_ROUND * self.now, self.limit, self.fire)
+            + b"".join([car.fields for car in self.cars])
+            + b"\n"
+        )
         if self.pressing:
             lines = b"".join([b"P %d %d\n" % (it.floor, it.goal) for it in self.pressing]) + lines
         answer = self.controller.ask(lines)
@@ -265,7 +293,12 @@ class Building:
         self.controller.stop()
         self.controller, self.last, self.first = self.restart(), b"", len(self.calls)
         waiting = {passenger for people in self.pressed.values() for each in people for passenger in each}
-        waiting |= {passenger for call in self.calls for passenger in call.people if passenger.call is call and passenger.boarded < 0}
+        waiting |= {
+            passenger
+            for call in self.calls
+            for passenger in call.people
+            if passenger.call is call and passenger.boarded < 0
+        }
         self.pressed.clear()
         for passenger in sorted(waiting, key=lambda it: it.number):
             self.press_again(passenger)
@@ -273,11 +306,13 @@ class Building:
             car.motor = car.open = 0
             car.waiting.clear()
             car.unboarded.clear()
-            car.strays = [passenger for people in car.aboard.values() for passenger in people] + ([car.crosser] if car.crosser and car.inward else [])
+            car.strays = [passenger for people in car.aboard.values() for passenger in people] + (
+                [car.crosser] if car.crosser and car.inward else []
+            )
 
     def open_calls(self) -> int:
         """Calls that hold a slot."""
-        return sum(not call.served for call in self.calls[self.first:])
+        return sum(not call.served for call in self.calls[self.first :])
 
     def stand(self, car: Car):
         """A round of a car that stands: people cross, the door moves, or it sets off."""
@@ -461,7 +496,9 @@ def simulated(
     kind: type[Building] = Building,
 ) -> Building:
     """A building after its whole run, with what fails in it. `start` starts the child, once all else is right."""
-    times, people = Timetable(scene.plant), arrivals(scene.mix, scene.population, demand, scene.length.arrivals * MINUTE, seed)
+    times, people = Timetable(scene.plant), arrivals(
+        scene.mix, scene.population, demand, scene.length.arrivals * MINUTE, seed
+    )
     building = kind(scene.plant, times, cars, people, start())
     if failing is not None:
         building.failures, building.restart = list(failing), start

@@ -38,7 +38,12 @@ class Chart:
 
 def ticks(greatest: float) -> list[float]:
     """Round numbers from 0 to the first one that isn't below the greatest."""
-    step = next(it for power in range(-2, 8) for it in (10.0**power, 2 * 10.0**power, 5 * 10.0**power) if it * MOST_TICKS >= greatest)
+    step = next(
+        it
+        for power in range(-2, 8)
+        for it in (10.0**power, 2 * 10.0**power, 5 * 10.0**power)
+        if it * MOST_TICKS >= greatest
+    )
     return [step * at for at in range(ceil(greatest / step) + 1)]
 
 
@@ -80,8 +85,12 @@ class Picture:
             made.append(f'<text x="{self.x(value):.1f}" y="{self.bottom + 20}" text-anchor="middle">{value:g}</text>')
         made.append(f'<path d="M{LEFT} {TOP}V{self.bottom}H{self.right}" fill="none" stroke="#333333"/>')
         middle = (TOP + self.bottom) / 2
-        made.append(f'<text x="{(LEFT + self.right) / 2:.0f}" y="{HEIGHT - 18}" text-anchor="middle">{escape(self.chart.x_name)}</text>')
-        made.append(f'<text x="20" y="{middle:.0f}" text-anchor="middle" transform="rotate(-90 20 {middle:.0f})">{escape(self.chart.y_name)}</text>')
+        made.append(
+            f'<text x="{(LEFT + self.right) / 2:.0f}" y="{HEIGHT - 18}" text-anchor="middle">{escape(self.chart.x_name)}</text>'
+        )
+        made.append(
+            f'<text x="20" y="{middle:.0f}" text-anchor="middle" transform="rotate(-90 20 {middle:.0f})">{escape(self.chart.y_name)}</text>'
+        )
         return made
 
     def line(self, line: Line, colour: str, kind: str) -> list[str]:
@@ -89,8 +98,12 @@ class Picture:
         made = [f'<polyline points="{places}" fill="none" stroke="{colour}" stroke-width="2"/>']
         for it in line.points:
             x = self.x(it.x)
-            made.append(f'<path d="M{x:.1f} {self.y(it.low):.1f}V{self.y(it.high):.1f}" stroke="{colour}" stroke-opacity="0.6"/>')
-            made.append(f"<g><title>{escape(line.name)}: {it.x:g}, {it.y:.1f} ({it.low:.1f} to {it.high:.1f})</title>{mark(kind, x, self.y(it.y), colour)}</g>")
+            made.append(
+                f'<path d="M{x:.1f} {self.y(it.low):.1f}V{self.y(it.high):.1f}" stroke="{colour}" stroke-opacity="0.6"/>'
+            )
+            made.append(
+                f"<g><title>{escape(line.name)}: {it.x:g}, {it.y:.1f} ({it.low:.1f} to {it.high:.1f})</title>{mark(kind, x, self.y(it.y), colour)}</g>"
+            )
         return made
 
     def legend(self, at: int, line: Line, colour: str, kind: str) -> list[str]:

@@ -97,7 +97,12 @@ class CarProgram:
     def copied(self) -> CarProgram:
         other = copy(self)
         other.calls = [copy(it) for it in self.calls]
-        other.dwell, other.passage, other.held, other.idle = copy(self.dwell), copy(self.passage), copy(self.held), copy(self.idle)
+        other.dwell, other.passage, other.held, other.idle = (
+            copy(self.dwell),
+            copy(self.passage),
+            copy(self.held),
+            copy(self.idle),
+        )
         return other
 
     def look(self, now: int, floor: int, is_open: bool, is_shut: bool) -> Told | None:
@@ -154,7 +159,9 @@ class CarProgram:
     def scan(self, now: int, car: Car, is_up_peak: bool) -> Told | None:
         """A refresh, a scan and its commit; the call that is served."""
         floor, is_level, is_locked = car.shown, car.level, not car.door
-        self.motor = STILL if is_level and floor == (car.top if self.motor == UP else 1) else self.motor  # interlock rule 3
+        self.motor = (
+            STILL if is_level and floor == (car.top if self.motor == UP else 1) else self.motor
+        )  # interlock rule 3
         is_open = is_level and car.door == car.wide
         served, times = self.look(now, floor, is_open, is_locked), self.times
         if served:
@@ -201,7 +208,13 @@ class Ahead(Building):
         self.car, self.program = copy(car), program.copied()
         self.people: dict[int, Passenger] = {}  # by number, copies
         for name in ("aboard", "waiting"):
-            setattr(self.car, name, defaultdict(deque, {floor: deque(map(self.copied, of)) for floor, of in getattr(car, name).items() if of}))
+            setattr(
+                self.car,
+                name,
+                defaultdict(
+                    deque, {floor: deque(map(self.copied, of)) for floor, of in getattr(car, name).items() if of}
+                ),
+            )
         self.car.unboarded, self.car.strays = defaultdict(deque), []
         self.car.crosser = self.copied(car.crosser) if car.crosser else None
 
@@ -248,7 +261,9 @@ class Ahead(Building):
             return min(most, ceil((car.wide - car.door) / car.opens_by) if car.open else ceil(car.door / car.shuts_by))
         if not car.door or program.moved:
             return 0
-        if not car.crosser and (not car.open or car.aboard[car.shown] or (car.waiting[car.shown] and car.load < car.capacity)):
+        if not car.crosser and (
+            not car.open or car.aboard[car.shown] or (car.waiting[car.shown] and car.load < car.capacity)
+        ):
             return 0
         crossing = car.crossing if car.crosser else MOST_AHEAD
         return min(most, crossing, program.dwell.left(program.times.dwell), program.passage.left(program.passing))
@@ -278,7 +293,10 @@ class Ahead(Building):
     def times(self) -> dict[int, tuple[int, int]]:
         """For each of its people, the rounds in which they get in, and are at their floor."""
         late = self.now + LOST
-        of = {number: [round(time * ROUNDS_A_SECOND) if time >= 0 else late for time in (it.boarded, it.left)] for number, it in self.people.items()}
+        of = {
+            number: [round(time * ROUNDS_A_SECOND) if time >= 0 else late for time in (it.boarded, it.left)]
+            for number, it in self.people.items()
+        }
         return {number: (boarded, left) for number, (boarded, left) in of.items()}
 
 
@@ -329,7 +347,9 @@ class LeastTime:
     """The car in which it costs least time, of all people of that car together and of those who come later."""
 
     def __init__(self):
-        self.known: dict[int, dict[int, tuple[int, int]]] = {}  # by car, the times of its people as foreseen at its last call
+        self.known: dict[
+            int, dict[int, tuple[int, int]]
+        ] = {}  # by car, the times of its people as foreseen at its last call
 
     def car_for(self, controller: Exact, told: Told, people: list[Passenger]) -> int:
         building, programs = controller.building, controller.programs
@@ -349,7 +369,10 @@ class LeastTime:
         """In rounds: by how much later all get in and are there than without the new call, and by how much longer the car is busy."""
         known = self.known.get(number, {})
         before = [known.get(passenger, (now, now)) for passenger in times]
-        later = sum(left - left_before + WAITING * (boarded - boarded_before) for (boarded, left), (boarded_before, left_before) in zip(times.values(), before))
+        later = sum(
+            left - left_before + WAITING * (boarded - boarded_before)
+            for (boarded, left), (boarded_before, left_before) in zip(times.values(), before)
+        )
         busy = max(left for _, left in times.values()) - max(now, *(left for _, left in before))
         return later + CROWDING * calls * max(busy, 0)
 
@@ -359,7 +382,10 @@ class Exact:
 
     def __init__(self, group: Group, dispatcher: InTurn | LeastTime):
         times = Times.of(group)
-        self.programs = [CarProgram(number, (number - 1) * group.floors // group.cars + 1, times) for number in range(1, group.cars + 1)]
+        self.programs = [
+            CarProgram(number, (number - 1) * group.floors // group.cars + 1, times)
+            for number in range(1, group.cars + 1)
+        ]
         self.desk, self.dispatcher = Desk(group.slots), dispatcher
         self.parks_in_up_peak = group.dispatch in ("estimated", "etd")
         self.waiting: list[Told] = []  # by slot

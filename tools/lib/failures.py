@@ -29,6 +29,10 @@ def failures(cars: int, rounds: int, seed: int) -> list[Failure]:
     while first < rounds:
         kind = chance.choice(list(KINDS))
         car = chance.randrange(cars) if kind == "limit" else chance.randint(1, cars)
-        made.append(Failure(kind, car, first, first if kind == "restart" else min(rounds, first + chance.randint(SHORTEST, LONGEST))))
+        made.append(
+            Failure(
+                kind, car, first, first if kind == "restart" else min(rounds, first + chance.randint(SHORTEST, LONGEST))
+            )
+        )
         first += chance.randint(1, 2 * GAP)
     return [*made, Failure("restart", 0, rounds, rounds)]

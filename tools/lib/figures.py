@@ -116,7 +116,20 @@ def seconds(time: float) -> str:
 def write_passengers(building: Building, to: TextIO):
     """A line a passenger; times in seconds, empty where it didn't happen. Of several tickets the last one."""
     lines = csv.writer(to, lineterminator="\n")
-    lines.writerow(("passenger", "arrival", "floor", "destination", "ticket", "car", "boarding", "leaving", "presses", "found_full"))
+    lines.writerow(
+        (
+            "passenger",
+            "arrival",
+            "floor",
+            "destination",
+            "ticket",
+            "car",
+            "boarding",
+            "leaving",
+            "presses",
+            "found_full",
+        )
+    )
     for it in building.people[: building.arrived]:
         came, went = (it.number, f"{it.arrived:.2f}", it.start, it.goal), (seconds(it.boarded), seconds(it.left))
         lines.writerow((*came, it.call.ticket if it.call else "", it.car or "", *went, it.presses, it.found_full))
@@ -128,4 +141,6 @@ def write_calls(building: Building, to: TextIO):
     lines.writerow(("ticket", "from", "to", "entered", "told", "car", "boarded", "served", "at_destination"))
     for it in building.calls:
         happened = [number or "" for number in (it.told, it.car, it.boarded, it.served)]
-        lines.writerow((it.ticket, it.start, it.goal, it.entered, *happened, ("yes" if it.at_goal else "no") if it.served else ""))
+        lines.writerow(
+            (it.ticket, it.start, it.goal, it.entered, *happened, ("yes" if it.at_goal else "no") if it.served else "")
+        )

@@ -52,12 +52,23 @@ operand    = literal | place
 place      = name | name '[' ( number | name ) ']' | name '.' word
 literal    = TRUE | FALSE | number | typed | duration
 """
-LINE_ENDS_COUNT = {"text": False, "body": True, "arguments": False}  # in these rules; in the others as where they are used
+LINE_ENDS_COUNT = {
+    "text": False,
+    "body": True,
+    "arguments": False,
+}  # in these rules; in the others as where they are used
 CALLED = "nested"  # each nesting goes through it
 
 # What the first token of a rule begins.
 UNIT, INSTRUCTION, LABEL = "unit", "instruction", "label"
-BEGINS = {"unit": UNIT, "load": INSTRUCTION, "plain": INSTRUCTION, "leaving": INSTRUCTION, "close": INSTRUCTION, "colon": LABEL}
+BEGINS = {
+    "unit": UNIT,
+    "load": INSTRUCTION,
+    "plain": INSTRUCTION,
+    "leaving": INSTRUCTION,
+    "close": INSTRUCTION,
+    "colon": LABEL,
+}
 EITHER = "instruction or label"  # a name at the front of a line is told by the token behind it
 
 # ---- Kinds of tokens ----
@@ -71,7 +82,11 @@ RESERVED = set(
 SIZES = {"CARS", "FLOORS", "SLOTS"}  # words of the configuration that are names too
 OTHER_NAME, OTHER_NUMBER = "other name", "other number"
 NAMES = {*SIZES, OTHER_NAME}
-CLASSES = {"name": NAMES, "word": NAMES | RESERVED, "number": {"decimal", OTHER_NUMBER}}  # the kinds that a rule names by one word
+CLASSES = {
+    "name": NAMES,
+    "word": NAMES | RESERVED,
+    "number": {"decimal", OTHER_NUMBER},
+}  # the kinds that a rule names by one word
 DECIMAL = re.compile(rb"[0-9_]+")
 known_kinds = {}  # by the bytes
 
@@ -198,7 +213,11 @@ class Network:
                 if place not in reached:
                     reached.add(place)
                     left.append(place)
-        return frozenset(place for place in reached if place in self.over_token or place in self.over_call or place in self.ends.values())
+        return frozenset(
+            place
+            for place in reached
+            if place in self.over_token or place in self.over_call or place in self.ends.values()
+        )
 
 
 NETWORK = Network()

@@ -93,7 +93,9 @@ class GroupLog:
         """A run begins."""
         self.cars = [Car() for _ in range(self.sizes.cars)]
         self.calls: dict[int, Call] = {}  # by slot
-        self.queued: deque[tuple[int, int, int, int]] = deque(maxlen=MOST_QUEUED)  # from, to, and when: log's time, wall clock
+        self.queued: deque[tuple[int, int, int, int]] = deque(
+            maxlen=MOST_QUEUED
+        )  # from, to, and when: log's time, wall clock
         self.now, self.limit, self.fire = 0, self.sizes.cars, 0
         self.refreshed_at: int | None = None  # ms of the wall clock
         self.reply: int | None = None  # ms from the last R line to its outputs
@@ -170,8 +172,13 @@ class GroupLog:
 
     def take_output(self, word: bytes, rest: list[bytes]):
         takers = {
-            b"outputs": self.take_outputs, b"denied": self.take_denied, b"press": self.take_press,
-            b"entered": self.take_entered, b"told": self.take_told, b"served": self.take_served, b"kept": lambda _: None,
+            b"outputs": self.take_outputs,
+            b"denied": self.take_denied,
+            b"press": self.take_press,
+            b"entered": self.take_entered,
+            b"told": self.take_told,
+            b"served": self.take_served,
+            b"kept": lambda _: None,
         }
         if word not in takers:
             raise Damaged
@@ -240,23 +247,59 @@ def is_late(group: GroupLog, asked: Asked) -> bool:
 def as_json(group: GroupLog, asked: Asked) -> str:
     counts = group.counts
     cars = [
-        {"car": k, "floor": it.floor, **{name: it.flag(name) for name in FLAGS}, "motor": it.motor, "open": bool(it.open)}
+        {
+            "car": k,
+            "floor": it.floor,
+            **{name: it.flag(name) for name in FLAGS},
+            "motor": it.motor,
+            "open": bool(it.open),
+        }
         for k, it in enumerate(group.cars, 1)
     ]
     calls = [
-        {"ticket": it.ticket, "slot": it.slot, "from": it.start, "to": it.end, "pressed_ms": it.pressed_at, "car": it.car or None, "aboard": it.is_aboard}
+        {
+            "ticket": it.ticket,
+            "slot": it.slot,
+            "from": it.start,
+            "to": it.end,
+            "pressed_ms": it.pressed_at,
+            "car": it.car or None,
+            "aboard": it.is_aboard,
+        }
         for _, it in sorted(group.calls.items())
     ]
     queued = [{"from": start, "to": end, "pressed_ms": at} for start, end, _, at in group.queued]
     denials = [{"car": car, "rule": rule, "count": times} for (car, rule), times in sorted(counts.denials.items())]
     presses = {it: counts.presses[it] for it in ("new", "already", "refused")}
-    log = {"path": asked.path, "bytes": asked.size, "lines": counts.lines, "damaged_lines": counts.damaged, "missing_records": counts.missing}
-    run = {"number": counts.runs, "status": group.status, "late": is_late(group, asked), "last_round_ms": group.refreshed_at, "reply_ms": group.reply}
+    log = {
+        "path": asked.path,
+        "bytes": asked.size,
+        "lines": counts.lines,
+        "damaged_lines": counts.damaged,
+        "missing_records": counts.missing,
+    }
+    run = {
+        "number": counts.runs,
+        "status": group.status,
+        "late": is_late(group, asked),
+        "last_round_ms": group.refreshed_at,
+        "reply_ms": group.reply,
+    }
     totals = {"rounds": counts.rounds, "ends": counts.ends, "entered": counts.entered, "served": counts.served}
     waits = {"boarded": counts.boarded, "waited_ms": counts.waited}
     whole = {
-        "configuration": asked.configuration, **group.sizes._asdict(), "watchdog_ms": asked.watchdog, "now_ms": asked.now, "log": log, "run": run,
-        "fire": bool(group.fire), "run_limit": group.limit, "plant_clock_ms": group.now, "group": cars, "calls": calls, "queued": queued,
+        "configuration": asked.configuration,
+        **group.sizes._asdict(),
+        "watchdog_ms": asked.watchdog,
+        "now_ms": asked.now,
+        "log": log,
+        "run": run,
+        "fire": bool(group.fire),
+        "run_limit": group.limit,
+        "plant_clock_ms": group.now,
+        "group": cars,
+        "calls": calls,
+        "queued": queued,
         "totals": {**totals, **waits, "presses": presses, "denials": denials},
     }
     return json.dumps(whole) + "\n"
@@ -268,7 +311,10 @@ def label(text: str) -> str:
 
 def as_metrics(group: GroupLog, asked: Asked) -> str:
     """In the text form of Prometheus, 0.0.4."""
-    return "".join(lines(name, kind, what, samples) for name, kind, what, samples in [*state_metrics(group, asked), *car_metrics(group), *count_metrics(group)])
+    return "".join(
+        lines(name, kind, what, samples)
+        for name, kind, what, samples in [*state_metrics(group, asked), *car_metrics(group), *count_metrics(group)]
+    )
 
 
 def lines(name: str, kind: str, what: str, samples: list[tuple[str, float]]) -> str:
@@ -280,27 +326,46 @@ def state_metrics(group: GroupLog, asked: Asked):
     def gauge(name, what, value):
         return name, "gauge", what, [("", value)]
 
-    yield "info", "gauge", "The configuration that is shown; always 1.", [(f'{{configuration="{label(asked.configuration)}"}}', 1)]
-    yield gauge("late", "1 where no round comes: the last is older than the watchdog's time, or serve has ended.", int(is_late(group, asked)))
+    yield "info", "gauge", "The configuration that is shown; always 1.", [
+        (f'{{configuration="{label(asked.configuration)}"}}', 1)
+    ]
+    yield gauge(
+        "late",
+        "1 where no round comes: the last is older than the watchdog's time, or serve has ended.",
+        int(is_late(group, asked)),
+    )
     yield gauge("ended", "1 where serve has ended.", int(group.status is not None))
     if group.status is not None:
         yield gauge("end_status", "The status with which serve ended; below 0 it is that of a signal.", group.status)
     if group.refreshed_at is not None:
-        yield gauge("last_round_timestamp_seconds", "When the last R line went in, since 1970-01-01 UTC.", group.refreshed_at / 1000)
+        yield gauge(
+            "last_round_timestamp_seconds",
+            "When the last R line went in, since 1970-01-01 UTC.",
+            group.refreshed_at / 1000,
+        )
     if group.reply is not None:
         yield gauge("reply_seconds", "From the last R line to its outputs.", group.reply / 1000)
     yield gauge("fire", "FIRE of the last R line.", group.fire)
     yield gauge("run_limit", "RUNLIMIT of the last R line.", group.limit)
     yield gauge("call_slots", "Call slots of the group.", group.sizes.slots)
     yield gauge("call_slots_used", "Call slots that are taken.", len(group.calls))
-    yield gauge("calls_waiting", "Calls in call slots that wait at a landing.", sum(not it.is_aboard for it in group.calls.values()))
+    yield gauge(
+        "calls_waiting",
+        "Calls in call slots that wait at a landing.",
+        sum(not it.is_aboard for it in group.calls.values()),
+    )
     yield gauge("presses_queued", "Presses in no call slot yet.", len(group.queued))
     yield gauge("log_bytes", "Bytes of the log.", asked.size)
 
 
 def car_metrics(group: GroupLog):
     def of_cars(name, what, value):
-        return f"car_{name}", "gauge", what, [(f'{{car="{k}"}}', int(value(car))) for k, car in enumerate(group.cars, 1)]
+        return (
+            f"car_{name}",
+            "gauge",
+            what,
+            [(f'{{car="{k}"}}', int(value(car))) for k, car in enumerate(group.cars, 1)],
+        )
 
     yield of_cars("floor", "POS of the last R line.", lambda it: it.floor)
     for name in FLAGS:
@@ -318,7 +383,11 @@ def count_metrics(group: GroupLog):
         ("calls_entered_total", "Calls that entered a call slot.", counts.entered),
         ("calls_served_total", "Calls that were served.", counts.served),
         ("calls_boarded_total", "Calls that were fetched at their landing.", counts.boarded),
-        ("waited_seconds_total", "From the press to the boarding, of all calls that were fetched.", counts.waited / 1000),
+        (
+            "waited_seconds_total",
+            "From the press to the boarding, of all calls that were fetched.",
+            counts.waited / 1000,
+        ),
         ("log_lines_total", "Lines of the log.", counts.lines),
         ("log_damaged_lines_total", "Lines of the log that are no record of this group.", counts.damaged),
         ("log_missing_records_total", "Records that the log took not.", counts.missing),
@@ -326,5 +395,9 @@ def count_metrics(group: GroupLog):
         yield name, "counter", what, [("", value)]
     presses = [(f'{{answer="{it}"}}', counts.presses[it]) for it in ("new", "already", "refused")]
     yield "presses_total", "counter", "Presses, by the answer.", presses
-    denials = [(f'{{car="{car}",rule="{rule}"}}', counts.denials[car, rule]) for car in range(1, group.sizes.cars + 1) for rule in range(1, RULES + 1)]
+    denials = [
+        (f'{{car="{car}",rule="{rule}"}}', counts.denials[car, rule])
+        for car in range(1, group.sizes.cars + 1)
+        for rule in range(1, RULES + 1)
+    ]
     yield "denials_total", "counter", "Denials, by car and interlock rule.", denials

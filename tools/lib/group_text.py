@@ -16,7 +16,13 @@ from dataclasses import asdict, dataclass
 from typing import Iterator
 
 TEMPLATES = os.path.join(os.path.dirname(os.path.abspath(__file__)), "group")
-DISPATCHERS = {"nearest": "NEAREST_CAR", "turn": "IN_TURN", "same": "SAME_DESTINATION", "estimated": "ESTIMATED", "etd": "TIME_TO_DESTINATION"}  # with the names of their programs
+DISPATCHERS = {
+    "nearest": "NEAREST_CAR",
+    "turn": "IN_TURN",
+    "same": "SAME_DESTINATION",
+    "estimated": "ESTIMATED",
+    "etd": "TIME_TO_DESTINATION",
+}  # with the names of their programs
 MEASURING = "estimated", "etd"  # those that measure the times of the cars
 SECOND = 1000  # ms
 SCAN = 100  # ms, in which times are measured
@@ -62,7 +68,10 @@ class Group:
 
     def longest_stop(self) -> int:
         """Of a car that has work elsewhere, but for its door's ways."""
-        return max(self.hold_time() + max(self.dwell, self.dwell_out_time()), min(MOST_PASSING + self.transfer, 2 * self.capacity * self.transfer))
+        return max(
+            self.hold_time() + max(self.dwell, self.dwell_out_time()),
+            min(MOST_PASSING + self.transfer, 2 * self.capacity * self.transfer),
+        )
 
     def values(self) -> dict[str, str]:
         times = {name: getattr(self, name) for name in ("dwell", "transfer", "park", "out")} | {
@@ -79,7 +88,9 @@ class Group:
             "cars_in_words": counted(self.cars, "car"),
             "slots_in_words": counted(self.slots, "call slot"),
         }
-        return {name: str(value) for name, value in numbers.items()} | {name: duration(value) for name, value in times.items()}
+        return {name: str(value) for name, value in numbers.items()} | {
+            name: duration(value) for name, value in times.items()
+        }
 
 
 def counted(number: int, one: str) -> str:

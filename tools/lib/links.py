@@ -5,7 +5,9 @@ import re, subprocess, tempfile
 from dataclasses import dataclass
 
 LAST_LINE = re.compile(r"(?:^|\n)E \d+\n\Z")
-BEGINNING = re.compile(r"(?:P \d+ \d+\n)*(?:(?:G \d+\n)+R .*|E \d+\n)?", re.DOTALL)  # what may come after a head: presses, and a round or the end
+BEGINNING = re.compile(
+    r"(?:P \d+ \d+\n)*(?:(?:G \d+\n)+R .*|E \d+\n)?", re.DOTALL
+)  # what may come after a head: presses, and a round or the end
 LONGEST = 60  # characters of a line that are shown
 
 
@@ -32,7 +34,9 @@ class Program:
     file: str
 
     def run(self, *words: str, given: str = "") -> subprocess.CompletedProcess:
-        return subprocess.run([self.binary, *words], input=given, capture_output=True, encoding="utf-8", errors="backslashreplace")
+        return subprocess.run(
+            [self.binary, *words], input=given, capture_output=True, encoding="utf-8", errors="backslashreplace"
+        )
 
     def must_run(self, *words: str, given: str = "") -> subprocess.CompletedProcess:
         done = self.run(*words, given=given)

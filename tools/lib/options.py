@@ -77,22 +77,41 @@ def add_building(words: argparse.ArgumentParser):
     of.add_argument("--jerk", type=positive, default=1.5, metavar="M/S3", help="m/s³ (1.5)")
     of.add_argument("--opening", type=positive, default=2.0, metavar="S", help="s from shut to wholly open (2.0)")
     of.add_argument("--closing", type=positive, default=3.0, metavar="S", help="s from wholly open to shut (3.0)")
-    of.add_argument("--transfer", type=positive, default=1.0, metavar="S", help="s that a passenger takes through the door (1.0)")
+    of.add_argument(
+        "--transfer", type=positive, default=1.0, metavar="S", help="s that a passenger takes through the door (1.0)"
+    )
     of.add_argument("--capacity", type=count, default=13, metavar="N", help="persons a car holds (13)")
 
 
 def add_traffic(words: argparse.ArgumentParser):
     of = words.add_argument_group("traffic")
     of.add_argument("--traffic", choices=TEMPLATES, default="up-peak", help="the template (up-peak)")
-    of.add_argument("--mix", type=mix, metavar="IN:OUT:INTER", help="shares of incoming, outgoing and inter-floor passengers, in place of the template's")
+    of.add_argument(
+        "--mix",
+        type=mix,
+        metavar="IN:OUT:INTER",
+        help="shares of incoming, outgoing and inter-floor passengers, in place of the template's",
+    )
     of.add_argument("--minutes", type=positive, default=30.0, metavar="MIN", help="so long passengers come (30)")
-    of.add_argument("--warm-up", type=not_negative, default=5.0, metavar="MIN", help="who arrive in the first MIN aren't counted in the figures (5)")
+    of.add_argument(
+        "--warm-up",
+        type=not_negative,
+        default=5.0,
+        metavar="MIN",
+        help="who arrive in the first MIN aren't counted in the figures (5)",
+    )
     drain = "the run ends when all are carried, or so long behind the last arrivals (15)"
     of.add_argument("--drain", type=not_negative, default=15.0, metavar="MIN", help=drain)
 
 
 def add_binary(words: argparse.ArgumentParser):
-    words.add_argument("--binary", type=program, default="", metavar="BINARY", help="the program (build/liftplc, or an unproved build where there is no other)")
+    words.add_argument(
+        "--binary",
+        type=program,
+        default="",
+        metavar="BINARY",
+        help="the program (build/liftplc, or an unproved build where there is no other)",
+    )
 
 
 def program(word: str) -> str:

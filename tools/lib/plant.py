@@ -1,6 +1,9 @@
 """The simulated plant of docs/TRACE.md, for trials: a shaft with a car and a door for each car of a group."""
 
-PLACES_OF_FLOOR, DOOR_OPEN = 10, 5  # a place is a tenth of a floor's height; a door goes from 0, shut, to 5, wholly open
+PLACES_OF_FLOOR, DOOR_OPEN = (
+    10,
+    5,
+)  # a place is a tenth of a floor's height; a door goes from 0, shut, to 5, wholly open
 STEP_MS = 100
 
 

@@ -31,7 +31,9 @@ def played(binary: str, job: Job) -> tuple[Job, Figures]:
 def played_with_knowledge(groups: dict[str, Group], job: Job) -> tuple[Job, Figures]:
     """The same with a dispatcher that knows all, in place of the program; the file is the name of a group."""
     controller = Exact(groups[job.file], LeastTime())
-    return job, figures(simulated(job.scene, job.cars, job.demand, job.seed, lambda: controller, kind=Known), job.scene.length)
+    return job, figures(
+        simulated(job.scene, job.cars, job.demand, job.seed, lambda: controller, kind=Known), job.scene.length
+    )
 
 
 def end_worker(*_):
@@ -60,6 +62,8 @@ def made_with_knowledge(jobs: list[Job], groups: dict[str, Group], at_a_time: in
     yield from of_all(partial(played_with_knowledge, groups), jobs, at_a_time)
 
 
-def of_all(play: Callable[[Job], tuple[Job, Figures]], jobs: list[Job], at_a_time: int) -> Iterator[tuple[Job, Figures]]:
+def of_all(
+    play: Callable[[Job], tuple[Job, Figures]], jobs: list[Job], at_a_time: int
+) -> Iterator[tuple[Job, Figures]]:
     with multiprocessing.Pool(at_a_time, begin_worker) as pool:
         yield from pool.imap(play, jobs)

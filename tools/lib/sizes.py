@@ -33,7 +33,9 @@ def size_of(name: str, group: str) -> int:
     least, most = LIMITS[name]
     digits = found[1].replace("_", "").lstrip("0") or "0"
     if len(digits) > len(str(most)) or not least <= int(digits) <= most:
-        raise NoSizes(f"{name} is {digits[:SHOWN]}{'...' if len(digits) > SHOWN else ''}, and not from {least} to {most}")
+        raise NoSizes(
+            f"{name} is {digits[:SHOWN]}{'...' if len(digits) > SHOWN else ''}, and not from {least} to {most}"
+        )
     return int(digits)
 
 

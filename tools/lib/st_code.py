@@ -7,9 +7,45 @@ import dataclasses, functools
 from dataclasses import dataclass, field
 
 from lib.st_names import COMPARISONS, MIRRORED, OUTPUTS, Array, Instance, Scalar, Scope
-from lib.st_tree import WHOLE, Argument, Assign, Binary, Branch, Call, Case, Choice, For, If, Invoke, Leave, Literal, Node, Place, Refusal, Unary, Unit, Variable, place_of
+from lib.st_tree import (
+    WHOLE,
+    Argument,
+    Assign,
+    Binary,
+    Branch,
+    Call,
+    Case,
+    Choice,
+    For,
+    If,
+    Invoke,
+    Leave,
+    Literal,
+    Node,
+    Place,
+    Refusal,
+    Unary,
+    Unit,
+    Variable,
+    place_of,
+)
 
-OPERATORS = {"+": "ADD", "-": "SUB", "*": "MUL", "/": "DIV", "MOD": "MOD", "=": "EQ", "<>": "NE", "<": "LT", ">": "GT", "<=": "LE", ">=": "GE", "AND": "AND", "OR": "OR", "XOR": "XOR"}
+OPERATORS = {
+    "+": "ADD",
+    "-": "SUB",
+    "*": "MUL",
+    "/": "DIV",
+    "MOD": "MOD",
+    "=": "EQ",
+    "<>": "NE",
+    "<": "LT",
+    ">": "GT",
+    "<=": "LE",
+    ">=": "GE",
+    "AND": "AND",
+    "OR": "OR",
+    "XOR": "XOR",
+}
 LOGIC = "AND", "OR", "XOR"
 DEEPEST = 16  # parentheses
 MOST_TURNS = 4096  # of a loop
@@ -45,7 +81,11 @@ class Step:
 @functools.cache
 def fields_of(kind: type) -> tuple[str, ...]:
     """The fields of a kind of node that may hold nodes."""
-    return tuple(it.name for it in dataclasses.fields(kind) if it.name not in ("place", "span", "name", "type", "operator", "word", "member", "is_output", "is_negated"))
+    return tuple(
+        it.name
+        for it in dataclasses.fields(kind)
+        if it.name not in ("place", "span", "name", "type", "operator", "word", "member", "is_output", "is_negated")
+    )
 
 
 def parts(node):
@@ -68,7 +108,11 @@ def ranges_that_count(node, skipped: bool = False):
         return
     compares = isinstance(node, Binary) and node.operator in COMPARISONS
     for it in parts(node):
-        is_side = compares or (isinstance(node, Case) and it is node.selector) or (isinstance(node, Assign) and it is node.target)
+        is_side = (
+            compares
+            or (isinstance(node, Case) and it is node.selector)
+            or (isinstance(node, Assign) and it is node.target)
+        )
         yield from ranges_that_count(it, is_side)
 
 
@@ -133,7 +177,10 @@ class Body:
 
     def check_control(self, node: Variable):
         if node.name.upper() in self.controls:
-            raise Refusal(node.place, f"{node.name} controls a loop, and here is no such loop: what it is behind its loop isn't said, so store it inside, in another variable")
+            raise Refusal(
+                node.place,
+                f"{node.name} controls a loop, and here is no such loop: what it is behind its loop isn't said, so store it inside, in another variable",
+            )
 
     def index(self, node: Node) -> str:
         if isinstance(node, Literal):
@@ -146,13 +193,17 @@ class Body:
         """A variable that holds the value of an expression."""
         steps = self.value(node)
         self.before += steps
-        name = next((it for it, type in self.temporaries.items() if type == node.type and it not in self.used), None) or self.new_temporary(node.type)
+        name = next(
+            (it for it, type in self.temporaries.items() if type == node.type and it not in self.used), None
+        ) or self.new_temporary(node.type)
         self.used[name] = self.source(node)
         self.before.append(self.step("ST", name, node.place))
         return name
 
     def new_temporary(self, type: str) -> str:
-        taken = set(self.scope.symbols) | {it.name.upper() for it in self.scope.names.text.units} | set(self.temporaries)
+        taken = (
+            set(self.scope.symbols) | {it.name.upper() for it in self.scope.names.text.units} | set(self.temporaries)
+        )
         name = next(it for count in range(1, 10_000) if (it := f"HELD{count}") not in taken)
         self.temporaries[name] = type
         return name
@@ -191,7 +242,11 @@ class Body:
 
     def binary(self, node: Binary, depth: int) -> list[Step]:
         left, right, operator = node.left, node.right, node.operator
-        turns = operator in MIRRORED and is_plain(left, operator) and (not is_plain(right, operator) or isinstance(left, Literal))
+        turns = (
+            operator in MIRRORED
+            and is_plain(left, operator)
+            and (not is_plain(right, operator) or isinstance(left, Literal))
+        )
         if turns:
             left, right, operator = right, left, MIRRORED[operator]
         return [*self.value(left, depth), *self.applied(OPERATORS[operator], right, depth, node.place)]
@@ -224,7 +279,9 @@ class Body:
 
     def chain(self, key: str, given: list[Node], depth: int, place: Place) -> list[Step]:
         """MIN or MAX of all: the first that is no operand comes first."""
-        first = next((it for it in given if not isinstance(it, (Literal, Variable))), None) or next((it for it in given if isinstance(it, Variable)), given[0])
+        first = next((it for it in given if not isinstance(it, (Literal, Variable))), None) or next(
+            (it for it in given if isinstance(it, Variable)), given[0]
+        )
         steps = self.value(first, depth)
         return steps + [self.step(key, self.argument(it), place) for it in given if it is not first]
 
@@ -235,7 +292,11 @@ class Body:
             others = f"{self.argument(value)}, {self.argument(high)}"
             return [*self.value(low, depth), self.step("LIMIT", others, node.place)]
         low_text, high_text = self.argument(low), self.argument(high)
-        return [*self.value(value, depth), self.step("MAX", low_text, node.place), self.step("MIN", high_text, node.place)]
+        return [
+            *self.value(value, depth),
+            self.step("MAX", low_text, node.place),
+            self.step("MIN", high_text, node.place),
+        ]
 
     def flush(self, steps: list[Step]):
         """Puts an expression, behind what has to come before it."""
@@ -254,7 +315,13 @@ class Body:
         """The variable of a test by which ranges are narrowed."""
         if isinstance(node, Binary) and node.operator in COMPARISONS:
             left, right = (node.right, node.left) if isinstance(node.left, Literal) else (node.left, node.right)
-            if isinstance(right, Literal) and isinstance(left, Variable) and left.index is None and left.member is None and left.type != "BOOL":
+            if (
+                isinstance(right, Literal)
+                and isinstance(left, Variable)
+                and left.index is None
+                and left.member is None
+                and left.type != "BOOL"
+            ):
                 return left.name.upper()
         return None
 
@@ -317,7 +384,14 @@ class Body:
                 raise Refusal(body[at + 1].place, f"nothing leads here, behind {it.word}")
 
     def statement(self, node: Node):
-        kinds = {Assign: self.assign, Invoke: self.invoke_statement, If: self.if_statement, Case: self.case, For: self.for_statement, Leave: self.leave}
+        kinds = {
+            Assign: self.assign,
+            Invoke: self.invoke_statement,
+            If: self.if_statement,
+            Case: self.case,
+            For: self.for_statement,
+            Leave: self.leave,
+        }
         kinds[type(node)](node)
 
     def target_type(self, node: Variable) -> str:
@@ -330,7 +404,10 @@ class Body:
         symbol = self.scope.symbol(node)
         self.check_control(node)
         if symbol.kind == "input" or (symbol.kind == "image" and key not in OUTPUTS):
-            raise Refusal(node.place, f"{node.name} is only read: it is an input" + (" of the image" if symbol.kind == "image" else ""))
+            raise Refusal(
+                node.place,
+                f"{node.name} is only read: it is an input" + (" of the image" if symbol.kind == "image" else ""),
+            )
         if node.member is not None:
             return self.scope.member_type(node, symbol, True).base
         return self.scope.typed_variable(node).type
@@ -360,7 +437,12 @@ class Body:
         if not isinstance(value, Binary) or value.operator not in ("AND", "OR") or "[" in text or "." in text:
             return None
         for one, other in ((value.left, value.right), (value.right, value.left)):
-            if isinstance(one, Variable) and one.index is None and one.member is None and one.name.upper() == text.upper():
+            if (
+                isinstance(one, Variable)
+                and one.index is None
+                and one.member is None
+                and one.name.upper() == text.upper()
+            ):
                 if value.operator == "OR":
                     return "S", other
                 if isinstance(other, Unary):
@@ -382,7 +464,10 @@ class Body:
             name = it.name or (list(interface.inputs)[position] if position < len(interface.inputs) else "")
             type = (interface.outputs if it.is_output else interface.inputs).get(name.upper())
             if type is None or name.upper() in seen:
-                raise Refusal(it.place, f"{name or 'this'} is no {'output' if it.is_output else 'input'} of {block.type}, or stands twice; it has {', '.join([*interface.inputs, *interface.outputs])}")
+                raise Refusal(
+                    it.place,
+                    f"{name or 'this'} is no {'output' if it.is_output else 'input'} of {block.type}, or stands twice; it has {', '.join([*interface.inputs, *interface.outputs])}",
+                )
             seen.add(name.upper())
             if it.is_output:
                 self.output(it, type, f"{block.name}.{name}", given, after)
@@ -394,8 +479,16 @@ class Body:
     def block_of(self, call: Call):
         symbol = self.scope.symbols.get(call.name.upper())
         if symbol is None or not isinstance(symbol.type, Instance):
-            is_function = call.name.upper() in self.scope.names.functions or symbol is None and call.name.upper() not in self.scope.names.blocks
-            why = "no instance of a block" if not is_function else "no instance of a block: a function's value is stored, such as X := F(Y)"
+            is_function = (
+                call.name.upper() in self.scope.names.functions
+                or symbol is None
+                and call.name.upper() not in self.scope.names.blocks
+            )
+            why = (
+                "no instance of a block"
+                if not is_function
+                else "no instance of a block: a function's value is stored, such as X := F(Y)"
+            )
             raise Refusal(call.place, f"{call.name} is {why}")
         return symbol, self.scope.names.blocks[symbol.type.block.upper()]
 
@@ -436,7 +529,11 @@ class Body:
         goes_on = any(leaves(it.body) for it in branches)
         needed = lambda name: self.is_needed(name, node, goes_on)
         start = len(self.steps)
-        if branches[0].condition is not None and not self.narrows(branches[0].condition, needed) and self.short_form(branches):
+        if (
+            branches[0].condition is not None
+            and not self.narrows(branches[0].condition, needed)
+            and self.short_form(branches)
+        ):
             self.steps[start:start] = [Step("", comment=it) for it in self.comments.inside(node)]
             return
         end = self.label("END_IF", node.place)
@@ -478,7 +575,12 @@ class Body:
             return self.set_all(first)
         if len(branches) == 1 and len(first.body) == 1 and isinstance(first.body[0], Invoke):
             return self.conditional_call(first)
-        if len(first.body) != 1 or not isinstance(first.body[0], Assign) or len(branches) > 2 or (len(branches) == 2 and not has_else):
+        if (
+            len(first.body) != 1
+            or not isinstance(first.body[0], Assign)
+            or len(branches) > 2
+            or (len(branches) == 2 and not has_else)
+        ):
             return False
         if has_else and (len(branches[1].body) != 1 or not isinstance(branches[1].body[0], Assign)):
             return False
@@ -494,7 +596,9 @@ class Body:
         """Whether an expression is an operand without an index of its own."""
         if isinstance(node, Variable) and node.index is not None:
             index = self.scope.typed(node.index, "INT")
-            return isinstance(index, Literal) or (isinstance(index, Variable) and index.index is None and index.member is None)
+            return isinstance(index, Literal) or (
+                isinstance(index, Variable) and index.index is None and index.member is None
+            )
         return isinstance(node, (Literal, Variable))
 
     def set_all(self, branch: Branch) -> bool:
@@ -522,7 +626,11 @@ class Body:
         """An assignment of one of two operands to one place."""
         one = branch.body[0]
         type = self.target_type(one.target)
-        if not self.is_at_hand(one.target) or one.target.member is not None or (other and self.source(other.target).upper() != self.source(one.target).upper()):
+        if (
+            not self.is_at_hand(one.target)
+            or one.target.member is not None
+            or (other and self.source(other.target).upper() != self.source(one.target).upper())
+        ):
             return False
         yes, no = self.scope.wanted(one.value, type), self.scope.wanted(other.value, type) if other else None
         if no is None and (type == "BOOL" or one.target.index is not None):
@@ -537,7 +645,13 @@ class Body:
         words = (self.simple(no, False) if no else text), self.simple(yes, False)
         if isinstance(condition, Unary):
             condition, words = condition.value, words[::-1]
-        self.flush([*self.value(condition), self.step("SEL", ", ".join(words), one.place), self.step("ST", text, one.target.place)])
+        self.flush(
+            [
+                *self.value(condition),
+                self.step("SEL", ", ".join(words), one.place),
+                self.step("ST", text, one.target.place),
+            ]
+        )
         return True
 
     # CASE
@@ -587,7 +701,10 @@ class Body:
             if low > high:
                 raise Refusal(one.place, f"{low}..{high} is no range")
             if type in WHOLE and not WHOLE[type][0] <= low <= high <= WHOLE[type][1]:
-                raise Refusal(one.place, f"{low}..{high} lies outside of {type}" if low != high else f"{low} lies outside of {type}")
+                raise Refusal(
+                    one.place,
+                    f"{low}..{high} lies outside of {type}" if low != high else f"{low} lies outside of {type}",
+                )
             if found and found[-1][1] + 1 == low:
                 found[-1] = (found[-1][0], high)
             else:
@@ -610,7 +727,9 @@ class Body:
                 return self.statements(choice.body)
         return self.statements(node.otherwise.body) if node.otherwise else None
 
-    def choose(self, text: str, labels, left: tuple[int, int], behind: Label, place: Place, is_needed: bool) -> tuple[int, int]:
+    def choose(
+        self, text: str, labels, left: tuple[int, int], behind: Label, place: Place, is_needed: bool
+    ) -> tuple[int, int]:
         """Jumps behind a branch where the selector has none of its labels. Says in which range it then lies."""
         here = self.label("CASE_BODY", place)
         for at, (low, high) in enumerate(labels):
@@ -618,7 +737,15 @@ class Body:
             if low <= left[0] and left[1] <= high and is_last:
                 break
             if low == high:
-                self.compare(text, "EQ", low, here if not is_last else behind, "JMPC" if not is_last else "JMPCN", place, is_needed)
+                self.compare(
+                    text,
+                    "EQ",
+                    low,
+                    here if not is_last else behind,
+                    "JMPC" if not is_last else "JMPCN",
+                    place,
+                    is_needed,
+                )
             elif is_last:
                 self.outside(text, low, high, left, behind, place, is_needed)
             else:
@@ -630,7 +757,9 @@ class Body:
         self.place_label(here)
         return left
 
-    def outside(self, text: str, low: int, high: int, left: tuple[int, int], label: Label, place: Place, is_needed: bool):
+    def outside(
+        self, text: str, low: int, high: int, left: tuple[int, int], label: Label, place: Place, is_needed: bool
+    ):
         """Goes to a label where the selector lies outside of a range."""
         if low > left[0]:
             self.compare(text, "LT", low, label, "JMPC", place, is_needed)
@@ -646,8 +775,17 @@ class Body:
     def for_statement(self, node: For):
         key = node.variable.upper()
         symbol = self.scope.symbols.get(key)
-        if symbol is None or symbol.kind != "variable" or not isinstance(symbol.type, Scalar) or symbol.type.base not in WHOLE or key in self.scope.loops:
-            raise Refusal(place_of(node.variable), f"{node.variable} is no variable of a whole type, declared in VAR, that is free here")
+        if (
+            symbol is None
+            or symbol.kind != "variable"
+            or not isinstance(symbol.type, Scalar)
+            or symbol.type.base not in WHOLE
+            or key in self.scope.loops
+        ):
+            raise Refusal(
+                place_of(node.variable),
+                f"{node.variable} is no variable of a whole type, declared in VAR, that is free here",
+            )
         behind = self.label("END_FOR", node.place)
         outermost = self.loop_start is None
         self.loop_start = node.span[0] if outermost else self.loop_start
@@ -672,7 +810,9 @@ class Body:
             raise Refusal(node.place, f"{len(values)} turns: a unit has {MOST_TURNS} instructions at most")
         low, high = type.range
         if values and not (low <= min(values) and max(values) <= high):
-            raise Refusal(node.place, f"{node.variable} has {low}..{high}, and the loop goes from {values[0]} to {values[-1]}")
+            raise Refusal(
+                node.place, f"{node.variable} has {low}..{high}, and the loop goes from {values[0]} to {values[-1]}"
+            )
         return values
 
     def bound(self, node: Node | None) -> int:
@@ -681,7 +821,10 @@ class Body:
         try:
             return self.scope.bound(node)
         except Refusal as why:
-            raise Refusal(why.place, "the bounds of FOR are known when the text is translated: write constants, and leave the loop early by EXIT") from None
+            raise Refusal(
+                why.place,
+                "the bounds of FOR are known when the text is translated: write constants, and leave the loop early by EXIT",
+            ) from None
 
 
 def loops_of(node):
@@ -693,17 +836,26 @@ def loops_of(node):
 
 def flat(node: Node, operator: str) -> list[Node]:
     """The parts of a chain of one operator."""
-    return [*flat(node.left, operator), *flat(node.right, operator)] if isinstance(node, Binary) and node.operator == operator else [node]
+    return (
+        [*flat(node.left, operator), *flat(node.right, operator)]
+        if isinstance(node, Binary) and node.operator == operator
+        else [node]
+    )
 
 
 def is_plain(node: Node, operator: str) -> bool:
     """Whether an expression is an operand; of a Boolean operation also a negated one."""
-    return isinstance(node, (Literal, Variable)) or (operator in LOGIC and isinstance(node, Unary) and isinstance(node.value, Variable))
+    return isinstance(node, (Literal, Variable)) or (
+        operator in LOGIC and isinstance(node, Unary) and isinstance(node.value, Variable)
+    )
 
 
 def leaves(body: list[Node]) -> bool:
     """Whether some statement of a body leaves it."""
-    return any(isinstance(it, Leave) or isinstance(it, (If, Case, For, Branch, Choice)) and leaves(list(parts(it))) for it in body)
+    return any(
+        isinstance(it, Leave) or isinstance(it, (If, Case, For, Branch, Choice)) and leaves(list(parts(it)))
+        for it in body
+    )
 
 
 def duration(value: int) -> str:

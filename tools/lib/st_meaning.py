@@ -5,7 +5,23 @@ IEC 61131-3 and docs/LANGUAGE.md. Each value is checked against its type, and ea
 """
 from dataclasses import dataclass
 
-from lib.st_tree import WHOLE, Assign, Binary, Call, Case, For, If, Invoke, Leave, Literal, Text, TypeOf, Unary, Unit, Variable
+from lib.st_tree import (
+    WHOLE,
+    Assign,
+    Binary,
+    Call,
+    Case,
+    For,
+    If,
+    Invoke,
+    Leave,
+    Literal,
+    Text,
+    TypeOf,
+    Unary,
+    Unit,
+    Variable,
+)
 
 LONGEST = 2_147_483_647
 SIZES = "CARS", "FLOORS", "SLOTS"
@@ -39,7 +55,16 @@ class Timer:
     """TON, TOF and TP by the equations of docs/LANGUAGE.md."""
 
     def __init__(self, kind):
-        self.kind, self.IN, self.PT, self.Q, self.ET, self.RUN, self.LAST, self.M = kind, False, 0, False, 0, False, 0, False
+        self.kind, self.IN, self.PT, self.Q, self.ET, self.RUN, self.LAST, self.M = (
+            kind,
+            False,
+            0,
+            False,
+            0,
+            False,
+            0,
+            False,
+        )
 
     def run(self, now):
         elapsed = min(self.PT, self.ET + max(0, now - self.LAST))
@@ -94,7 +119,13 @@ class Counter:
             self.CV = self.PV if self.LD else max(-32768, self.CV - down)
             self.Q = self.CV <= 0
         else:
-            self.CV = 0 if self.R else self.PV if self.LD else max(-32768, min(32767, self.CV + (up and not down) - (down and not up)))
+            self.CV = (
+                0
+                if self.R
+                else self.PV
+                if self.LD
+                else max(-32768, min(32767, self.CV + (up and not down) - (down and not up)))
+            )
             self.QU, self.QD = self.CV >= self.PV, self.CV <= 0
         self.up, self.down = self.CU, self.CD
 
@@ -117,9 +148,42 @@ class Latch:
             self.Q, self.M = not self.CLK and not self.M, not self.CLK
 
 
-STANDARD = {"SR": Latch, "RS": Latch, "R_TRIG": Latch, "F_TRIG": Latch, "CTU": Counter, "CTD": Counter, "CTUD": Counter, "TON": Timer, "TOF": Timer, "TP": Timer}
-INPUTS = {"SR": "S1 R", "RS": "S R1", "R_TRIG": "CLK", "F_TRIG": "CLK", "CTU": "CU R PV", "CTD": "CD LD PV", "CTUD": "CU CD R LD PV", "TON": "IN PT", "TOF": "IN PT", "TP": "IN PT"}
-OUTPUTS = {"SR": "Q1", "RS": "Q1", "R_TRIG": "Q", "F_TRIG": "Q", "CTU": "Q CV", "CTD": "Q CV", "CTUD": "QU QD CV", "TON": "Q ET", "TOF": "Q ET", "TP": "Q ET"}
+STANDARD = {
+    "SR": Latch,
+    "RS": Latch,
+    "R_TRIG": Latch,
+    "F_TRIG": Latch,
+    "CTU": Counter,
+    "CTD": Counter,
+    "CTUD": Counter,
+    "TON": Timer,
+    "TOF": Timer,
+    "TP": Timer,
+}
+INPUTS = {
+    "SR": "S1 R",
+    "RS": "S R1",
+    "R_TRIG": "CLK",
+    "F_TRIG": "CLK",
+    "CTU": "CU R PV",
+    "CTD": "CD LD PV",
+    "CTUD": "CU CD R LD PV",
+    "TON": "IN PT",
+    "TOF": "IN PT",
+    "TP": "IN PT",
+}
+OUTPUTS = {
+    "SR": "Q1",
+    "RS": "Q1",
+    "R_TRIG": "Q",
+    "F_TRIG": "Q",
+    "CTU": "Q CV",
+    "CTD": "Q CV",
+    "CTUD": "QU QD CV",
+    "TON": "Q ET",
+    "TOF": "Q ET",
+    "TP": "Q ET",
+}
 
 
 class Frame:
@@ -150,7 +214,9 @@ class Machine:
         self.shared: dict[str, object] = {}
         self.shared_kinds = self.kinds_of([it for it in lists if not it.is_constant])
         self.shared = {name: self.opening(kind) for name, kind in self.shared_kinds.items()}
-        self.tasks = {it.task.upper(): self.frame_of(it.unit.upper()) for of in self.text.configurations for it in of.lines}
+        self.tasks = {
+            it.task.upper(): self.frame_of(it.unit.upper()) for of in self.text.configurations for it in of.lines
+        }
 
     # Types
 
@@ -158,13 +224,19 @@ class Machine:
         for it in of.declarations:
             kind = self.kind(it.type)
             for token in it.names:
-                into[token.upper()] = (self.stored(kind, self.value(it.initial)[0]) if it.initial is not None else kind.first, kind.name)
+                into[token.upper()] = (
+                    self.stored(kind, self.value(it.initial)[0]) if it.initial is not None else kind.first,
+                    kind.name,
+                )
 
     def enumeration(self, it):
         following = 0
         for token, written in it.type.values:
             following = self.value(written)[0] if written is not None else following
-            self.constants[token.upper()] = self.constants[f"{it.names[0].upper()}#{token.upper()}"] = (following, "INT")
+            self.constants[token.upper()] = self.constants[f"{it.names[0].upper()}#{token.upper()}"] = (
+                following,
+                "INT",
+            )
             following += 1
 
     def kind(self, written: TypeOf) -> Kind:
@@ -323,7 +395,13 @@ class Machine:
 
     def own_function(self, key, node: Call):
         frame = self.frame_of(key)
-        inputs = [token.upper() for of in frame.unit.lists if of.kind == "VAR_INPUT" for it in of.declarations for token in it.names]
+        inputs = [
+            token.upper()
+            for of in frame.unit.lists
+            if of.kind == "VAR_INPUT"
+            for it in of.declarations
+            for token in it.names
+        ]
         for position, it in enumerate(node.arguments):
             name = it.name.upper() if it.name else inputs[position]
             frame.values[name] = self.stored(frame.kinds[name], self.value(it.value)[0])
@@ -334,7 +412,17 @@ class Machine:
         instance = self.frame.values[node.name.upper()]
         kind = self.frame.kinds[node.name.upper()].name
         own = isinstance(instance, Frame)
-        inputs = [token.upper() for of in instance.unit.lists if of.kind == "VAR_INPUT" for it in of.declarations for token in it.names] if own else INPUTS[kind].split()
+        inputs = (
+            [
+                token.upper()
+                for of in instance.unit.lists
+                if of.kind == "VAR_INPUT"
+                for it in of.declarations
+                for token in it.names
+            ]
+            if own
+            else INPUTS[kind].split()
+        )
         for position, it in enumerate(node.arguments):
             if not it.is_output:
                 name = it.name.upper() if it.name else inputs[position]
@@ -445,7 +533,9 @@ def named(path: str, frame: Frame, without=()):
             yield from named(f"{path}.{name}", value)
         elif isinstance(value, (Timer, Counter, Latch)):
             kind = frame.kinds[name].name
-            yield from ((f"{path}.{name}.{it}", getattr(value, it)) for it in (INPUTS[kind] + " " + OUTPUTS[kind]).split())
+            yield from (
+                (f"{path}.{name}.{it}", getattr(value, it)) for it in (INPUTS[kind] + " " + OUTPUTS[kind]).split()
+            )
         else:
             yield f"{path}.{name}", value
 
@@ -458,4 +548,8 @@ def loops_in(body):
         elif isinstance(it, If):
             yield from (loop for branch in it.branches for loop in loops_in(branch.body))
         elif isinstance(it, Case):
-            yield from (loop for choice in [*it.choices, *([it.otherwise] if it.otherwise else [])] for loop in loops_in(choice.body))
+            yield from (
+                loop
+                for choice in [*it.choices, *([it.otherwise] if it.otherwise else [])]
+                for loop in loops_in(choice.body)
+            )

@@ -2,7 +2,25 @@
 import dataclasses
 from dataclasses import dataclass, field
 
-from lib.st_tree import LEFT_OUT, LONGEST_DURATION, WHOLE, Argument, Binary, Call, Literal, Node, Place, Refusal, Text, TypeOf, Unary, Unit, Variable, VarList, place_of
+from lib.st_tree import (
+    LEFT_OUT,
+    LONGEST_DURATION,
+    WHOLE,
+    Argument,
+    Binary,
+    Call,
+    Literal,
+    Node,
+    Place,
+    Refusal,
+    Text,
+    TypeOf,
+    Unary,
+    Unit,
+    Variable,
+    VarList,
+    place_of,
+)
 
 RESERVED = set(
     "LD LDN ST STN S R AND ANDN OR ORN XOR XORN NOT ADD SUB MUL DIV MOD GT GE EQ NE LE LT JMP JMPC JMPCN CAL CALC CALCN RET RETC RETCN BOOL SINT INT DINT USINT UINT UDINT TIME ARRAY OF"
@@ -11,13 +29,55 @@ RESERVED = set(
 )
 SIZES = "CARS", "FLOORS", "SLOTS"
 COMPARISONS = {"=": "<>", "<>": "=", "<": ">=", ">=": "<", ">": "<=", "<=": ">"}  # each with what its negation is
-MIRRORED = {"=": "=", "<>": "<>", "<": ">", ">": "<", "<=": ">=", ">=": "<=", "+": "+", "*": "*", "AND": "AND", "OR": "OR", "XOR": "XOR"}
-INSTEAD = {  # standard functions that the profile leaves out
-    "MUX": "write CASE", "MOVE": "write `:=`", "SQRT": "write a table, as an array", "EXPT": "write products", "SHL": "write a product", "SHR": "write a quotient",
-    "ROL": "write products and MOD", "ROR": "write products and MOD", "TRUNC": "REAL is left out too", "LEN": "STRING is left out too", "CONCAT": "STRING is left out too",
-} | {name: "REAL is left out too: write a table, as an array" for name in "LN LOG EXP SIN COS TAN ASIN ACOS ATAN".split()} | {
-    name: f"write `{sign}`" for name, sign in {"ADD": "+", "SUB": "-", "MUL": "*", "DIV": "/", "GT": ">", "GE": ">=", "EQ": "=", "NE": "<>", "LE": "<=", "LT": "<", "ADD_TIME": "+", "SUB_TIME": "-"}.items()
+MIRRORED = {
+    "=": "=",
+    "<>": "<>",
+    "<": ">",
+    ">": "<",
+    "<=": ">=",
+    ">=": "<=",
+    "+": "+",
+    "*": "*",
+    "AND": "AND",
+    "OR": "OR",
+    "XOR": "XOR",
 }
+INSTEAD = (
+    {  # standard functions that the profile leaves out
+        "MUX": "write CASE",
+        "MOVE": "write `:=`",
+        "SQRT": "write a table, as an array",
+        "EXPT": "write products",
+        "SHL": "write a product",
+        "SHR": "write a quotient",
+        "ROL": "write products and MOD",
+        "ROR": "write products and MOD",
+        "TRUNC": "REAL is left out too",
+        "LEN": "STRING is left out too",
+        "CONCAT": "STRING is left out too",
+    }
+    | {
+        name: "REAL is left out too: write a table, as an array"
+        for name in "LN LOG EXP SIN COS TAN ASIN ACOS ATAN".split()
+    }
+    | {
+        name: f"write `{sign}`"
+        for name, sign in {
+            "ADD": "+",
+            "SUB": "-",
+            "MUL": "*",
+            "DIV": "/",
+            "GT": ">",
+            "GE": ">=",
+            "EQ": "=",
+            "NE": "<>",
+            "LE": "<=",
+            "LT": "<",
+            "ADD_TIME": "+",
+            "SUB_TIME": "-",
+        }.items()
+    }
+)
 
 
 @dataclass(frozen=True)
@@ -66,15 +126,26 @@ class Interface:
 
 def standard(inputs: str, outputs: str) -> Interface:
     types = {"PV": INT, "CV": INT, "PT": TIME, "ET": TIME}
-    return Interface({it: types.get(it, BOOL) for it in inputs.split()}, {it: types.get(it, BOOL) for it in outputs.split()})
+    return Interface(
+        {it: types.get(it, BOOL) for it in inputs.split()}, {it: types.get(it, BOOL) for it in outputs.split()}
+    )
 
 
 BLOCKS = {
-    "SR": standard("S1 R", "Q1"), "RS": standard("S R1", "Q1"), "R_TRIG": standard("CLK", "Q"), "F_TRIG": standard("CLK", "Q"),
-    "CTU": standard("CU R PV", "Q CV"), "CTD": standard("CD LD PV", "Q CV"), "CTUD": standard("CU CD R LD PV", "QU QD CV"),
-    "TP": standard("IN PT", "Q ET"), "TON": standard("IN PT", "Q ET"), "TOF": standard("IN PT", "Q ET"),
+    "SR": standard("S1 R", "Q1"),
+    "RS": standard("S R1", "Q1"),
+    "R_TRIG": standard("CLK", "Q"),
+    "F_TRIG": standard("CLK", "Q"),
+    "CTU": standard("CU R PV", "Q CV"),
+    "CTD": standard("CD LD PV", "Q CV"),
+    "CTUD": standard("CU CD R LD PV", "QU QD CV"),
+    "TP": standard("IN PT", "Q ET"),
+    "TON": standard("IN PT", "Q ET"),
+    "TOF": standard("IN PT", "Q ET"),
 }
-FUNCTIONS = {"ABS": 1, "MIN": None, "MAX": None, "LIMIT": 3, "SEL": 3} | {f"{one}_TO_{other}": 1 for one in WHOLE for other in WHOLE if one != other}
+FUNCTIONS = {"ABS": 1, "MIN": None, "MAX": None, "LIMIT": 3, "SEL": 3} | {
+    f"{one}_TO_{other}": 1 for one in WHOLE for other in WHOLE if one != other
+}
 FORMAL = {"LIMIT": ["MN", "IN", "MX"], "SEL": ["G", "IN0", "IN1"], "ABS": ["IN"]}
 OUTPUTS = {"MOTOR", "OPEN", "SERVE", "ASSIGN"}
 
@@ -83,9 +154,25 @@ def image(cars: int, floors: int, slots: int) -> dict[str, Scalar | Array]:
     """The image names with their types, but for the sizes, which are constants."""
     floor, any_floor, car = Scalar("INT", 1, floors), Scalar("INT", 0, floors), Scalar("INT", 0, cars)
     return {
-        "NOW": TIME, "RUNLIMIT": car, "FIRE": BOOL, "CARNO": Scalar("INT", 1, cars), "POS": floor, "LEVEL": BOOL, "TOP": BOOL, "BOTTOM": BOOL, "LOCKED": BOOL, "OPENED": BOOL,
-        "CPOS": Array(1, cars, floor), "CMOTOR": Array(1, cars, Scalar("INT", -1, 1)), "CALLWAITS": Array(1, slots, BOOL), "CALLFROM": Array(1, slots, any_floor),
-        "CALLTO": Array(1, slots, any_floor), "CALLCAR": Array(1, slots, car), "MOTOR": Scalar("INT", -1, 1), "OPEN": BOOL, "SERVE": Scalar("INT", 0, slots),
+        "NOW": TIME,
+        "RUNLIMIT": car,
+        "FIRE": BOOL,
+        "CARNO": Scalar("INT", 1, cars),
+        "POS": floor,
+        "LEVEL": BOOL,
+        "TOP": BOOL,
+        "BOTTOM": BOOL,
+        "LOCKED": BOOL,
+        "OPENED": BOOL,
+        "CPOS": Array(1, cars, floor),
+        "CMOTOR": Array(1, cars, Scalar("INT", -1, 1)),
+        "CALLWAITS": Array(1, slots, BOOL),
+        "CALLFROM": Array(1, slots, any_floor),
+        "CALLTO": Array(1, slots, any_floor),
+        "CALLCAR": Array(1, slots, car),
+        "MOTOR": Scalar("INT", -1, 1),
+        "OPEN": BOOL,
+        "SERVE": Scalar("INT", 0, slots),
         "ASSIGN": Array(1, slots, car),
     }
 
@@ -131,12 +218,17 @@ class Names:
         if token.upper() in RESERVED | PREDECLARED:
             raise Refusal(place_of(token), f"{token} is a word of the language: write another name")
         if len(token) > 32 or "__" in token or token.endswith("_"):
-            raise Refusal(place_of(token), f"{token} is no name: it has letters, digits and single underscores, at most 32 of them")
+            raise Refusal(
+                place_of(token),
+                f"{token} is no name: it has letters, digits and single underscores, at most 32 of them",
+            )
         return token.upper()
 
     def check_free(self, key: str, token):
         if key in self.constants or key in self.types:
-            raise Refusal(place_of(token), f"{token} is declared already, as a type, a constant or a value of an enumeration")
+            raise Refusal(
+                place_of(token), f"{token} is declared already, as a type, a constant or a value of an enumeration"
+            )
 
     def take_constants(self, lists: list[VarList]):
         for of in lists:
@@ -182,7 +274,16 @@ class Names:
         key = self.named(unit.name)
         scope = Scope(self)
         scope.take_constants(unit.lists)
-        of = {kind: {token.upper(): scope.type_of(it.type)[0] for lists in unit.lists if lists.kind == kind for it in lists.declarations for token in it.names} for kind in ("VAR_INPUT", "VAR_OUTPUT")}
+        of = {
+            kind: {
+                token.upper(): scope.type_of(it.type)[0]
+                for lists in unit.lists
+                if lists.kind == kind
+                for it in lists.declarations
+                for token in it.names
+            }
+            for kind in ("VAR_INPUT", "VAR_OUTPUT")
+        }
         made = Interface(of["VAR_INPUT"], of["VAR_OUTPUT"], scope.type_of(unit.result)[0] if unit.result else None)
         if unit.kind == "FUNCTION_BLOCK":
             self.blocks[key] = made
@@ -218,12 +319,19 @@ class Scope:
             raise Refusal(declaration.place, f"{token} is no scalar: constants are")
         if declaration.initial is not None:
             return self.initial_of(declaration.initial, type)
-        return initial or Literal(declaration.place, declaration.span, type.base != "BOOL" and type.range[0] if type.low is not None else 0 if type.base != "BOOL" else False, type.base)
+        return initial or Literal(
+            declaration.place,
+            declaration.span,
+            type.base != "BOOL" and type.range[0] if type.low is not None else 0 if type.base != "BOOL" else False,
+            type.base,
+        )
 
     def type_of(self, written: TypeOf) -> tuple[Scalar | Array | Instance, Literal | None]:
         """A type, and the value at which it starts if that is its own."""
         if written.values:
-            raise Refusal(written.place, "an enumeration without a name: write it between TYPE and END_TYPE, and its name here")
+            raise Refusal(
+                written.place, "an enumeration without a name: write it between TYPE and END_TYPE, and its name here"
+            )
         if written.element is not None:
             return self.array_of(written), None
         key = written.name.upper()
@@ -249,9 +357,15 @@ class Scope:
         low, high = (self.bound(it) for it in written.bounds[0])
         element, initial = self.type_of(written.element)
         if not isinstance(element, Scalar):
-            raise Refusal(written.element.place, "arrays of arrays and of instances are left out: write one array or instance for each")
+            raise Refusal(
+                written.element.place,
+                "arrays of arrays and of instances are left out: write one array or instance for each",
+            )
         if initial is not None:
-            raise Refusal(written.element.place, f"elements that start at {initial.value} are left out: store them in the first scan")
+            raise Refusal(
+                written.element.place,
+                f"elements that start at {initial.value} are left out: store them in the first scan",
+            )
         if low > high or high - low > 255:
             raise Refusal(written.place, f"an array has 1 to 256 elements, and {low}..{high} are {high - low + 1}")
         return Array(low, high, element)
@@ -264,7 +378,9 @@ class Scope:
 
     def initial_of(self, node: Node, type) -> Literal:
         if not isinstance(type, Scalar):
-            raise Refusal(node.place, "initial values of arrays and instances are left out: store them in the first scan")
+            raise Refusal(
+                node.place, "initial values of arrays and instances are left out: store them in the first scan"
+            )
         made = self.wanted(node, type.base)
         if not isinstance(made, Literal):
             raise Refusal(node.place, "an initial value is known when the text is translated")
@@ -273,7 +389,13 @@ class Scope:
         return made
 
     def symbols_of(self, of: VarList):
-        kind = {"VAR": "variable", "VAR_INPUT": "input", "VAR_OUTPUT": "output", "VAR_EXTERNAL": "external", "VAR_GLOBAL": "global"}[of.kind]
+        kind = {
+            "VAR": "variable",
+            "VAR_INPUT": "input",
+            "VAR_OUTPUT": "output",
+            "VAR_EXTERNAL": "external",
+            "VAR_GLOBAL": "global",
+        }[of.kind]
         for declaration in of.declarations:
             type, initial = self.type_of(declaration.type)
             if declaration.initial is not None:
@@ -298,7 +420,10 @@ class Scope:
         if unit.result is not None:
             type, initial = self.type_of(unit.result)
             if initial is not None or not isinstance(type, Scalar):
-                raise Refusal(unit.result.place, "a function gives a scalar that starts at its least value or at 0: write its type and range here")
+                raise Refusal(
+                    unit.result.place,
+                    "a function gives a scalar that starts at its least value or at 0: write its type and range here",
+                )
             self.symbols[unit.name.upper()] = Symbol(str(unit.name), "result", type, None, place_of(unit.name))
         if unit.kind == "PROGRAM":
             for name, type in self.names.image.items():
@@ -339,7 +464,11 @@ class Scope:
 
     def as_type(self, literal: Literal, type: str) -> Literal:
         if type not in WHOLE:
-            raise Refusal(literal.place, f"{literal.value} is a number, and {type} is wanted" + (": write TRUE or FALSE" if type == "BOOL" else ": write such as T#1s"))
+            raise Refusal(
+                literal.place,
+                f"{literal.value} is a number, and {type} is wanted"
+                + (": write TRUE or FALSE" if type == "BOOL" else ": write such as T#1s"),
+            )
         if not WHOLE[type][0] <= literal.value <= WHOLE[type][1]:
             raise Refusal(literal.place, f"{literal.value} lies outside of {type}")
         return dataclasses.replace(literal, type=type)
@@ -364,7 +493,9 @@ class Scope:
 
     def typed_variable(self, node: Variable) -> Node:
         key = node.name.upper()
-        value = self.loops.get(key) or (None if key in self.symbols else self.constants.get(key) or self.names.constants.get(key))
+        value = self.loops.get(key) or (
+            None if key in self.symbols else self.constants.get(key) or self.names.constants.get(key)
+        )
         if value is not None and node.index is None and node.member is None:
             return dataclasses.replace(value, place=node.place, span=node.span)
         symbol = self.symbol(node)
@@ -372,10 +503,18 @@ class Scope:
             return dataclasses.replace(node, type=self.member_type(node, symbol).base)
         if isinstance(symbol.type, Array):
             if node.index is None:
-                raise Refusal(node.place, f"{node.name} is an array: write one element of it, such as {node.name}[{symbol.type.low}]")
+                raise Refusal(
+                    node.place,
+                    f"{node.name} is an array: write one element of it, such as {node.name}[{symbol.type.low}]",
+                )
             return dataclasses.replace(node, index=self.index(node, symbol.type), type=symbol.type.element.base)
         if node.index is not None or isinstance(symbol.type, Instance):
-            raise Refusal(node.place, f"{node.name} is no array" if node.index is not None else f"{node.name} is an instance: write one of its outputs, such as {node.name}.Q")
+            raise Refusal(
+                node.place,
+                f"{node.name} is no array"
+                if node.index is not None
+                else f"{node.name} is an instance: write one of its outputs, such as {node.name}.Q",
+            )
         return dataclasses.replace(node, type=symbol.type.base)
 
     def index(self, node: Variable, type: Array) -> Node:
@@ -383,7 +522,10 @@ class Scope:
         if index.type is not None and index.type not in WHOLE:
             raise Refusal(node.index.place, f"an index is a number, and this is {index.type}")
         if isinstance(index, Literal) and not type.low <= index.value <= type.high:
-            raise Refusal(node.index.place, f"the index {index.value} lies outside of {node.name}, which has {type.low}..{type.high}")
+            raise Refusal(
+                node.index.place,
+                f"the index {index.value} lies outside of {node.name}, which has {type.low}..{type.high}",
+            )
         return index
 
     def member_type(self, node: Variable, symbol: Symbol, is_target: bool = False) -> Scalar:
@@ -394,7 +536,10 @@ class Scope:
         found = members.get(node.member.upper())
         if found is None:
             what = "input" if is_target else "output"
-            raise Refusal(node.place, f"{node.member} is no {what} of {symbol.type.block}, which has {', '.join(members) or 'none'}")
+            raise Refusal(
+                node.place,
+                f"{node.member} is no {what} of {symbol.type.block}, which has {', '.join(members) or 'none'}",
+            )
         return found
 
     def typed_unary(self, node: Unary, hint: str | None) -> Node:
@@ -404,7 +549,11 @@ class Scope:
         if value.type == "BOOL" or value.type == "TIME":
             raise Refusal(node.place, f"`-` takes a number, and this is {value.type}")
         zero = Literal(node.place, node.span, 0, value.type)
-        return self.folded("-", zero, value, node) if isinstance(value, Literal) else Binary(node.place, node.span, "-", zero, value, value.type)
+        return (
+            self.folded("-", zero, value, node)
+            if isinstance(value, Literal)
+            else Binary(node.place, node.span, "-", zero, value, value.type)
+        )
 
     def negated(self, value: Node, node: Node) -> Node:
         if isinstance(value, Literal):
@@ -443,7 +592,11 @@ class Scope:
         elif operator in ("=", "<>"):
             return
         elif type == "BOOL" or (type == "TIME" and operator in ("*", "/", "MOD")):
-            raise Refusal(node.place, f"`{operator}` of {type} is left out" + (": write sums, or count in whole numbers" if type == "TIME" else ": it takes numbers"))
+            raise Refusal(
+                node.place,
+                f"`{operator}` of {type} is left out"
+                + (": write sums, or count in whole numbers" if type == "TIME" else ": it takes numbers"),
+            )
 
     @staticmethod
     def folded(operator: str, left: Literal, right: Literal, node: Node) -> Literal:
@@ -452,11 +605,23 @@ class Scope:
             raise Refusal(node.place, "a division by 0")
         quotient = (abs(a) // abs(b)) * (1 if (a < 0) == (b < 0) else -1) if operator in ("/", "MOD") else 0
         value = {
-            "+": lambda: a + b, "-": lambda: a - b, "*": lambda: a * b, "/": lambda: quotient, "MOD": lambda: a - quotient * b, "AND": lambda: a and b, "OR": lambda: a or b,
-            "XOR": lambda: a != b, "=": lambda: a == b, "<>": lambda: a != b, "<": lambda: a < b, ">": lambda: a > b, "<=": lambda: a <= b, ">=": lambda: a >= b,
+            "+": lambda: a + b,
+            "-": lambda: a - b,
+            "*": lambda: a * b,
+            "/": lambda: quotient,
+            "MOD": lambda: a - quotient * b,
+            "AND": lambda: a and b,
+            "OR": lambda: a or b,
+            "XOR": lambda: a != b,
+            "=": lambda: a == b,
+            "<>": lambda: a != b,
+            "<": lambda: a < b,
+            ">": lambda: a > b,
+            "<=": lambda: a <= b,
+            ">=": lambda: a >= b,
         }[operator]()
         type = "BOOL" if operator in COMPARISONS else left.type
-        low, high = WHOLE.get(type, (0, LONGEST_DURATION) if type == "TIME" else (-2**31, 2**32 - 1))
+        low, high = WHOLE.get(type, (0, LONGEST_DURATION) if type == "TIME" else (-(2**31), 2**32 - 1))
         if not low <= value <= high:
             raise Refusal(node.place, f"{value} lies outside of {type or 'all types'}")
         return Literal(node.place, node.span, value, type)
@@ -512,7 +677,10 @@ class Scope:
         if named:
             return [it.value for it in node.arguments]
         if len(node.arguments) != count if count else len(node.arguments) < 2:
-            raise Refusal(node.place, f"{node.name} takes {count or 'two or more'} arguments, and {len(node.arguments)} stand here")
+            raise Refusal(
+                node.place,
+                f"{node.name} takes {count or 'two or more'} arguments, and {len(node.arguments)} stand here",
+            )
         return [it.value for it in node.arguments]
 
     def alike(self, values: list[Node], node: Call, hint: str | None) -> list[Node]:
@@ -540,4 +708,8 @@ class Scope:
 
     def own_call(self, node: Call, interface: Interface) -> Node:
         given = self.in_order(node, list(interface.inputs), len(interface.inputs))
-        return self.made_call(node, [self.wanted(it, type.base) for it, type in zip(given, interface.inputs.values())], interface.result.base)
+        return self.made_call(
+            node,
+            [self.wanted(it, type.base) for it, type in zip(given, interface.inputs.values())],
+            interface.result.base,
+        )

@@ -49,12 +49,36 @@ class Called:
 
 
 BLOCKS = [
-    Called("TON", [Place("IN", "BOOL", 0, 0), Place("PT", "TIME", *TIME)], [Place("Q", "BOOL", 0, 0), Place("ET", "TIME", *TIME)]),
-    Called("TOF", [Place("IN", "BOOL", 0, 0), Place("PT", "TIME", *TIME)], [Place("Q", "BOOL", 0, 0), Place("ET", "TIME", *TIME)]),
-    Called("TP", [Place("IN", "BOOL", 0, 0), Place("PT", "TIME", *TIME)], [Place("Q", "BOOL", 0, 0), Place("ET", "TIME", *TIME)]),
-    Called("CTU", [Place("CU", "BOOL", 0, 0), Place("R", "BOOL", 0, 0), Place("PV", "INT", *WHOLE["INT"])], [Place("Q", "BOOL", 0, 0), Place("CV", "INT", *WHOLE["INT"])]),
-    Called("CTD", [Place("CD", "BOOL", 0, 0), Place("LD", "BOOL", 0, 0), Place("PV", "INT", *WHOLE["INT"])], [Place("Q", "BOOL", 0, 0), Place("CV", "INT", *WHOLE["INT"])]),
-    Called("CTUD", [Place(it, "BOOL", 0, 0) for it in ("CU", "CD", "R", "LD")] + [Place("PV", "INT", *WHOLE["INT"])], [Place("QU", "BOOL", 0, 0), Place("QD", "BOOL", 0, 0), Place("CV", "INT", *WHOLE["INT"])]),
+    Called(
+        "TON",
+        [Place("IN", "BOOL", 0, 0), Place("PT", "TIME", *TIME)],
+        [Place("Q", "BOOL", 0, 0), Place("ET", "TIME", *TIME)],
+    ),
+    Called(
+        "TOF",
+        [Place("IN", "BOOL", 0, 0), Place("PT", "TIME", *TIME)],
+        [Place("Q", "BOOL", 0, 0), Place("ET", "TIME", *TIME)],
+    ),
+    Called(
+        "TP",
+        [Place("IN", "BOOL", 0, 0), Place("PT", "TIME", *TIME)],
+        [Place("Q", "BOOL", 0, 0), Place("ET", "TIME", *TIME)],
+    ),
+    Called(
+        "CTU",
+        [Place("CU", "BOOL", 0, 0), Place("R", "BOOL", 0, 0), Place("PV", "INT", *WHOLE["INT"])],
+        [Place("Q", "BOOL", 0, 0), Place("CV", "INT", *WHOLE["INT"])],
+    ),
+    Called(
+        "CTD",
+        [Place("CD", "BOOL", 0, 0), Place("LD", "BOOL", 0, 0), Place("PV", "INT", *WHOLE["INT"])],
+        [Place("Q", "BOOL", 0, 0), Place("CV", "INT", *WHOLE["INT"])],
+    ),
+    Called(
+        "CTUD",
+        [Place(it, "BOOL", 0, 0) for it in ("CU", "CD", "R", "LD")] + [Place("PV", "INT", *WHOLE["INT"])],
+        [Place("QU", "BOOL", 0, 0), Place("QD", "BOOL", 0, 0), Place("CV", "INT", *WHOLE["INT"])],
+    ),
     Called("SR", [Place("S1", "BOOL", 0, 0), Place("R", "BOOL", 0, 0)], [Place("Q1", "BOOL", 0, 0)]),
     Called("RS", [Place("S", "BOOL", 0, 0), Place("R1", "BOOL", 0, 0)], [Place("Q1", "BOOL", 0, 0)]),
     Called("R_TRIG", [Place("CLK", "BOOL", 0, 0)], [Place("Q", "BOOL", 0, 0)]),
@@ -90,7 +114,15 @@ class Unit:
 
     def literal(self, type: str, value: int, is_bare: bool = False) -> str:
         if type == "TIME":
-            return self.rnd.choice([f"T#{value}ms", f"TIME#{value}ms", f"t#{value // 1000}s{value % 1000}ms", f"T#{value // 1000}s_{value % 1000}ms", f"T#{value // 1000}.{value % 1000:03}s"])
+            return self.rnd.choice(
+                [
+                    f"T#{value}ms",
+                    f"TIME#{value}ms",
+                    f"t#{value // 1000}s{value % 1000}ms",
+                    f"T#{value // 1000}s_{value % 1000}ms",
+                    f"T#{value // 1000}.{value % 1000:03}s",
+                ]
+            )
         if type == "INT" or is_bare:
             return f"16#{value:X}" if value > 9 and self.chance(0.1) else str(value)
         return f"{type}#{value}"
@@ -123,7 +155,11 @@ class Unit:
 
     def index(self, array: Place) -> str:
         low, high = array.bounds
-        fitting = [it.name for it in self.places if it.bounds is None and it.type in WHOLE and low <= self.range_of(it)[0] and self.range_of(it)[1] <= high]
+        fitting = [
+            it.name
+            for it in self.places
+            if it.bounds is None and it.type in WHOLE and low <= self.range_of(it)[0] and self.range_of(it)[1] <= high
+        ]
         pick = self.rnd.random()
         if pick < 0.35 and fitting:
             return self.rnd.choice(fitting)
@@ -150,7 +186,11 @@ class Unit:
         if self.chance(0.3) and type in WHOLE:
             value = self.near(type)
             right = Made(self.literal(type, value, True), PRIMARY if value >= 0 else UNARY, value, value)
-        low, high = (left.low + right.low, left.high + right.high) if sign == "+" else (left.low - right.high, left.high - right.low)
+        low, high = (
+            (left.low + right.low, left.high + right.high)
+            if sign == "+"
+            else (left.low - right.high, left.high - right.low)
+        )
         return self.taken(type, f"{left.inside(SUM, self.rnd)} {sign} {right.inside(TERM, self.rnd)}", SUM, low, high)
 
     def taken(self, type: str, text: str, binds: int, low: int, high: int) -> Made | None:
@@ -160,7 +200,9 @@ class Unit:
     def product(self, type: str, depth: int) -> Made | None:
         left, right = self.number(type, depth - 1), self.number(type, depth - 1)
         ends = [a * b for a in (left.low, left.high) for b in (right.low, right.high)]
-        return self.taken(type, f"{left.inside(TERM, self.rnd)} * {right.inside(UNARY, self.rnd)}", TERM, min(ends), max(ends))
+        return self.taken(
+            type, f"{left.inside(TERM, self.rnd)} * {right.inside(UNARY, self.rnd)}", TERM, min(ends), max(ends)
+        )
 
     def quotient(self, type: str, depth: int) -> Made | None:
         left, right = self.number(type, depth - 1), self.number(type, depth - 1)
@@ -168,17 +210,41 @@ class Unit:
             value = self.near(type, 1)
             right = Made(self.literal(type, value, True), PRIMARY, value, value)
         if self.chance(0.5):
-            ends = [int(abs(a) // abs(b)) * (1 if (a < 0) == (b < 0) else -1) for a in (left.low, left.high) for b in (right.low, right.high)]
-            return self.taken(type, f"{left.inside(TERM, self.rnd)} / {right.inside(UNARY, self.rnd)}", TERM, min(ends + [0] * (left.low < 0 < left.high)), max(ends))
+            ends = [
+                int(abs(a) // abs(b)) * (1 if (a < 0) == (b < 0) else -1)
+                for a in (left.low, left.high)
+                for b in (right.low, right.high)
+            ]
+            return self.taken(
+                type,
+                f"{left.inside(TERM, self.rnd)} / {right.inside(UNARY, self.rnd)}",
+                TERM,
+                min(ends + [0] * (left.low < 0 < left.high)),
+                max(ends),
+            )
         most = max(abs(right.low), abs(right.high)) - 1
-        low, high = (0, min(left.high, most)) if left.low >= 0 else (max(left.low, -most), 0) if left.high <= 0 else (max(left.low, -most), min(left.high, most))
+        low, high = (
+            (0, min(left.high, most))
+            if left.low >= 0
+            else (max(left.low, -most), 0)
+            if left.high <= 0
+            else (max(left.low, -most), min(left.high, most))
+        )
         return self.taken(type, f"{left.inside(TERM, self.rnd)} MOD {right.inside(UNARY, self.rnd)}", TERM, low, high)
 
     def size(self, type: str, depth: int) -> Made | None:
         it = self.number(type, depth - 1)
-        low, high = (it.low, it.high) if it.low >= 0 else (-it.high, -it.low) if it.high <= 0 else (0, max(-it.low, it.high))
+        low, high = (
+            (it.low, it.high) if it.low >= 0 else (-it.high, -it.low) if it.high <= 0 else (0, max(-it.low, it.high))
+        )
         if self.chance(0.3):
-            return self.taken(type, f"-{it.inside(PRIMARY, self.rnd) if not it.text.startswith('-') else f'({it.text})'}", UNARY, -it.high, -it.low)
+            return self.taken(
+                type,
+                f"-{it.inside(PRIMARY, self.rnd) if not it.text.startswith('-') else f'({it.text})'}",
+                UNARY,
+                -it.high,
+                -it.low,
+            )
         return self.taken(type, f"ABS({it.text})", PRIMARY, low, high)
 
     def choice(self, type: str, depth: int) -> Made:
@@ -196,7 +262,12 @@ class Unit:
             return Made(f"LIMIT({', '.join(it.text for it in values)})", PRIMARY, *ends)
         name = self.rnd.choice(["MIN", "MAX"])
         pick = min if name == "MIN" else max
-        return Made(f"{name}({', '.join(it.text for it in values)})", PRIMARY, pick(it.low for it in values), pick(it.high for it in values))
+        return Made(
+            f"{name}({', '.join(it.text for it in values)})",
+            PRIMARY,
+            pick(it.low for it in values),
+            pick(it.high for it in values),
+        )
 
     def converted(self, type: str, depth: int) -> Made | None:
         other = self.rnd.choice([it for it in WHOLE if it != type])
@@ -229,7 +300,11 @@ class Unit:
 
     def of_type(self, place: Place, depth: int) -> Made:
         """An expression that may be stored into a place."""
-        return self.truth(depth) if place.type == "BOOL" else self.fitted(place.type, self.number(place.type, depth), place.low, place.high)
+        return (
+            self.truth(depth)
+            if place.type == "BOOL"
+            else self.fitted(place.type, self.number(place.type, depth), place.low, place.high)
+        )
 
     # Booleans
 
@@ -244,16 +319,27 @@ class Unit:
             return Made(f"NOT {it.inside(UNARY, self.rnd)}", UNARY)
         if pick < 0.56:
             left, right = self.truth(depth - 1), self.truth(depth - 1)
-            return Made(f"{left.inside(EQUAL, self.rnd)} {self.rnd.choice(['=', '<>'])} {right.inside(ORDER, self.rnd)}", EQUAL)
+            return Made(
+                f"{left.inside(EQUAL, self.rnd)} {self.rnd.choice(['=', '<>'])} {right.inside(ORDER, self.rnd)}", EQUAL
+            )
         if pick < 0.62:
-            return Made(f"SEL({self.truth(depth - 1).text}, {self.truth(depth - 1).text}, {self.truth(depth - 1).text})", PRIMARY)
-        operator, binds = self.rnd.choice([("AND", AND), ("&", AND), ("AND", AND), ("OR", OR), ("OR", OR), ("XOR", XOR)])
+            return Made(
+                f"SEL({self.truth(depth - 1).text}, {self.truth(depth - 1).text}, {self.truth(depth - 1).text})",
+                PRIMARY,
+            )
+        operator, binds = self.rnd.choice(
+            [("AND", AND), ("&", AND), ("AND", AND), ("OR", OR), ("OR", OR), ("XOR", XOR)]
+        )
         left, right = self.truth(depth - 1), self.truth(depth - 1)
         return Made(f"{left.inside(binds, self.rnd)} {operator} {right.inside(binds + 1, self.rnd)}", binds)
 
     def truth_leaf(self) -> Made:
-        found = [it.name if it.bounds is None else f"{it.name}[{self.index(it)}]" for it in self.places if it.type == "BOOL"]
-        found += [f"{name}.{it.name}" for name, called in self.instances.items() for it in called.outputs if it.type == "BOOL"]
+        found = [
+            it.name if it.bounds is None else f"{it.name}[{self.index(it)}]" for it in self.places if it.type == "BOOL"
+        ]
+        found += [
+            f"{name}.{it.name}" for name, called in self.instances.items() for it in called.outputs if it.type == "BOOL"
+        ]
         return Made(self.rnd.choice(found + ["TRUE", "FALSE"][: self.chance(0.2)]) if found else "TRUE", PRIMARY)
 
     def comparison(self, depth: int) -> Made:
@@ -301,13 +387,25 @@ class Unit:
         if not self.instances:
             return self.assign(depth)
         name, called = self.rnd.choice(list(self.instances.items()))
-        words = [f"{it.name} := {self.of_type(it, self.rnd.choice([0, 0, 1, 2])).text}" for it in called.inputs if self.chance(0.8)]
+        words = [
+            f"{it.name} := {self.of_type(it, self.rnd.choice([0, 0, 1, 2])).text}"
+            for it in called.inputs
+            if self.chance(0.8)
+        ]
         self.rnd.shuffle(words)
         for it in called.outputs:
-            fitting = [to for to in self.places if to.is_stored and to.type == it.type and (it.type == "BOOL" or to.low <= it.low and it.high <= to.high)]
+            fitting = [
+                to
+                for to in self.places
+                if to.is_stored
+                and to.type == it.type
+                and (it.type == "BOOL" or to.low <= it.low and it.high <= to.high)
+            ]
             if fitting and self.chance(0.4):
                 to = self.rnd.choice(fitting)
-                words.append(f"{'NOT ' if it.type == 'BOOL' and self.chance(0.2) else ''}{it.name} => {self.target(to)}")
+                words.append(
+                    f"{'NOT ' if it.type == 'BOOL' and self.chance(0.2) else ''}{it.name} => {self.target(to)}"
+                )
                 self.forget(to.name)
         if self.chance(0.1) and called.inputs and called.inputs[-1].name == "PT":
             self.put(f"{name}.PT := {self.of_type(called.inputs[-1], 1).text};")
@@ -333,7 +431,11 @@ class Unit:
 
     def tested(self, depth: int):
         """An IF whose tests narrow a variable in its branches."""
-        found = [it for it in self.places if it.bounds is None and it.type != "BOOL" and self.range_of(it)[1] - self.range_of(it)[0] > 3]
+        found = [
+            it
+            for it in self.places
+            if it.bounds is None and it.type != "BOOL" and self.range_of(it)[1] - self.range_of(it)[0] > 3
+        ]
         if not found:
             return self.assign(depth)
         it = self.rnd.choice(found)
@@ -343,9 +445,13 @@ class Unit:
         one, other = self.literal(it.type, a, True), self.literal(it.type, b, True)
         more = f" AND {self.truth(1).inside(AND, self.rnd)}" if self.chance(0.3) else ""
         forms = [
-            (f"{it.name} > {one}{more}", (a + 1, high), None if more else (low, a)), (f"{it.name} >= {one} AND {it.name} <= {other}{more}", (a, b), None),
-            (f"{one} <= {it.name}{more}", (a, high), None if more else (low, a - 1)), (f"NOT ({it.name} > {one}){more}", (low, a), None if more else (a + 1, high)),
-            (f"{it.name} < {one} OR {it.name} > {other}", None, (a, b)), (f"{it.name} = {one}{more}", (a, a), None), (f"{it.name} <> {one}", None, (a, a)),
+            (f"{it.name} > {one}{more}", (a + 1, high), None if more else (low, a)),
+            (f"{it.name} >= {one} AND {it.name} <= {other}{more}", (a, b), None),
+            (f"{one} <= {it.name}{more}", (a, high), None if more else (low, a - 1)),
+            (f"NOT ({it.name} > {one}){more}", (low, a), None if more else (a + 1, high)),
+            (f"{it.name} < {one} OR {it.name} > {other}", None, (a, b)),
+            (f"{it.name} = {one}{more}", (a, a), None),
+            (f"{it.name} <> {one}", None, (a, a)),
             (f"{it.name} < {one} OR {self.truth(1).inside(XOR, self.rnd)}", None, (a, high)),
         ]
         condition, yes, no = self.rnd.choice(forms)
@@ -431,7 +537,13 @@ def declared(rnd: random.Random, keyword: str, places: list[Place], instances: d
         initial = ""
         if it.bounds is None and rnd.random() < 0.4 and keyword != "VAR_INPUT":
             value = rnd.randint(it.low, min(it.high, it.low + 1000))
-            initial = " := " + (rnd.choice(["TRUE", "FALSE"]) if it.type == "BOOL" else f"T#{value}ms" if it.type == "TIME" else str(value))
+            initial = " := " + (
+                rnd.choice(["TRUE", "FALSE"])
+                if it.type == "BOOL"
+                else f"T#{value}ms"
+                if it.type == "TIME"
+                else str(value)
+            )
         lines.append(f"  {it.name} : {type_text(it)}{initial};")
     lines += [f"  {name} : {called.name};" for name, called in instances.items()]
     return "\n".join([keyword, *lines, "END_VAR", ""])
@@ -461,10 +573,29 @@ def block(rnd: random.Random, functions: list[Called]) -> tuple[str, Called]:
 
 
 def program(rnd: random.Random, name: str, task: str, functions: list[Called], blocks: list[Called]) -> str:
-    own = [*places_of(rnd, "V"), Place("AN", "INT", -3, 20, True, (1, 8)), Place("AB", "BOOL", 0, 0, True, (-2, 3)), Place("SHADE", "INT", 0, 2), Place("FLOOR", "INT", 1, 8)]
-    seen = [Place(it, "BOOL", 0, 0, False) for it in IMAGE[task]] + [Place("NOW", "TIME", *TIME, False), Place("CALLWAITS", "BOOL", 0, 0, False, (1, 4)), Place("CALLFROM", "INT", 0, 8, False, (1, 4))]
-    seen += [Place("POS", "INT", 1, 8, False), Place("MOTOR", "INT", -1, 1), Place("OPEN", "BOOL", 0, 0)] if task == "CAR1" else [Place("CPOS", "INT", 1, 8, False, (1, 1))]
-    seen += [Place("RED", "INT", 0, 0, False), Place("BLUE", "INT", 2, 2, False), Place("MANY", "INT", 5, 5, False), Place("DEEP", "DINT", 70_000, 70_000, False)]
+    own = [
+        *places_of(rnd, "V"),
+        Place("AN", "INT", -3, 20, True, (1, 8)),
+        Place("AB", "BOOL", 0, 0, True, (-2, 3)),
+        Place("SHADE", "INT", 0, 2),
+        Place("FLOOR", "INT", 1, 8),
+    ]
+    seen = [Place(it, "BOOL", 0, 0, False) for it in IMAGE[task]] + [
+        Place("NOW", "TIME", *TIME, False),
+        Place("CALLWAITS", "BOOL", 0, 0, False, (1, 4)),
+        Place("CALLFROM", "INT", 0, 8, False, (1, 4)),
+    ]
+    seen += (
+        [Place("POS", "INT", 1, 8, False), Place("MOTOR", "INT", -1, 1), Place("OPEN", "BOOL", 0, 0)]
+        if task == "CAR1"
+        else [Place("CPOS", "INT", 1, 8, False, (1, 1))]
+    )
+    seen += [
+        Place("RED", "INT", 0, 0, False),
+        Place("BLUE", "INT", 2, 2, False),
+        Place("MANY", "INT", 5, 5, False),
+        Place("DEEP", "DINT", 70_000, 70_000, False),
+    ]
     shared = Place("SHARED", "INT", 0, 50, task == "CAR1")
     instances = {f"T{at}": it for at, it in enumerate(rnd.sample(BLOCKS, 3) + blocks)}
     unit = Unit(rnd, [*own, *seen, shared], instances, functions)
@@ -489,7 +620,9 @@ def text_of(seed: int) -> str:
         text += made
         blocks.append(called)
     text += program(rnd, "RUNS", "CAR1", functions, blocks) + program(rnd, "LEADS", "GROUP", functions, blocks)
-    return text + """CONFIGURATION TRIAL
+    return (
+        text
+        + """CONFIGURATION TRIAL
 VAR_GLOBAL CONSTANT CARS : INT := 1; FLOORS : INT := 8; SLOTS : INT := 4; END_VAR
 VAR_GLOBAL SHARED : INT (0..50); END_VAR
 RESOURCE CABINET ON PLC
@@ -500,3 +633,4 @@ PROGRAM P2 WITH GROUP : LEADS;
 END_RESOURCE
 END_CONFIGURATION
 """
+    )

@@ -5,11 +5,47 @@ from lark import Lark, Token, Transformer, v_args
 from lark.exceptions import UnexpectedCharacters, UnexpectedEOF, UnexpectedToken, VisitError
 
 from lib.st_tree import (
-    LEFT_OUT, LONGEST_DURATION, SUBRANGE, WHOLE, Argument, Assign, Binary, Branch, Call, Case, Choice, Configuration, Declaration, For, If, Invoke, Leave, Line, Literal, Node, Place, Refusal,
-    Task, Text, TypeOf, Unary, Unit, Variable, VarList, place_of,
+    LEFT_OUT,
+    LONGEST_DURATION,
+    SUBRANGE,
+    WHOLE,
+    Argument,
+    Assign,
+    Binary,
+    Branch,
+    Call,
+    Case,
+    Choice,
+    Configuration,
+    Declaration,
+    For,
+    If,
+    Invoke,
+    Leave,
+    Line,
+    Literal,
+    Node,
+    Place,
+    Refusal,
+    Task,
+    Text,
+    TypeOf,
+    Unary,
+    Unit,
+    Variable,
+    VarList,
+    place_of,
 )
 
-LITERALS = {"D": "DATE", "DATE": "DATE", "TOD": "TIME_OF_DAY", "TIME_OF_DAY": "TIME_OF_DAY", "DT": "DATE_AND_TIME", "DATE_AND_TIME": "DATE_AND_TIME", "STRING": "STRING"}
+LITERALS = {
+    "D": "DATE",
+    "DATE": "DATE",
+    "TOD": "TIME_OF_DAY",
+    "TIME_OF_DAY": "TIME_OF_DAY",
+    "DT": "DATE_AND_TIME",
+    "DATE_AND_TIME": "DATE_AND_TIME",
+    "STRING": "STRING",
+}
 DEEPEST = 6000  # calls inside one another: some 1000 operators in a row
 MS = {"d": 86_400_000, "h": 3_600_000, "m": 60_000, "s": 1000, "ms": 1}
 
@@ -19,7 +55,11 @@ def number_of(token: Token, digits: str) -> int:
     if not sharp:
         base, rest = "10", digits
     bare = rest.lstrip("+-")
-    if base not in ("2", "8", "10", "16") or (base == "10" and sharp) or not re.fullmatch(r"[0-9A-Fa-f]+(_[0-9A-Fa-f]+)*", bare):
+    if (
+        base not in ("2", "8", "10", "16")
+        or (base == "10" and sharp)
+        or not re.fullmatch(r"[0-9A-Fa-f]+(_[0-9A-Fa-f]+)*", bare)
+    ):
         raise Refusal(place_of(token), f"{token} is no number: write decimals, or 2#, 8# or 16# and digits")
     try:
         return int(rest.replace("_", ""), int(base))
@@ -31,8 +71,15 @@ def duration_of(token: Token, parts: str) -> int:
     """The milliseconds of a duration; the last part may have a fraction."""
     found = re.findall(r"(\d+(?:\.\d+)?)(ms|d|h|m|s)_?", parts.lower())
     order = [list(MS).index(unit) for _, unit in found]
-    if not found or "".join(a + b for a, b in found) != re.sub(r"(?<=[a-z])_", "", parts.lower()) or order != sorted(set(order)) or any("." in a for a, _ in found[:-1]):
-        raise Refusal(place_of(token), f"{token} is no duration: write such as T#1s500ms, with d, h, m, s and ms in this order")
+    if (
+        not found
+        or "".join(a + b for a, b in found) != re.sub(r"(?<=[a-z])_", "", parts.lower())
+        or order != sorted(set(order))
+        or any("." in a for a, _ in found[:-1])
+    ):
+        raise Refusal(
+            place_of(token), f"{token} is no duration: write such as T#1s500ms, with d, h, m, s and ms in this order"
+        )
     value = 0
     for digits, unit in found:
         whole, _, fraction = digits.partition(".")
@@ -109,7 +156,10 @@ class Tree(Transformer):
 
     def index(self, meta, items):
         if len(items) > 1:
-            raise Refusal(items[1].place, "arrays of two and more dimensions are left out: write one index, such as A[(I - 1) * 8 + J]")
+            raise Refusal(
+                items[1].place,
+                "arrays of two and more dimensions are left out: write one index, such as A[(I - 1) * 8 + J]",
+            )
         return ("index", items[0])
 
     def member(self, meta, items):
@@ -120,7 +170,10 @@ class Tree(Transformer):
         made = Variable(*self.at(meta), str(name))
         for kind, what in selectors:
             if made.index is not None or made.member is not None:
-                raise Refusal(made.place, "one index or one member may stand behind a name: arrays of instances and members of members are left out")
+                raise Refusal(
+                    made.place,
+                    "one index or one member may stand behind a name: arrays of instances and members of members are left out",
+                )
             setattr(made, kind, what if kind == "index" else str(what))
         return made
 
@@ -209,7 +262,10 @@ class Tree(Transformer):
     def array(self, meta, items):
         *bounds, element = items
         if len(bounds) > 1:
-            raise Refusal(self.at(meta)[0], "arrays of two and more dimensions are left out: write one dimension, and an index such as (I - 1) * 8 + J")
+            raise Refusal(
+                self.at(meta)[0],
+                "arrays of two and more dimensions are left out: write one dimension, and an index such as (I - 1) * 8 + J",
+            )
         return TypeOf(*self.at(meta), None, list(bounds), element)
 
     def enumerated(self, meta, items):
@@ -227,7 +283,7 @@ class Tree(Transformer):
     def declaration(self, meta, items):
         names = [it for it in items if isinstance(it, Token) and it.type == "NAME"]
         type = next(it for it in items if isinstance(it, TypeOf))
-        behind = items[items.index(type) + 1:]
+        behind = items[items.index(type) + 1 :]
         return Declaration(*self.at(meta), names, type, behind[-1] if behind and behind[-1] is not None else None)
 
     type_declaration = declaration
@@ -238,7 +294,10 @@ class Tree(Transformer):
     def list(self, meta, items):
         kind, constant, *declarations = items
         if constant is not None and kind.upper() in ("VAR_INPUT", "VAR_OUTPUT"):
-            raise Refusal(place_of(constant), f"CONSTANT stands behind VAR, VAR_GLOBAL or VAR_EXTERNAL, and not behind {kind.upper()}")
+            raise Refusal(
+                place_of(constant),
+                f"CONSTANT stands behind VAR, VAR_GLOBAL or VAR_EXTERNAL, and not behind {kind.upper()}",
+            )
         return VarList(*self.at(meta), kind.upper(), constant is not None, declarations)
 
     def unit(self, kind, meta, items):
@@ -269,7 +328,9 @@ class Tree(Transformer):
     def configuration(self, meta, items):
         name, *lists, resource = items
         tasks, lines = ([it for it in resource if isinstance(it, kind)] for kind in (Task, Line))
-        self.text.configurations.append(Configuration(*self.at(meta), name, lists, resource[0], resource[1], tasks, lines))
+        self.text.configurations.append(
+            Configuration(*self.at(meta), name, lists, resource[0], resource[1], tasks, lines)
+        )
 
 
 def refused_word(token: Token) -> Token:
@@ -280,7 +341,11 @@ def refused_word(token: Token) -> Token:
 
 
 def refused_literal(token: Token) -> Token:
-    kinds = {"REAL_NUMBER": (f"{token}, a REAL,", SUBRANGE), "TEXT": (f"{token}, a STRING,", LEFT_OUT["STRING"]), "ADDRESS": (f"the address {token}", LEFT_OUT["AT"])}
+    kinds = {
+        "REAL_NUMBER": (f"{token}, a REAL,", SUBRANGE),
+        "TEXT": (f"{token}, a STRING,", LEFT_OUT["STRING"]),
+        "ADDRESS": (f"the address {token}", LEFT_OUT["AT"]),
+    }
     raise left_out(token, *kinds.get(token.type, ("a pragma", "remove it")))
 
 
@@ -296,13 +361,31 @@ comments: list[Token] = []  # of the text that is read
 
 @functools.cache
 def parser() -> Lark:
-    callbacks = {"COMMENT": taken_comment} | {it: refused_literal for it in ("REAL_NUMBER", "TEXT", "ADDRESS", "PRAGMA")}
+    callbacks = {"COMMENT": taken_comment} | {
+        it: refused_literal for it in ("REAL_NUMBER", "TEXT", "ADDRESS", "PRAGMA")
+    }
     callbacks["NAME"] = refused_word  # the last, since lark asks for the type of the last one
     with open(os.path.join(os.path.dirname(os.path.abspath(__file__)), "st.lark"), encoding="utf-8") as file:
-        return Lark(file.read(), parser="lalr", lexer="basic", propagate_positions=True, maybe_placeholders=True, lexer_callbacks=callbacks)
+        return Lark(
+            file.read(),
+            parser="lalr",
+            lexer="basic",
+            propagate_positions=True,
+            maybe_placeholders=True,
+            lexer_callbacks=callbacks,
+        )
 
 
-SHOWN = {"NAME": "a name", "NUMBER": "a number", "TYPED": "a literal", "$END": "the end", "AND": "`AND`", "EQUAL": "`=`", "ORDER": "`<`", "TIMES": "`*`"}
+SHOWN = {
+    "NAME": "a name",
+    "NUMBER": "a number",
+    "TYPED": "a literal",
+    "$END": "the end",
+    "AND": "`AND`",
+    "EQUAL": "`=`",
+    "ORDER": "`<`",
+    "TIMES": "`*`",
+}
 
 
 def shown(name: str) -> str:
@@ -317,7 +400,10 @@ def tree_of(source: str) -> Text:
     try:
         Tree(text).transform(parser().parse(source))
     except RecursionError:
-        raise Refusal(Place(1, 1), "an expression has too many operators in a row or inside one another: hold parts of it in variables") from None
+        raise Refusal(
+            Place(1, 1),
+            "an expression has too many operators in a row or inside one another: hold parts of it in variables",
+        ) from None
     except VisitError as why:
         raise why.orig_exc from None
     except UnexpectedToken as why:
@@ -331,7 +417,11 @@ def tree_of(source: str) -> Text:
     except UnexpectedEOF:
         raise Refusal(Place(source.count("\n") + 1, 1), "the text ends here") from None
     except UnexpectedCharacters as why:
-        what = "a comment that is never closed" if source.startswith("(*", why.pos_in_stream) else f"an unexpected character {source[why.pos_in_stream]!r}"
+        what = (
+            "a comment that is never closed"
+            if source.startswith("(*", why.pos_in_stream)
+            else f"an unexpected character {source[why.pos_in_stream]!r}"
+        )
         raise Refusal(Place(why.line, why.column), what) from None
     text.comments = list(comments)
     return text

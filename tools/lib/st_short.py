@@ -13,7 +13,16 @@ def shortened(steps: list[Step], own: set[str]) -> list[Step]:
     """The same in fewer steps. Of its own variables a unit keeps a load of each that it reads at all, or `check --warn` would say that it never does."""
     while True:
         before = [(it, it.text, it.goes_to) for it in steps]
-        for one in (threaded, turned, without_next, without_unreached, without_last_return, without_labels, with_one_label, functools.partial(without_loads, own=own)):
+        for one in (
+            threaded,
+            turned,
+            without_next,
+            without_unreached,
+            without_last_return,
+            without_labels,
+            with_one_label,
+            functools.partial(without_loads, own=own),
+        ):
             steps = one(steps)
         if before == [(it, it.text, it.goes_to) for it in steps]:
             return steps
@@ -29,7 +38,9 @@ class Around:
         for at in range(len(steps) - 1, -1, -1):
             it = steps[at]
             self.next[at] = at if it.operator else self.next[at + 1]
-            self.labels[at] = frozenset() if it.operator else self.labels[at + 1] | ({id(it.label)} if it.label else set())
+            self.labels[at] = (
+                frozenset() if it.operator else self.labels[at + 1] | ({id(it.label)} if it.label else set())
+            )
             if it.label is not None:
                 self.place[id(it.label)] = at
 
@@ -57,7 +68,12 @@ def turned(steps: list[Step]) -> list[Step]:
     around, gone = Around(steps), set()
     for at, it in enumerate(steps):
         other = around.next[at + 1]
-        if it.operator not in CONDITIONAL or other is None or around.labels[at + 1] or id(it.goes_to) not in around.labels[other + 1]:
+        if (
+            it.operator not in CONDITIONAL
+            or other is None
+            or around.labels[at + 1]
+            or id(it.goes_to) not in around.labels[other + 1]
+        ):
             continue
         over = steps[other]
         if over.operator == "JMP":
@@ -91,7 +107,11 @@ def without_unreached(steps: list[Step]) -> list[Step]:
 def without_last_return(steps: list[Step]) -> list[Step]:
     """Behind the last instruction stands a return anyway."""
     last = next((it for it in reversed(steps) if it.operator or it.label), None)
-    return [it for it in steps if it is not last] if last is not None and last.operator in ("RET", "RETC", "RETCN") else steps
+    return (
+        [it for it in steps if it is not last]
+        if last is not None and last.operator in ("RET", "RETC", "RETCN")
+        else steps
+    )
 
 
 def with_one_label(steps: list[Step]) -> list[Step]:

@@ -5,14 +5,35 @@ from dataclasses import dataclass, field
 from lib.st_code import Body, Step, parts
 from lib.st_names import SIZES, Names, Scope, Symbol
 from lib.st_short import shortened
-from lib.st_tree import Assign, Branch, Choice, Configuration, Declaration, Invoke, Leave, Node, Place, Refusal, Task, Text, Unit, VarList
+from lib.st_tree import (
+    Assign,
+    Branch,
+    Choice,
+    Configuration,
+    Declaration,
+    Invoke,
+    Leave,
+    Node,
+    Place,
+    Refusal,
+    Task,
+    Text,
+    Unit,
+    VarList,
+)
 from lib.st_tree import Case, For, If, Line as ProgramLine
 
 MOST_INSTRUCTIONS = 4096
-LISTS = {"FUNCTION": ["VAR_INPUT", "VAR"], "FUNCTION_BLOCK": ["VAR_INPUT", "VAR_OUTPUT", "VAR"], "PROGRAM": ["VAR", "VAR_EXTERNAL"]}
+LISTS = {
+    "FUNCTION": ["VAR_INPUT", "VAR"],
+    "FUNCTION_BLOCK": ["VAR_INPUT", "VAR_OUTPUT", "VAR"],
+    "PROGRAM": ["VAR", "VAR_EXTERNAL"],
+}
 INSTEAD = {
-    ("FUNCTION", "VAR_OUTPUT"): "a function has no outputs: write a function block", ("FUNCTION", "VAR_EXTERNAL"): "functions see no globals: give them an input",
-    ("FUNCTION_BLOCK", "VAR_EXTERNAL"): "function blocks see no globals: give them an input", ("PROGRAM", "VAR_INPUT"): "programs have no inputs: write VAR or VAR_EXTERNAL",
+    ("FUNCTION", "VAR_OUTPUT"): "a function has no outputs: write a function block",
+    ("FUNCTION", "VAR_EXTERNAL"): "functions see no globals: give them an input",
+    ("FUNCTION_BLOCK", "VAR_EXTERNAL"): "function blocks see no globals: give them an input",
+    ("PROGRAM", "VAR_INPUT"): "programs have no inputs: write VAR or VAR_EXTERNAL",
     ("PROGRAM", "VAR_OUTPUT"): "programs have no outputs: write VAR or VAR_EXTERNAL",
 }
 ANCHORS = Declaration, Unit, Configuration, Task, ProgramLine, Assign, Invoke, Leave, If, Case, For, Branch, Choice
@@ -43,7 +64,9 @@ class Comments:
         for token in text.comments:
             self.take(token, anchors)
         for it in anchors:
-            if isinstance(it, (Assign, Invoke, Leave, If, Case, For)) and self.has_blank_above(it.place.line, it.place.column):
+            if isinstance(it, (Assign, Invoke, Leave, If, Case, For)) and self.has_blank_above(
+                it.place.line, it.place.column
+            ):
                 self.leading.setdefault(key_of(it), [""])
 
     def take(self, token, anchors: list[Node]):
@@ -76,7 +99,13 @@ class Comments:
             text = f"(* {inner} *)"
         indent = token.column - 1
         lines = text.split("\n")
-        lines = [lines[0], *(it[len(it) - len(it.lstrip()):] if len(it) - len(it.lstrip()) < indent else it[indent:] for it in lines[1:])]
+        lines = [
+            lines[0],
+            *(
+                it[len(it) - len(it.lstrip()) :] if len(it) - len(it.lstrip()) < indent else it[indent:]
+                for it in lines[1:]
+            ),
+        ]
         return "\n".join("".join(c if " " <= c <= "~" or c == "\t" else "?" for c in it) for it in lines)
 
     def of(self, node: Node) -> tuple[list[str], list[str]]:
@@ -152,7 +181,10 @@ class Maker:
             above, behind = self.comments.of(it)
             self.put_comments(above)
             name = it.names[0]
-            values = [f"{token} is {self.names.constants[f'{name.upper()}#{token.upper()}'].value}" for token, _ in it.type.values]
+            values = [
+                f"{token} is {self.names.constants[f'{name.upper()}#{token.upper()}'].value}"
+                for token, _ in it.type.values
+            ]
             meaning = f"{name} is {self.names.types[name.upper()][0]}" + (f": {', '.join(values)}" if values else "")
             self.put(f"(* {meaning} *)", it.place, behind)
 
@@ -162,7 +194,11 @@ class Maker:
             for it in of.declarations if of.is_constant and of.kind != "VAR_EXTERNAL" else ():
                 above, behind = self.comments.of(it)
                 self.put_comments(above)
-                known = [f"{token} is {Body.literal(values[token.upper()], True)}" for token in it.names if token.upper() not in SIZES]
+                known = [
+                    f"{token} is {Body.literal(values[token.upper()], True)}"
+                    for token in it.names
+                    if token.upper() not in SIZES
+                ]
                 if known:
                     self.put(f"(* {', '.join(known)} *)", it.place, behind)
 
@@ -178,11 +214,19 @@ class Maker:
 
     def list(self, kind: str, lists: list[VarList], symbols: dict[str, Symbol], left_out: set[str], more=()):
         """One list of a kind, of all of this kind."""
-        declarations = [it for of in lists if of.kind == kind and not (of.is_constant and kind != "VAR_EXTERNAL") for it in of.declarations]
+        declarations = [
+            it
+            for of in lists
+            if of.kind == kind and not (of.is_constant and kind != "VAR_EXTERNAL")
+            for it in of.declarations
+        ]
         start = len(self.lines)
         for it in declarations:
             self.declaration(it, symbols, left_out, self.names)
-        if not any(it.text.startswith("  ") and it.text.rstrip().find(" : ") > 0 for it in self.lines[start:]) and not more:
+        if (
+            not any(it.text.startswith("  ") and it.text.rstrip().find(" : ") > 0 for it in self.lines[start:])
+            and not more
+        ):
             return
         self.lines.insert(start, Line(kind, next((of.place for of in lists if of.kind == kind), None)))
         for name, type, held in more:
@@ -205,7 +249,10 @@ class Maker:
         steps = shortened(body.steps, own)
         count = sum(bool(it.operator) for it in steps)
         if count > MOST_INSTRUCTIONS:
-            raise Refusal(unit.place, f"{count} instructions, and a unit has {MOST_INSTRUCTIONS} at most: put what is repeated into a function block")
+            raise Refusal(
+                unit.place,
+                f"{count} instructions, and a unit has {MOST_INSTRUCTIONS} at most: put what is repeated into a function block",
+            )
         result = f" : {scope.symbols[unit.name.upper()].type}" if unit.kind == "FUNCTION" else ""
         self.constants([of for of in unit.lists if of.kind == "VAR"], scope.constants)
         self.put(f"{unit.kind} {unit.name}{result}", unit.place, behind)
@@ -257,7 +304,11 @@ class Maker:
         priority = self.names.scope.bound(task.priority)
         above, behind = self.comments.of(task)
         self.put_comments(above)
-        self.put(f"TASK {task.name} (INTERVAL := {Body.literal(interval, True)}, PRIORITY := {priority});", task.place, behind)
+        self.put(
+            f"TASK {task.name} (INTERVAL := {Body.literal(interval, True)}, PRIORITY := {priority});",
+            task.place,
+            behind,
+        )
 
 
 def made(text: Text) -> list[Line]:
@@ -267,4 +318,6 @@ def made(text: Text) -> list[Line]:
 
 def units_made(text: Text) -> dict[str, str]:
     """The text of each unit, by its name in upper case."""
-    return {name: "".join(f"{it.text}\n" for it in lines).strip("\n") + "\n" for name, lines in Maker(text).units.items()}
+    return {
+        name: "".join(f"{it.text}\n" for it in lines).strip("\n") + "\n" for name, lines in Maker(text).units.items()
+    }

@@ -7,7 +7,14 @@ from dataclasses import dataclass, field
 if typing.TYPE_CHECKING:
     from lark import Token
 
-WHOLE = {"SINT": (-128, 127), "INT": (-32768, 32767), "DINT": (-2**31, 2**31 - 1), "USINT": (0, 255), "UINT": (0, 65535), "UDINT": (0, 2**32 - 1)}
+WHOLE = {
+    "SINT": (-128, 127),
+    "INT": (-32768, 32767),
+    "DINT": (-(2**31), 2**31 - 1),
+    "USINT": (0, 255),
+    "UINT": (0, 65535),
+    "UDINT": (0, 2**32 - 1),
+}
 LONGEST_DURATION = 2_147_483_647
 SUBRANGE = "write a whole type with a subrange, such as INT (0..100), in smaller parts: tenths or hundredths"
 BITS = "write BOOL for each bit, or a whole type"
@@ -15,16 +22,41 @@ EDITION_3 = "write functions, function blocks and programs"
 LEFT_OUT = {  # words that the profile leaves out, and what to write instead
     "WHILE": "write FOR with bounds that are known when the text is translated, and leave it by EXIT; or one step a scan",
     "REPEAT": "write FOR with bounds that are known when the text is translated, and leave it by EXIT; or one step a scan",
-    "REAL": SUBRANGE, "LREAL": SUBRANGE, "LINT": "write DINT or UDINT", "ULINT": "write UDINT", "BYTE": BITS, "WORD": BITS, "DWORD": BITS, "LWORD": BITS,
-    "STRING": "write a number for each text", "WSTRING": "write a number for each text", "DATE": "write TIME, and NOW for the plant's time",
-    "TIME_OF_DAY": "write TIME, and NOW for the plant's time", "TOD": "write TIME, and NOW for the plant's time",
-    "DATE_AND_TIME": "write TIME, and NOW for the plant's time", "DT": "write TIME, and NOW for the plant's time",
-    "STRUCT": "write a variable for each part, or a function block with outputs", "VAR_IN_OUT": "write VAR_INPUT and VAR_OUTPUT",
-    "VAR_TEMP": "write VAR, and give it its value in each scan", "VAR_ACCESS": "write VAR_GLOBAL", "VAR_CONFIG": "write initial values where variables are declared",
-    "AT": "use the names of the image", "RETAIN": "remove it, since all variables are kept from scan to scan, and a start begins anew", "NON_RETAIN": "remove it, since a start begins anew",
-    "R_EDGE": "write an instance of R_TRIG", "F_EDGE": "write an instance of F_TRIG", "SINGLE": "remove it, since each task runs once a round",
-    "GOTO": "write IF, CASE, EXIT, CONTINUE or RETURN", "INITIAL_STEP": "write CASE over a variable for the step", "TRANSITION": "write CASE over a variable for the step",
-    "CLASS": EDITION_3, "METHOD": EDITION_3, "INTERFACE": EDITION_3, "NAMESPACE": EDITION_3, "POINTER": "write an array with an index", "REF_TO": "write an array with an index",
+    "REAL": SUBRANGE,
+    "LREAL": SUBRANGE,
+    "LINT": "write DINT or UDINT",
+    "ULINT": "write UDINT",
+    "BYTE": BITS,
+    "WORD": BITS,
+    "DWORD": BITS,
+    "LWORD": BITS,
+    "STRING": "write a number for each text",
+    "WSTRING": "write a number for each text",
+    "DATE": "write TIME, and NOW for the plant's time",
+    "TIME_OF_DAY": "write TIME, and NOW for the plant's time",
+    "TOD": "write TIME, and NOW for the plant's time",
+    "DATE_AND_TIME": "write TIME, and NOW for the plant's time",
+    "DT": "write TIME, and NOW for the plant's time",
+    "STRUCT": "write a variable for each part, or a function block with outputs",
+    "VAR_IN_OUT": "write VAR_INPUT and VAR_OUTPUT",
+    "VAR_TEMP": "write VAR, and give it its value in each scan",
+    "VAR_ACCESS": "write VAR_GLOBAL",
+    "VAR_CONFIG": "write initial values where variables are declared",
+    "AT": "use the names of the image",
+    "RETAIN": "remove it, since all variables are kept from scan to scan, and a start begins anew",
+    "NON_RETAIN": "remove it, since a start begins anew",
+    "R_EDGE": "write an instance of R_TRIG",
+    "F_EDGE": "write an instance of F_TRIG",
+    "SINGLE": "remove it, since each task runs once a round",
+    "GOTO": "write IF, CASE, EXIT, CONTINUE or RETURN",
+    "INITIAL_STEP": "write CASE over a variable for the step",
+    "TRANSITION": "write CASE over a variable for the step",
+    "CLASS": EDITION_3,
+    "METHOD": EDITION_3,
+    "INTERFACE": EDITION_3,
+    "NAMESPACE": EDITION_3,
+    "POINTER": "write an array with an index",
+    "REF_TO": "write an array with an index",
 }
 
 

@@ -6,7 +6,10 @@ from lib.release.contents import FOLDER, PLAIN, File, Link, Tree
 from lib.release.lists import folders_of
 from lib.release.repository import LONGEST, Trouble
 
-PACKERS = {"zst": ["zstd", "-q", "-15", "--single-thread", "-c"], "xz": ["xz", "-q", "-9", "-T1", "-c"]}  # the first that is there
+PACKERS = {
+    "zst": ["zstd", "-q", "-15", "--single-thread", "-c"],
+    "xz": ["xz", "-q", "-9", "-T1", "-c"],
+}  # the first that is there
 LINK_MODE = 0o777
 
 
@@ -36,7 +39,11 @@ def member(name: str, it: File | Link | None, time: int) -> tarfile.TarInfo:
 def tar(tree: Tree, top: str, time: int) -> bytes:
     """The tree below a folder `top`."""
     room = io.BytesIO()
-    entries = {top: None, **{f"{top}/{it}": None for it in folders_of(list(tree))}, **{f"{top}/{path}": it for path, it in tree.items()}}
+    entries = {
+        top: None,
+        **{f"{top}/{it}": None for it in folders_of(list(tree))},
+        **{f"{top}/{path}": it for path, it in tree.items()},
+    }
     with tarfile.open(fileobj=room, mode="w", format=tarfile.GNU_FORMAT) as archive:
         for name, it in sorted(entries.items()):
             archive.addfile(member(name, it, time), io.BytesIO(it.data) if isinstance(it, File) else None)
@@ -64,12 +71,23 @@ def write(tree: Tree, folder: str, time: int):
 
 def deb(tree: Tree, control: str, time: int, to: str):
     """A package that installs the tree below /usr."""
-    sums = "".join(f"{hashlib.md5(it.data).hexdigest()}  usr/{path}\n" for path, it in sorted(tree.items()) if isinstance(it, File))
+    sums = "".join(
+        f"{hashlib.md5(it.data).hexdigest()}  usr/{path}\n" for path, it in sorted(tree.items()) if isinstance(it, File)
+    )
     whole: Tree = {f"usr/{path}": it for path, it in tree.items()}
     whole |= {"DEBIAN/control": File(control.encode(), PLAIN), "DEBIAN/md5sums": File(sums.encode(), PLAIN)}
     with tempfile.TemporaryDirectory(prefix="liftplc-release-") as room:
         write(whole, f"{room}/tree", time)
-        words = ["dpkg-deb", "--root-owner-group", "--threads-max=1", "-Zxz", "-z6", "--build", f"{room}/tree", f"{room}/made.deb"]
+        words = [
+            "dpkg-deb",
+            "--root-owner-group",
+            "--threads-max=1",
+            "-Zxz",
+            "-z6",
+            "--build",
+            f"{room}/tree",
+            f"{room}/made.deb",
+        ]
         env = {**os.environ, "SOURCE_DATE_EPOCH": str(time), "LC_ALL": "C"}
         done = subprocess.run(words, env=env, stdin=subprocess.DEVNULL, capture_output=True, text=True, timeout=LONGEST)
         if done.returncode:

@@ -30,10 +30,16 @@ class Command:
 
 
 FIRE = Option("--fire", "ROUND", "From this round on, fire recall is on")
-CALLS = Option("--calls", "CALLS", "Also makes the calls of the file CALLS, and sets FIRE and RUNLIMIT as it says; docs/COMMANDS.md has its lines")
+CALLS = Option(
+    "--calls",
+    "CALLS",
+    "Also makes the calls of the file CALLS, and sets FIRE and RUNLIMIT as it says; docs/COMMANDS.md has its lines",
+)
 CUT = Option("--cut", "", "Takes a trace that was cut off, up to its last whole line")
 JSON = Option("--json", "", "Prints JSON, an object a line, and one below a refusal; docs/COMMANDS.md has the keys")
-EXPLAIN = Option("--explain", "", "Shows below a fault its line and what it means")  # with every command; `liftplc help` names it in a sentence
+EXPLAIN = Option(
+    "--explain", "", "Shows below a fault its line and what it means"
+)  # with every command; `liftplc help` names it in a sentence
 HELP = Option("--help", "", "Print help")
 COMMANDS = (
     Command(
@@ -104,7 +110,9 @@ COMMANDS = (
 
 def printed(program: str, *words: str) -> str:
     try:
-        done = subprocess.run([program, *words], stdin=subprocess.DEVNULL, capture_output=True, text=True, timeout=LONGEST)
+        done = subprocess.run(
+            [program, *words], stdin=subprocess.DEVNULL, capture_output=True, text=True, timeout=LONGEST
+        )
     except (OSError, subprocess.SubprocessError) as why:
         raise NoHelp(f"{program} {' '.join(words)}: {why}") from why
     if done.returncode:
@@ -173,8 +181,14 @@ def words_of(command: Command) -> list[str]:
 def bash(numbers: list[str]) -> str:
     names = " ".join(it.name for it in COMMANDS)
     taken = "|".join(sorted({it.name for command in COMMANDS for it in command.options if it.value in FILES}))
-    plain = "|".join(sorted({it.name for command in COMMANDS for it in command.options if it.value and it.value not in FILES}))
-    cases = "\n".join(f'        {it.name}) options="{" ".join(option.name for option in all_options(it))}" ;;' for it in COMMANDS if all_options(it))
+    plain = "|".join(
+        sorted({it.name for command in COMMANDS for it in command.options if it.value and it.value not in FILES})
+    )
+    cases = "\n".join(
+        f'        {it.name}) options="{" ".join(option.name for option in all_options(it))}" ;;'
+        for it in COMMANDS
+        if all_options(it)
+    )
     return f"""# Completions of liftplc for bash.
 _liftplc() {{
     local word="${{COMP_WORDS[COMP_CWORD]}}" before="${{COMP_WORDS[COMP_CWORD-1]}}" command="" options="" at
@@ -211,14 +225,19 @@ def zsh_text(says: str) -> str:
 def zsh_kind(word: str, numbers: list[str]) -> str:
     if word in FILES:
         return f"{word.replace('|', ' or ')}:_files"
-    return {"NUMBER": f"NUMBER:({' '.join(numbers)})", "COMMAND": "COMMAND:_liftplc_commands"}.get(word, f"{word.replace(':', chr(92) + ':')}: ")
+    return {"NUMBER": f"NUMBER:({' '.join(numbers)})", "COMMAND": "COMMAND:_liftplc_commands"}.get(
+        word, f"{word.replace(':', chr(92) + ':')}: "
+    )
 
 
 def zsh_case(command: Command, numbers: list[str]) -> str:
     values = {it: f":{zsh_kind(it.value, numbers)}" if it.value else "" for it in all_options(command)}
     options = [f"'{it.name}{'=' if value else ''}[{zsh_text(it.says)}]{value}'" for it, value in values.items()]
     shown = command.words.split()
-    words = [f"'{'*' if shown[at].endswith('...') else at + 1}:{zsh_kind(word, numbers)}'" for at, word in enumerate(words_of(command))]
+    words = [
+        f"'{'*' if shown[at].endswith('...') else at + 1}:{zsh_kind(word, numbers)}'"
+        for at, word in enumerate(words_of(command))
+    ]
     return f"        {command.name}) _arguments {' '.join([*options, *words])} ;;"
 
 
@@ -266,4 +285,11 @@ def fish_lines(command: Command, numbers: list[str]) -> Iterator[str]:
 
 def fish(numbers: list[str]) -> str:
     lines = [line for it in COMMANDS for line in fish_lines(it, numbers)]
-    return "\n".join(["# Completions of liftplc for fish.", "complete -c liftplc -n __fish_use_subcommand -l version -d 'Print version'", *lines, ""])
+    return "\n".join(
+        [
+            "# Completions of liftplc for fish.",
+            "complete -c liftplc -n __fish_use_subcommand -l version -d 'Print version'",
+            *lines,
+            "",
+        ]
+    )

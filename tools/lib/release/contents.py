@@ -11,7 +11,15 @@ from lib.release import completions, manual
 from lib.release.repository import TOP, Build, Commit, Trouble, files, read, text
 
 HOME = "share/liftplc"
-TOOLS = ("building", "chain", "from-plcopen", "group", "monitor", "st", "tee-serve")  # of tools/; each is a command, as is gateways/modbus
+TOOLS = (
+    "building",
+    "chain",
+    "from-plcopen",
+    "group",
+    "monitor",
+    "st",
+    "tee-serve",
+)  # of tools/; each is a command, as is gateways/modbus
 COMMANDS = {f"liftplc-{name}": f"tools/{name}" for name in TOOLS} | {"liftplc-modbus": "gateways/modbus"}
 BESIDE = {  # what files of Python read
     "tools/monitor": ["tools/monitor.html"],
@@ -51,7 +59,11 @@ DEBIAN = Layout("/usr", "share/zsh/vendor-completions", True)
 
 def imported(path: str) -> set[str]:
     """The modules of tools/lib and gateways/lib that a file of Python imports."""
-    names = {it.module for it in ast.walk(ast.parse(text(path))) if isinstance(it, ast.ImportFrom) and (it.module or "").startswith("lib.")}
+    names = {
+        it.module
+        for it in ast.walk(ast.parse(text(path)))
+        if isinstance(it, ast.ImportFrom) and (it.module or "").startswith("lib.")
+    }
     found = set()
     for name in sorted(filter(None, names)):
         places = [f"{top}/{name.replace('.', '/')}.py" for top in ("tools", "gateways")]
@@ -109,7 +121,9 @@ def library(build: Build) -> Tree:
 
 def checkout(build: Build, version: str) -> Tree:
     """share/liftplc: what is as in the repository, and links to the program where the tools look for it; an unproved one is where they warn of it."""
-    python = {f"tools/{name}" for name in TOOLS} | {it for it in files("gateways/modbus", "gateways/lib", "examples/modbus") if not it.endswith(".md")}
+    python = {f"tools/{name}" for name in TOOLS} | {
+        it for it in files("gateways/modbus", "gateways/lib", "examples/modbus") if not it.endswith(".md")
+    }
     tree: Tree = {f"{HOME}/{path}": as_it_is(path) for path in files(*WHOLE, *sorted(needed(python)))}
     tree[f"{HOME}/VERSION"] = File(f"{version}\n".encode())
     for path in ("liftplc", "build/liftplc" if build.is_proved else "build/unproved/liftplc"):
@@ -119,7 +133,10 @@ def checkout(build: Build, version: str) -> Tree:
 
 
 def pages(version: str, date: str) -> Tree:
-    made = {"liftplc": manual.commands_page(text("docs/COMMANDS.md"), version, date), "liftplc-serve": manual.serve_page(text("docs/SERVE.md"), version, date)}
+    made = {
+        "liftplc": manual.commands_page(text("docs/COMMANDS.md"), version, date),
+        "liftplc-serve": manual.serve_page(text("docs/SERVE.md"), version, date),
+    }
     made |= {command: manual.tool_page(text(path), path, command, version, date) for command, path in COMMANDS.items()}
     return {f"share/man/man1/{name}.1.gz": zipped(page) for name, page in made.items()}
 
@@ -140,7 +157,10 @@ def completed(layout: Layout) -> Tree:
 
 def contents(layout: Layout, build: Build, version: str, date: str) -> Tree:
     """All but the lists of it, MANIFEST and the SPDX file."""
-    tree: Tree = {"bin/liftplc": File(build.program, EXECUTABLE), "lib/systemd/system/liftplc.service": File(unit(layout.prefix).encode())}
+    tree: Tree = {
+        "bin/liftplc": File(build.program, EXECUTABLE),
+        "lib/systemd/system/liftplc.service": File(unit(layout.prefix).encode()),
+    }
     tree |= {f"bin/{command}": link(f"bin/{command}", f"{HOME}/{path}") for command, path in COMMANDS.items()}
     return tree | library(build) | checkout(build, version) | pages(version, date) | completed(layout)
 
@@ -184,7 +204,11 @@ def libc_of(program: bytes) -> str:
 
 def control(tree: Tree, build: Build, version: str) -> str:
     kib = sum(-(-len(it.data) // 1024) if isinstance(it, File) else 1 for it in tree.values())
-    needs = [f"libc6 (>= {libc_of(build.program)})", *(["libgcc-s1"] if b"libgcc_s.so.1\0" in build.program else []), "python3 (>= 3.10)"]
+    needs = [
+        f"libc6 (>= {libc_of(build.program)})",
+        *(["libgcc-s1"] if b"libgcc_s.so.1\0" in build.program else []),
+        "python3 (>= 3.10)",
+    ]
     says = "" if build.is_proved else "\n .\n This build is unproved: it is for trying texts, not for a building."
     return f"""Package: liftplc
 Version: {version}

@@ -45,10 +45,19 @@ def folders_of(paths: list[str]) -> list[str]:
 
 def manifest(tree: Tree, source: Source) -> str:
     """A line each. Those of files are as `sha256sum` writes them, behind the word; folders come last, those inside others first."""
-    lines = [f"liftplc {source.version}", f"commit {source.commit.name}", f"time {iso(source.commit.time)}", f"kit {source.kit()}", f"program {source.state()}"]
+    lines = [
+        f"liftplc {source.version}",
+        f"commit {source.commit.name}",
+        f"time {iso(source.commit.time)}",
+        f"kit {source.kit()}",
+        f"program {source.state()}",
+    ]
     if source.build.is_proved:
         lines.append(f"sources {source.build.sources}")
-    lines += [f"{'crate of the kit' if it.is_of_kit else 'crate'} {it.name}{': ' * bool(it.uses)}{' '.join(it.uses)}" for it in source.crates]
+    lines += [
+        f"{'crate of the kit' if it.is_of_kit else 'crate'} {it.name}{': ' * bool(it.uses)}{' '.join(it.uses)}"
+        for it in source.crates
+    ]
     paths = sorted([*tree, MANIFEST])
     lines += [f"file {sha256(it.data)}  {path}" for path, it in sorted(tree.items()) if isinstance(it, File)]
     lines += [f"link {path} -> {it.target}" for path, it in sorted(tree.items()) if isinstance(it, Link)]
@@ -61,14 +70,28 @@ def spdx_id(kind: str, name: str) -> str:
 
 
 def package(id: str, name: str, version: str, says: str, licence: str = "NOASSERTION") -> dict:
-    made = {"SPDXID": id, "name": name, "versionInfo": version, "sourceInfo": says, "downloadLocation": "NOASSERTION", "filesAnalyzed": False}
+    made = {
+        "SPDXID": id,
+        "name": name,
+        "versionInfo": version,
+        "sourceInfo": says,
+        "downloadLocation": "NOASSERTION",
+        "filesAnalyzed": False,
+    }
     return made | {"licenseConcluded": "NOASSERTION", "licenseDeclared": licence, "copyrightText": "NOASSERTION"}
 
 
 def spdx_file(path: str, data: bytes) -> dict:
-    sums = [{"algorithm": "SHA1", "checksumValue": hashlib.sha1(data).hexdigest()}, {"algorithm": "SHA256", "checksumValue": sha256(data)}]
+    sums = [
+        {"algorithm": "SHA1", "checksumValue": hashlib.sha1(data).hexdigest()},
+        {"algorithm": "SHA256", "checksumValue": sha256(data)},
+    ]
     made = {"SPDXID": f"SPDXRef-file-{sha256(path.encode())[:16]}", "fileName": f"./{path}", "checksums": sums}
-    return made | {"licenseConcluded": "NOASSERTION", "licenseInfoInFiles": ["NOASSERTION"], "copyrightText": "NOASSERTION"}
+    return made | {
+        "licenseConcluded": "NOASSERTION",
+        "licenseInfoInFiles": ["NOASSERTION"],
+        "copyrightText": "NOASSERTION",
+    }
 
 
 def relation(one: str, kind: str, other: str) -> dict:
@@ -91,15 +114,33 @@ def spdx(tree: Tree, source: Source) -> str:
     files = [spdx_file(path, it.data) for path, it in sorted(tree.items()) if isinstance(it, File)]
     code = hashlib.sha1("".join(sorted(it["checksums"][0]["checksumValue"] for it in files)).encode()).hexdigest()
     ids = {it.name: spdx_id("kit-crate" if it.is_of_kit else "crate", it.name) for it in source.crates}
-    release = package(main, "liftplc", source.version, f"commit {source.commit.name}; the program is {source.state()}", LICENCE) | {
+    release = package(
+        main, "liftplc", source.version, f"commit {source.commit.name}; the program is {source.state()}", LICENCE
+    ) | {
         "filesAnalyzed": True,
-        "packageVerificationCode": {"packageVerificationCodeValue": code, "packageVerificationCodeExcludedFiles": [f"./{it}" for it in (MANIFEST, SPDX)]},
+        "packageVerificationCode": {
+            "packageVerificationCodeValue": code,
+            "packageVerificationCodeExcludedFiles": [f"./{it}" for it in (MANIFEST, SPDX)],
+        },
         "licenseInfoFromFiles": ["NOASSERTION"],
     }
     is_proved = source.build.is_proved
-    kit_package = package(kit, "Rattle kit", source.kit(), "it proved and built the program" if is_proved else "which one built the program isn't known")
-    own = [package(ids[it.name], it.name, source.version, f"commit {source.commit.name}", LICENCE) for it in source.crates if not it.is_of_kit]
-    others = [package(ids[it.name], it.name, source.kit(), "a crate of the Rattle kit") for it in source.crates if it.is_of_kit]
+    kit_package = package(
+        kit,
+        "Rattle kit",
+        source.kit(),
+        "it proved and built the program" if is_proved else "which one built the program isn't known",
+    )
+    own = [
+        package(ids[it.name], it.name, source.version, f"commit {source.commit.name}", LICENCE)
+        for it in source.crates
+        if not it.is_of_kit
+    ]
+    others = [
+        package(ids[it.name], it.name, source.kit(), "a crate of the Rattle kit")
+        for it in source.crates
+        if it.is_of_kit
+    ]
     relations = [relation("SPDXRef-DOCUMENT", "DESCRIBES", main), relation(kit, "BUILD_TOOL_OF", main)]
     relations += [relation(main, "CONTAINS", it["SPDXID"]) for it in files]
     relations += [relation(main, "GENERATED_FROM", ids[it]) for it in made_from(source) if is_proved]

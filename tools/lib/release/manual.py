@@ -9,12 +9,16 @@ from typing import Iterator
 
 from lib.release.completions import COMMANDS
 
-INLINE = re.compile(r"`(?P<code>[^`]+)`|\*\*(?P<bold>.+?)\*\*|\*(?P<slanted>[^*\s][^*]*)\*|\[(?P<link>(?:`[^`]*`|[^\]])*)\]\((?P<target>[^)]*)\)")
+INLINE = re.compile(
+    r"`(?P<code>[^`]+)`|\*\*(?P<bold>.+?)\*\*|\*(?P<slanted>[^*\s][^*]*)\*|\[(?P<link>(?:`[^`]*`|[^\]])*)\]\((?P<target>[^)]*)\)"
+)
 LETTERS = {"\\": r"\e", "-": r"\-", "^": r"\(ha", "~": r"\(ti", "`": r"\(ga"}
 RENAMED = {"Statuses and standard error": "EXIT STATUS"}  # as manual pages call it
 ONLY_IN_A_CHECKOUT = ("The launcher",)  # headings of docs/COMMANDS.md, with what is below them
 SERVE_PARTS = ("Lines in", "Lines out", "The stop", "The black box", "Example", "Limits")  # of docs/SERVE.md
-SENTENCE_OF_A_CHECKOUT = re.compile(r" All commands are called here at the top of the repository;.*?`tools/shown` calls them and compares\.", re.S)
+SENTENCE_OF_A_CHECKOUT = re.compile(
+    r" All commands are called here at the top of the repository;.*?`tools/shown` calls them and compares\.", re.S
+)
 MOST_COLUMNS = 76  # of a call
 
 
@@ -56,7 +60,7 @@ def code(text: str) -> str:
 def inline(text: str) -> str:
     made, at = [], 0
     for it in INLINE.finditer(text):
-        made.append(escaped(text[at:it.start()]))
+        made.append(escaped(text[at : it.start()]))
         if it["code"]:
             made.append(rf"\fB{code(it['code'])}\fR")
         elif it["bold"]:
@@ -80,7 +84,14 @@ def own_line(text: str) -> str:
 
 def shown(lines: list[str]) -> list[str]:
     """Lines as they are."""
-    return [".PP", ".in +2n", ".EX", *(rf"\&{code(it)}" if it[:1] in (".", "'") else code(it) for it in lines), ".EE", ".in"]
+    return [
+        ".PP",
+        ".in +2n",
+        ".EX",
+        *(rf"\&{code(it)}" if it[:1] in (".", "'") else code(it) for it in lines),
+        ".EE",
+        ".in",
+    ]
 
 
 def item(tag: str, cells: list[str]) -> list[str]:
@@ -199,7 +210,11 @@ def synopsis(rows: list[str]) -> list[str]:
     """A line each; what is typed as it is stands bold, what is replaced in italics."""
     made: list[str] = []
     for row in rows:
-        words = re.sub(r"(?<![\w-])(--?[\w-]+|liftplc|[a-z]\w*)|([A-Z][A-Z:]*)", lambda it: rf"\fB{escaped(it[1])}\fR" if it[1] else rf"\fI{it[2]}\fR", row)
+        words = re.sub(
+            r"(?<![\w-])(--?[\w-]+|liftplc|[a-z]\w*)|([A-Z][A-Z:]*)",
+            lambda it: rf"\fB{escaped(it[1])}\fR" if it[1] else rf"\fI{it[2]}\fR",
+            row,
+        )
         made += [".br", words] if made else [words]
     return made
 
@@ -214,7 +229,11 @@ def commands_page(text: str, version: str, date: str) -> str:
     intro, found = SENTENCE_OF_A_CHECKOUT.subn("", "\n".join(first.lines))
     missing = {*RENAMED, *(it.name for it in COMMANDS if it.name != "help")} - {it.title for it in parts}
     if missing or not found:
-        raise NoPage(f"docs/COMMANDS.md has no part {', '.join(sorted(missing))}" if missing else "docs/COMMANDS.md says at its top something new")
+        raise NoPage(
+            f"docs/COMMANDS.md has no part {', '.join(sorted(missing))}"
+            if missing
+            else "docs/COMMANDS.md says at its top something new"
+        )
     lines = intro.splitlines()
     rows = [cells(it) for it in lines if it.startswith("| [`") and not it.startswith("| [`help`")]
     calls = [f"liftplc {re.sub(r'^.`|`]?.*$', '', row[0])}" for row in rows]
@@ -235,7 +254,9 @@ def serve_page(text: str, version: str, date: str) -> str:
         below = next((end for end in range(at + 1, len(parts)) if parts[end].level == 2), len(parts))
         body += [line for it in parts[at:below] for line in section(it)]
     of = Page("liftplc-serve", "runs a lift group behind lines: fields in, outputs back", version, date)
-    return page(of, synopsis(["liftplc serve FILE [--from OLD] [--trace TRACE] [--sync]"]), body, documents(r"\fBliftplc\fR(1)"))
+    return page(
+        of, synopsis(["liftplc serve FILE [--from OLD] [--trace TRACE] [--sync]"]), body, documents(r"\fBliftplc\fR(1)")
+    )
 
 
 # tools

@@ -71,7 +71,9 @@ def called(*words: str) -> str:
     except (OSError, subprocess.SubprocessError) as why:
         raise Trouble(3, f"{words[0]}: {why}") from why
     if done.returncode:
-        raise Trouble(3, f"{' '.join(words[:2])}: {(done.stderr.strip() or f'status {done.returncode}').splitlines()[-1]}")
+        raise Trouble(
+            3, f"{' '.join(words[:2])}: {(done.stderr.strip() or f'status {done.returncode}').splitlines()[-1]}"
+        )
     return done.stdout
 
 
@@ -83,7 +85,10 @@ def commit() -> Commit:
     name, time = called("git", "log", "-1", "--format=%H%n%ct").splitlines()
     changed = called("git", "status", "--porcelain").splitlines()
     if changed:
-        raise Trouble(3, f"the checkout isn't as it was committed: {changed[0].strip()}{f', and {len(changed) - 1} more' if changed[1:] else ''}")
+        raise Trouble(
+            3,
+            f"the checkout isn't as it was committed: {changed[0].strip()}{f', and {len(changed) - 1} more' if changed[1:] else ''}",
+        )
     given = os.environ.get("SOURCE_DATE_EPOCH", "")
     if given and not (given.isascii() and given.isdecimal()):
         raise Trouble(2, f"SOURCE_DATE_EPOCH is no number of seconds: {given!r}")
@@ -117,13 +122,24 @@ def build_folder() -> str:
 def is_proved() -> bool:
     """Whether ./liftplc takes the build for the proved program of these sources. Without the kit it makes none, and says of any other build what it is."""
     env = {it: os.environ[it] for it in ("LIFTPLC_BUILD",) if it in os.environ} | {"PATH": WITHOUT_KIT}
-    done = subprocess.run([f"{TOP}/liftplc", "--version"], cwd=TOP, env=env, stdin=subprocess.DEVNULL, capture_output=True, timeout=LONGEST)
+    done = subprocess.run(
+        [f"{TOP}/liftplc", "--version"],
+        cwd=TOP,
+        env=env,
+        stdin=subprocess.DEVNULL,
+        capture_output=True,
+        timeout=LONGEST,
+    )
     return done.returncode == 0 and not done.stderr
 
 
 def kit_here() -> str:
     """The name of the kit on the path, or nothing."""
-    return read(f"{os.path.dirname(called('rt', 'doc').splitlines()[-1])}/KIT-ID").decode().strip() if shutil.which("rt") else ""
+    return (
+        read(f"{os.path.dirname(called('rt', 'doc').splitlines()[-1])}/KIT-ID").decode().strip()
+        if shutil.which("rt")
+        else ""
+    )
 
 
 def build() -> Build:
@@ -141,7 +157,11 @@ def build() -> Build:
 
 def crates() -> list[Crate]:
     """Those of crates.txt in its order, and then those of the kit that it names."""
-    rows = [re.fullmatch(r"(\w+)(?: staticlib)?:(.*)", line) for line in text("crates.txt").splitlines() if line and not line.startswith("#")]
+    rows = [
+        re.fullmatch(r"(\w+)(?: staticlib)?:(.*)", line)
+        for line in text("crates.txt").splitlines()
+        if line and not line.startswith("#")
+    ]
     if None in rows:
         raise Trouble(3, "crates.txt has a line that is no crate")
     own = [Crate(row[1], False, tuple(row[2].split())) for row in rows if row]
