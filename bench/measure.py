@@ -80,7 +80,9 @@ class Function:
     name: str
     own: int = 0
     called: int = 0
-    callees: dict = dataclasses.field(default_factory=dict)  # what the calls of each cost, with all that was called from there
+    callees: dict = dataclasses.field(
+        default_factory=dict
+    )  # what the calls of each cost, with all that was called from there
 
     def whole(self):
         return self.own + sum(self.callees.values())

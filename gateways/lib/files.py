@@ -31,9 +31,10 @@ def there(name: str) -> list[tuple[int, str]]:
         raise NoFile(f"{name}: more than one % in a name")
     if "%" not in last:
         return []
-    before, _, after = map(re.escape, last.partition("%"))
+    before, _, after = last.partition("%")
+    numbered = re.compile(f"{re.escape(before)}([0-9]{{{DIGITS},18}}){re.escape(after)}")
     try:
-        found = [re.fullmatch(f"{before}([0-9]{{{DIGITS},18}}){after}", it) for it in os.listdir(folder or ".")]
+        found = [numbered.fullmatch(it) for it in os.listdir(folder or ".")]
     except OSError as why:
         raise NoFile(f"cannot read the folder {folder or '.'}: {why.strerror}") from why
     return [(int(it[1]), os.path.join(folder, it[0])) for it in found if it]

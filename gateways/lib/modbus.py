@@ -31,7 +31,7 @@ class Refused(FieldFault):
     """It answered an exception. The connection is in order."""
 
 
-def resolved(host: str, port: int) -> list[tuple]:
+def resolved(host: str, port: int) -> Sequence[tuple]:
     """The addresses of a name: family, type, protocol, name, address. It is asked once, since a name server may take long."""
     try:
         return socket.getaddrinfo(host, port, type=socket.SOCK_STREAM)

@@ -166,15 +166,23 @@ class Serve:
 
     def __init__(self, words: Sequence[str], watchdog: float | None = None, hears: Callable[[str], None] | None = None):
         self.watchdog, self.hears = watchdog, hears
-        self.heard, self.error, self.said = b"", b"", []  # of the output, of standard error; whole lines of that
+        self.heard, self.error = b"", b""  # of the output, of standard error
+        self.said: list[str] = []  # whole lines of standard error
         errors = subprocess.PIPE if hears else None
         # Python ignores SIGXFSZ, and so does the child then: a trace that gets too large is one that can't be written.
-        given = {"bufsize": 0, "start_new_session": True, "restore_signals": False}
         self.process = subprocess.Popen(
-            list(words), stdin=subprocess.PIPE, stdout=subprocess.PIPE, stderr=errors, **given
+            list(words),
+            bufsize=0,
+            stdin=subprocess.PIPE,
+            stdout=subprocess.PIPE,
+            stderr=errors,
+            restore_signals=False,
+            start_new_session=True,
         )
-        self.into, self.out = self.process.stdin.fileno(), self.process.stdout.fileno()
-        self.err = self.process.stderr.fileno() if hears else None
+        assert self.process.stdin and self.process.stdout  # as asked for
+        self.input = self.process.stdin
+        self.into, self.out = self.input.fileno(), self.process.stdout.fileno()
+        self.err = self.process.stderr.fileno() if self.process.stderr else None
 
     def __enter__(self) -> Serve:
         return self
@@ -281,7 +289,7 @@ class Serve:
 
     def close(self) -> int:
         """Ends the input, which ends serve; one that doesn't end in the watchdog's time is killed. The answer is its status."""
-        self.process.stdin.close()
+        self.input.close()
         with contextlib.suppress(subprocess.TimeoutExpired):
             return self.process.wait(self.watchdog)
         return self.kill()

@@ -1,7 +1,7 @@
 """The words of tools/building and tools/building-plot that say what building and what traffic, and what is wrong with words."""
 import argparse, subprocess, sys
 
-from lib.building import MINUTE, MOST_ROUNDS, Length, Plant, Scene, Trouble, rounds
+from lib.building import MOST_ROUNDS, Length, Plant, Scene, Trouble, rounds
 from lib.kinematics import Drive
 from lib.serve import NoProgram, find_program
 from lib.sizes import Sizes, sizes
