@@ -1,6 +1,6 @@
 -- The table that the code keeps has the most work of each unit, up to the greatest number.
-use Rattle.std.proofs.Common.{◌≡◌, ℕ, zero, suc, ◌+◌, ◌-◌, ◌<◌, ◌≤◌, Bool, true, false, List, [], ◌∷◌, ◌++◌, map, length, slice_get, Option, Some, None, refl, sym, ap, ◌∙◌, subst, arith, max, cond}
-use Rattle.std.specs.Prelude.{option_map, nat_lt, ap₂}
+use Rattle.std.proofs.Common.{◌≡◌, ℕ, zero, suc, ◌+◌, ◌-◌, ◌<◌, ◌≤◌, Bool, true, false, List, [], ◌∷◌, ◌++◌, map, length, slice_get, Option, Some, None, refl, sym, ap, ◌∙◌, arith, max, cond, ap₂, if◌then◌else◌}
+use Rattle.std.specs.Prelude.{option_map, nat_lt}
 use Rattle.std.proofs.lemmas.Bool.Decides.{nat_tests}
 use Rattle.std.proofs.lemmas.Option.{slice_get-map}
 use Rattle.il_spec.specs.declared.tree.Config.{Config}
@@ -10,7 +10,7 @@ use Rattle.il_spec.specs.declared.tree.Operand.{Operand}
 use Rattle.il_spec.specs.declared.tree.Condition.TheVariants.{Always, WhenTrue, WhenFalse}
 use Rattle.il_spec.specs.declared.tree.Instruction.{Instruction}
 use Rattle.il_spec.specs.declared.tree.Instruction.TheVariants.{Load, Store, Not, Operate, Defer, Evaluate, Jump, Return, Call, Invoke}
-use Rattle.il_rules.specs.Names.{Spelling, function_named, form_named, meaning, is_function}
+use Rattle.il_rules.specs.Names.{Spelling, function_named, form_named, meaning}
 use Rattle.il_rules.specs.Types.{label_place}
 use Rattle.il_run.specs.Paths as path
 use Rattle.il_run.specs.Paths.{rest_at, place_rest, rests, callee, block_unit}
@@ -77,13 +77,9 @@ invoked_agrees : (c : Config) (name : Spelling) (number : Option ℕ) (named : O
 invoked_agrees c name None named operands found is = ap (λ o. capped (1 + work.invoked_moves c o operands)) (sym found)
 invoked_agrees c name (Some k) named operands (v, is_v, stands) is =
     let size : number_at (map unit_size c.units) k ≡ unit_size v = ap number_or (slice_get-map unit_size c.units k ∙ ap (option_map unit_size) stands) in
-    let counted = function_size c v (by_truth (is_function v) (function_is_unit c name v (is ∙ is_v)).1) in
+    let counted = function_size c v (function_is_unit c name v (is ∙ is_v)).1 in
     let same : capped (1 + invoked_moves (map unit_size c.units) (Some k) (length operands)) ≡ capped (1 + (1 + length operands + length (fresh_values c v))) = omega (arith, size, counted) in
     same ∙ ap (λ o. capped (1 + work.invoked_moves c o operands)) (sym is_v)
-  where
-    by_truth : (b : Bool) → Rattle.std.specs.Prelude.IsTrue b → b ≡ true
-    by_truth true h = refl
-    by_truth false h = absurd h
 
 -- INSTRUCTIONS
 

@@ -1,5 +1,5 @@
 -- The variables that the code counts of a function are those that begin anew at its call.
-use Rattle.std.proofs.Common.{◌≡◌, ℕ, zero, suc, ◌+◌, Bool, true, false, List, [], ◌∷◌, ◌++◌, map, length, length-append, refl, sym, ap, ◌∙◌, arith, ℤ}
+use Rattle.std.proofs.Common.{◌≡◌, ℕ, zero, suc, ◌+◌, true, false, List, [], ◌∷◌, ◌++◌, map, length, length-append, refl, sym, ap, ◌∙◌, arith, ℤ}
 use Rattle.std.specs.Prelude.{pos, negsuc, nat_abs, ◌-ℤ◌, ◌+ℤ◌, ◌<ℤ◌, ◌≤ℤ◌, option_map}
 use Rattle.std.proofs.lemmas.Int.{ints}
 use Rattle.il_spec.specs.declared.tree.Config.{Config}
@@ -36,7 +36,7 @@ no_width bounds less = by_number ((bounds.upper -ℤ bounds.lower) +ℤ pos 1) (
 
 -- COUNTS WITHOUT A LIMIT
 
-size_of : Form → ℕ
+abbrev size_of : Form → ℕ
 size_of (ScalarForm scalar) = 1
 size_of (ArrayForm bounds element) = width bounds
 size_of (BlockForm name) = 0
@@ -50,7 +50,7 @@ for_names size [] = 0
 for_names size (n ∷ names) = size + for_names size names
 
 total_append : (es fs : List Entity) → total_of (es ++ fs) ≡ total_of es + total_of fs
-total_append [] fs = refl
+total_append [] fs = omega arith
 total_append (e ∷ es) fs = let more = total_append es fs in omega arith
 
 elements_long : (n : ℕ) (path : Text) (z : ℤ) (value : Value) → length (elements n path z value) ≡ n
@@ -106,8 +106,8 @@ function_size c u is = by_kind u.kind refl is
         let inputs = declared_counted 0 0 u.inputs (let z : 0 ≡ capped 0 = omega arith in z) in
         let outputs = declared_counted (with_declared 0 u.inputs) (0 + total_of (entities u.inputs)) u.outputs inputs in
         let variables = declared_counted (with_declared (with_declared 0 u.inputs) u.outputs) (0 + total_of (entities u.inputs) + total_of (entities u.outputs)) u.variables outputs in
-        let first = total_append (entities u.inputs) (entities u.outputs ++ entities u.variables) in
-        let second = total_append (entities u.outputs) (entities u.variables) in
+        let first = total_append (entities u.inputs ++ entities u.outputs) (entities u.variables) in
+        let second = total_append (entities u.inputs) (entities u.outputs) in
         variables ∙ ap capped (let s : 0 + total_of (entities u.inputs) + total_of (entities u.outputs) + total_of (entities u.variables) ≡ k = omega (arith, first, second, e) in s)
 
     by_kind : (kind : UnitKind) → u.kind ≡ kind → is_function_kind kind ≡ true → with_result u.kind (with_declared (with_declared (with_declared 0 u.inputs) u.outputs) u.variables) ≡ capped (length (fresh_values c u))

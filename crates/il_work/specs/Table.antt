@@ -1,5 +1,5 @@
 -- The table of what is left, as the code keeps it: the last place first (own rules).
-use Rattle.std.specs.Prelude.{ℕ, ◌+◌, ◌-◌, max, nat_lt, if◌then◌else◌, List, [], ◌∷◌, ◌++◌, length, slice_get, Option, Some, None}
+use Rattle.std.specs.Prelude.{ℕ, ◌+◌, ◌-◌, max, nat_lt, if◌then◌else◌, List, [], ◌∷◌, ◌++◌, length, Option, Some, None}
 use Rattle.il_spec.specs.declared.tree.Condition.TheVariants.{Always}
 use Rattle.il_verify.specs.declared.ways.Way.{Way}
 use Rattle.il_verify.specs.declared.ways.Way.TheVariants.{Next, Jump, Return}

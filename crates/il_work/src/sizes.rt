@@ -54,7 +54,7 @@ fn with_declared(total: usize, declarations: &[Declaration]) -> usize
     ensures { result ≡ with_declared total declarations.now }
 {
     let mut all = total;
-    for declaration in declarations {
+    'declarations: for declaration in declarations {
         let size = form_size(&declaration.declared.form);
         all = with_names(all, size, declaration.names.as_slice());
     }
@@ -66,7 +66,7 @@ fn with_names(total: usize, size: usize, names: &[Named]) -> usize
     ensures { result ≡ with_names total size names.now }
 {
     let mut all = total;
-    for _name in names {
+    'names: for _name in names {
         all = sum(all, size);
     }
     all

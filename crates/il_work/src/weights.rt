@@ -47,13 +47,13 @@ fn unit_weighed(
 {
     let mut all = Items::new(alloc);
     'steps: for step in unit.body.steps.as_slice() {
-        all.push(weighed(names, sizes, at, &step.instruction))?;
+        all.push(weigh(names, sizes, at, &step.instruction))?;
     }
     Ok(all)
 }
 
 // An instruction.
-fn weighed(names: &Scoped, sizes: &Items<usize>, at: usize, instruction: &Instruction) -> Weighed
+fn weigh(names: &Scoped, sizes: &Items<usize>, at: usize, instruction: &Instruction) -> Weighed
     ensures { (unit : ProgramUnit) → slice_get names.now.units at ≡ Some unit → result
         ≡ weighed_of names.now sizes.now unit instruction.now }
 {
