@@ -1,4 +1,3 @@
-use Rattle.std.proofs.Common.{refl, arith}
 use Rattle.lift_shell.specs.Runs.{IsTextTold}
 use Rattle.lift_shell.proofs.AlsoTold.{also_next}
 use Rattle.lift_shell.proofs.told.faults_told.Goals as goal
@@ -6,4 +5,4 @@ use Rattle.lift_shell.proofs.told.faults_told.Goals as goal
 pub faults-preserved : goal.faults-preserved
 faults-preserved g c =
     let own = c.in_ok-put_fault.ensures in
-    also_next (IsTextTold (g.C.Commands.reasons c.args.commands.now) c.args.explained c.args.request c.args.text.now) c.args.faults.now c.faults.fault-index ?fault c.faults.told.items own.0 c.put_fault.new.told.items c.faults-test.true ?there own.1 own.2 c.faults.invariant
+    also_next (IsTextTold (g.C.Commands.reasons c.args.commands.now) c.args.explained c.args.request c.args.text.now) c.args.faults.now c.faults.fault-index c.fault-item.result c.faults.told.items own.0 c.put_fault.new.told.items c.faults-test.true c.fault-item.is own.1 own.2 c.faults.invariant
