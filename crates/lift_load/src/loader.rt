@@ -73,7 +73,7 @@ pub fn unbroken(alloc: Global, text: &[u8]) -> Result<Ordered, Refusal>
 }
 
 /// The configuration that a text spells. Its tokens are given up before it is verified.
-pub fn parsed(alloc: Global, text: &[u8]) -> Result<Written, Refusal>
+pub(crate) fn parsed(alloc: Global, text: &[u8]) -> Result<Written, Refusal>
     ensures only { IfOk result (SpellsOnly text.now) }
     ensures written { IfOk result IsWritten }
     ensures nested { IfOk result IsNested }

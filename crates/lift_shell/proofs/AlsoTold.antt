@@ -1,5 +1,5 @@
 -- Faults of other units, one after another.
-use Rattle.std.proofs.Common.{◌≡◌, ℕ, ◌+◌, ◌<◌, List, [], ◌∷◌, ◌++◌, take, length, get_or, refl, sym, ap, ◌∙◌, subst, append-nil, append_assoc, arith}
+use Rattle.std.proofs.Common.{◌≡◌, ℕ, ◌+◌, ◌<◌, List, [], ◌∷◌, ◌++◌, take, length, get_or, refl, sym, ap, ◌∙◌, subst, append-nil, append_assoc}
 use Rattle.std.proofs.lemmas.List.{take_more}
 use Rattle.il_spec.specs.declared.tree.Place.{Place}
 use Rattle.lift_shell.specs.declared.commands.OtherFault.{OtherFault}
@@ -13,9 +13,10 @@ module _ (IsTold : ℕ → Place → List ℕ → Type 0) where
       (here, rest ++ (also_line fault ++ own), is_here, also_last faults fault rest own are is, ap (λ l. l ++ (also_line fault ++ own)) all ∙ append_assoc (also_line f ++ here) rest (also_line fault ++ own))
 
   -- what a loop keeps
-  pub also_next : (faults : List OtherFault) (at : ℕ) (fault : OtherFault) (told own new : List ℕ) → at < length faults → fault ≡ get_or faults at fault → IsTold fault.number fault.place own → new ≡ told ++ (also_line fault ++ own)
+  pub also_next : (faults : List OtherFault) (at : ℕ) (blank : OtherFault) (told own new : List ℕ) → at < length faults → IsTold (get_or faults at blank).number (get_or faults at blank).place own → new ≡ told ++ (also_line (get_or faults at blank) ++ own)
       → AreAlsoTold IsTold (take at faults) told → AreAlsoTold IsTold (take (at + 1) faults) new
-  also_next faults at fault told own new low there is grown before =
+  also_next faults at blank told own new low is grown before =
+      let fault = get_or faults at blank in
       subst (λ l. AreAlsoTold IsTold (take (at + 1) faults) l) (sym grown)
-      (subst (λ fs. AreAlsoTold IsTold fs (told ++ (also_line fault ++ own))) (sym (take_more faults at fault low ∙ ap (λ f. take at faults ++ f ∷ []) (sym there)))
+      (subst (λ fs. AreAlsoTold IsTold fs (told ++ (also_line fault ++ own))) (sym (take_more faults at blank low))
       (also_last (take at faults) fault told own before is))

@@ -111,7 +111,7 @@ fn faults_told<C: Commands>(
 {
     let mut told = Vec::new(alloc);
     'faults: for fault in faults {
-        put_fault(alloc, request, text, commands, *fault, explained, &mut told)?;
+        put_fault(alloc, request, text, commands, fault, explained, &mut told)?;
     }
     Ok(told)
 }
@@ -122,15 +122,15 @@ fn put_fault<C: Commands>(
     request: Request<'_>,
     text: &[u8],
     commands: &C,
-    fault: OtherFault,
+    fault: &OtherFault,
     explained: bool,
     told: &mut Vec<u8>,
 ) -> Result<(), AllocError>
     ensures { OnOk result ((own : List ℕ) × IsTextTold (C.reasons commands.now) explained
-        request.entry text.now fault.number fault.place own
-        × (told.new.items ≡ told.old.items ++ (also_line fault ++ own))) }
+        request.entry text.now fault.now.number fault.now.place own
+        × (told.new.items ≡ told.old.items ++ (also_line fault.now ++ own))) }
 {
-    put_also(told, fault)?;
+    put_also(told, *fault)?;
     let own = text_told(
         alloc,
         request,
