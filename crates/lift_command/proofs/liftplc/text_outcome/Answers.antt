@@ -1,6 +1,6 @@
 use Rattle.lift_command.specs.Runs.{refused, accepted}
 use Rattle.lift_command.proofs.Running.{other_command}
-use Rattle.lift_command.proofs.liftplc.plain_outcome.Goals as goal
+use Rattle.lift_command.proofs.liftplc.text_outcome.Goals as goal
 
 pub outcome-requires : goal.outcome-requires
 outcome-requires c = other_command c.args.request c.requires
