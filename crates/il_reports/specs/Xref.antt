@@ -219,10 +219,15 @@ unfoldable pub program_line : ProgramLine → List ℕ
 program_line l =
     codes "  " ++ (l.name.name ++ (codes " line " ++ (decimal l.place.line ++ (codes ": " ++ (l.program.name ++ (codes " with " ++ (l.task.name ++ codes "\n")))))))
 
+-- its name and its line, and its unit with its task
+unfoldable pub named_members : Spelling → ℕ → List Token
+named_members name line = text_member (codes "program") name ++ number_member (codes "line") line
+
+unfoldable pub driven_members : Spelling → Spelling → List Token
+driven_members unit task = text_member (codes "unit") unit ++ text_member (codes "task") task
+
 abbrev pub program_members : ProgramLine → List Token
-program_members l =
-    text_member (codes "program") l.name.name
-    ++ (number_member (codes "line") l.place.line ++ (text_member (codes "unit") l.program.name ++ text_member (codes "task") l.task.name))
+program_members l = named_members l.name.name l.place.line ++ driven_members l.program.name l.task.name
 
 abbrev pub program_row : Form → ProgramLine → List ℕ
 program_row form l = row_in form (program_line l) (program_members l)

@@ -6,7 +6,7 @@ ghost use Rattle.base_json.specs.Objects.{line_of, list_member, object, text_mem
 ghost use Rattle.base_texts.specs.Puts.{Puts};
 ghost use Rattle.json.specs.Token.{begin_array, key};
 ghost use Rattle.il_reports.specs.Names.{declared_names, name_shown};
-ghost use Rattle.il_reports.specs.Xref.{is_there, mark, behind, parts_text, manner_word, manner_key, used_part, used_parts, lines_text, line_tokens, lines_member, declared_members, used_members, use_text, use_member, declared_line, declared_row, declared_rows, other_line, other_row, other_rows, unit_rows, unit_places_shown, place_text, places_text, place_tokens, places_member, global_text, global_member, global_line, global_row, title_row, globals_rows, program_line, program_members, program_row, programs_rows, xref_in, xref_text};
+ghost use Rattle.il_reports.specs.Xref.{is_there, mark, behind, parts_text, manner_word, manner_key, used_part, used_parts, lines_text, line_tokens, lines_member, declared_members, used_members, use_text, use_member, declared_line, declared_row, declared_rows, other_line, other_row, other_rows, unit_rows, unit_places_shown, place_text, places_text, place_tokens, places_member, global_text, global_member, global_line, global_row, title_row, globals_rows, program_line, named_members, driven_members, program_members, program_row, programs_rows, xref_in, xref_text};
 
 use crate::global_uses::{GlobalUses, UnitLines};
 use crate::names::{Declared, declared_names, name_table};
@@ -620,8 +620,24 @@ fn put_program_line(text: &mut String, line: &ProgramLine) -> Result<(), AllocEr
 fn add_program(object: &mut Object, line: &ProgramLine) -> Result<(), AllocError>
     ensures { OnOk result (object.new ≡ object.old ++ program_members line.now) }
 {
-    object.text_member("program", line.name.name.as_str())?;
-    object.number_member("line", u64::from(line.place.line))?;
-    object.text_member("unit", line.program.name.as_str())?;
-    object.text_member("task", line.task.name.as_str())
+    add_named(object, line.name.name.as_str(), line.place.line)?;
+    add_driven(object, line.program.name.as_str(), line.task.name.as_str())
+}
+
+// The name of a PROGRAM line, and its line.
+#[tactic(auto, unfolding(crate::specs::Xref::named_members))]
+fn add_named(object: &mut Object, name: &str, line: u32) -> Result<(), AllocError>
+    ensures { OnOk result (object.new ≡ object.old ++ named_members name.now line) }
+{
+    object.text_member("program", name)?;
+    object.number_member("line", u64::from(line))
+}
+
+// Its unit, and the task that runs it.
+#[tactic(auto, unfolding(crate::specs::Xref::driven_members))]
+fn add_driven(object: &mut Object, unit: &str, task: &str) -> Result<(), AllocError>
+    ensures { OnOk result (object.new ≡ object.old ++ driven_members unit.now task.now) }
+{
+    object.text_member("unit", unit)?;
+    object.text_member("task", task)
 }
