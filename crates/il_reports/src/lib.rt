@@ -1,6 +1,7 @@
 //! What is printed of a configuration by its tree: where its names are used, what it has in vain, and what the verifier knows of it.
 #![tactic(auto)]
 
+mod gathered;
 pub mod global_uses;
 mod lines;
 pub mod names;
@@ -11,7 +12,6 @@ mod range_units;
 mod range_values;
 mod range_variables;
 pub mod source;
-mod texts;
 pub mod unit_uses;
 pub mod uses;
 mod warnings;
@@ -19,4 +19,4 @@ mod xref;
 
 pub use range_units::{ranges_in, ranges_text};
 pub use warnings::warnings_text;
-pub use xref::xref_text;
+pub use xref::{xref_in, xref_text};

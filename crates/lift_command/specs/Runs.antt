@@ -1,5 +1,5 @@
 -- What a request gives of a text (own rules).
-use Rattle.std.specs.Prelude.{◌≡◌, ◌⊎◌, ℕ, Bool, true, false, List, None, Ok, Err}
+use Rattle.std.specs.Prelude.{◌≡◌, ◌⊎◌, ℕ, List, None, Ok, Err}
 use Rattle.base_json.specs.Forms.{form_of}
 use Rattle.il_spec.specs.declared.fault.Refusal.{Refusal}
 use Rattle.il_spec.specs.declared.tree.Config.{Config}
@@ -13,10 +13,7 @@ use Rattle.lift_host.specs.declared.request.Showing.TheVariants as showing
 use Rattle.lift_host.specs.declared.request.Shown.{Shown}
 use Rattle.lift_host.specs.declared.status.Fault.TheVariants as fault
 use Rattle.lift_host.specs.Messages.{fault_of}
-use Rattle.lift_json.specs.Forms.{becomes_objects}
-use Rattle.lift_json.specs.Lines.{json_text}
 use Rattle.lift_load.specs.Loading.{IsSpelled, IsUnbroken}
-use Rattle.lift_messages.specs.declared.output.Output.{Output}
 use Rattle.lift_messages.specs.Outputs.{Outcome, bytes_of, warnings_of}
 use Rattle.lift_output.specs.Outcomes.{IsProgramOutcome, AreWarned}
 use Rattle.lift_command.specs.Loaded.{IsLoaded}
@@ -35,26 +32,7 @@ IsRefusedOutcome (request.Check checked) text why outcome = outcome ≡ Err (fau
 IsRefusedOutcome (request.Rounds command asked) text why outcome = outcome ≡ Err (fault_of why)
 IsRefusedOutcome (request.Trace command traced) text why outcome = outcome ≡ Err (fault_of why)
 
--- The text is refused with the fault that the verifier names, or the request is carried out over what it has verified. With `--json` each row is an object,
--- but those of `xref`.
-pub data IsPlainOutcome (request : Request) (text : List ℕ) (trace : Reading) (outcome : Outcome) : Type 0 where
-  refused : (why : Refusal) → IsLoaded text (Err why) → IsRefusedOutcome request text why outcome → IsPlainOutcome request text trace outcome
-  accepted : (program : Program) → IsLoaded text (Ok program) → IsProgramOutcome request program text trace outcome → AreWarned request program outcome → IsPlainOutcome request text trace outcome
-
--- an output whose lines became objects, with the same warnings
-pub record IsFormed (plain formed : Output) : Type 0 where
-  pub text : bytes_of formed ≡ json_text (bytes_of plain)
-  pub warned : warnings_of formed ≡ warnings_of plain
-
--- an outcome whose lines became objects, where they should; a fault stays, and memory may be missing
-abbrev pub IsInForm : Bool → Outcome → Outcome → Type 0
-IsInForm false plain outcome = outcome ≡ plain
-IsInForm true (Ok plain) (Ok formed) = IsFormed plain formed
-IsInForm true (Ok plain) (Err why) = why ≡ fault.NoMemory
-IsInForm true (Err why) outcome = outcome ≡ Err why
-
--- What a request gives of a text, as JSON where that is asked for.
-pub record IsTextOutcome (request : Request) (text : List ℕ) (trace : Reading) (outcome : Outcome) : Type 0 where
-  pub plain : Outcome
-  pub given : IsPlainOutcome request text trace plain
-  pub formed : IsInForm (becomes_objects request) plain outcome
+-- The text is refused with the fault that the verifier names, or the request is carried out over what it has verified. With `--json` each row that is printed is an object.
+pub data IsTextOutcome (request : Request) (text : List ℕ) (trace : Reading) (outcome : Outcome) : Type 0 where
+  refused : (why : Refusal) → IsLoaded text (Err why) → IsRefusedOutcome request text why outcome → IsTextOutcome request text trace outcome
+  accepted : (program : Program) → IsLoaded text (Ok program) → IsProgramOutcome request program text trace outcome → AreWarned request program outcome → IsTextOutcome request text trace outcome

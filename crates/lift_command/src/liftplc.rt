@@ -4,7 +4,7 @@ ghost use Rattle.std.specs.Prelude.{◌≡◌, ◌≢◌, ℕ, List, Some, Ok, E
 ghost use Rattle.il_reasons.specs.Reasons.{IsReason};
 ghost use Rattle.lift_command.specs.Loaded.{IsLoaded};
 ghost use Rattle.lift_command.specs.Others.{AreOthers};
-ghost use Rattle.lift_command.specs.Runs.{IsInForm, IsKnown, IsPlainOutcome, IsRefusedOutcome, IsTextOutcome};
+ghost use Rattle.lift_command.specs.Runs.{IsKnown, IsRefusedOutcome, IsTextOutcome};
 ghost use Rattle.lift_output.specs.Outcomes.{AreWarned, IsProgramOutcome};
 ghost use Rattle.lift_shell.specs.Runs.{runs};
 
@@ -18,10 +18,8 @@ use il_spec::tree::Place;
 use lift_host::files::Reading;
 use lift_host::request::{Request, Showing, Shown, Simulating};
 use lift_host::status::Fault;
-use lift_json::form::becomes_objects;
-use lift_json::lines::json_lines;
 use lift_load::{load, unbroken};
-use lift_messages::output::{Output, Warned};
+use lift_messages::output::Output;
 use lift_output::outcome::{outcome, ran};
 use lift_shell::commands::{Commands, OtherFault};
 use std::alloc::{AllocError, Global};
@@ -46,8 +44,7 @@ impl Commands for Liftplc {
         text: &[u8],
         trace: &Reading,
     ) -> Result<Output, Fault> {
-        let plain = plain_outcome(alloc, request, text, trace);
-        in_form(alloc, becomes_objects(request), plain)
+        text_outcome(alloc, request, text, trace)
     }
 
     fn run<R: Threads + Wait + Sync>(
@@ -85,53 +82,20 @@ impl Commands for Liftplc {
     }
 }
 
-// What a request that isn't `run` gives of a text, before the lines of `xref` become objects.
-fn plain_outcome(
+// What a request that isn't `run` gives of a text.
+fn text_outcome(
     alloc: Global,
     request: Request<'_>,
     text: &[u8],
     trace: &Reading,
 ) -> Result<Output, Fault>
     requires { runs request ≡ false }
-    ensures gives { IsPlainOutcome request.entry text.now trace.now result }
+    ensures gives { IsTextOutcome request.entry text.now trace.now result }
     ensures unwritten { result ≢ Err Fault.CannotWrite }
 {
     match loaded(alloc, text) {
         Ok(verified) => outcome(alloc, request, verified, text, trace),
         Err(refusal) => refused(alloc, request, text, refusal),
-    }
-}
-
-// An outcome whose lines become objects, where they should.
-fn in_form(
-    alloc: Global,
-    becomes_objects: bool,
-    plain: Result<Output, Fault>,
-) -> Result<Output, Fault>
-    ensures formed { IsInForm becomes_objects plain result }
-    ensures unwritten { plain ≢ Err Fault.CannotWrite → result ≢ Err Fault.CannotWrite }
-{
-    if !becomes_objects {
-        return plain;
-    }
-    match plain {
-        Ok(output) => formed(alloc, output),
-        Err(fault) => Err(fault),
-    }
-}
-
-// An output whose lines become objects. A trace has none.
-fn formed(alloc: Global, output: Output) -> Result<Output, Fault>
-    ensures formed { IsInForm true (Ok output) result }
-    ensures unwritten { result ≢ Err Fault.CannotWrite }
-{
-    match output {
-        Output::Text(text) => Ok(Output::Text(json_lines(alloc, &text)?)),
-        Output::Warned(Warned { text, warnings }) => {
-            let text = json_lines(alloc, &text)?;
-            Ok(Output::Warned(Warned { text, warnings }))
-        }
-        Output::Trace(_) | Output::Ran(_) => Err(Fault::NoMemory),
     }
 }
 

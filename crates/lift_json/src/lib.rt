@@ -1,9 +1,5 @@
-//! The lines of `xref` as JSON, an object a line, and a refusal as an object.
+//! A refusal as JSON: an object in one line.
 #![tactic(auto)]
 
-pub mod form;
-pub mod lines;
 mod pieces;
-mod put;
 pub mod refusal;
-mod states;

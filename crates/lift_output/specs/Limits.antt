@@ -35,7 +35,7 @@ unfoldable pub limit_line_in : List ℕ → ℕ → ℕ → List ℕ → List �
 limit_line_in name used most holder = limit_words name used most ++ (codes " in " ++ (holder ++ codes "\n"))
 
 -- the members of both
-abbrev pub limit_members : List ℕ → ℕ → ℕ → List Token
+unfoldable pub limit_members : List ℕ → ℕ → ℕ → List Token
 limit_members name used most = text_member (codes "limit") name ++ (number_member (codes "used") used ++ number_member (codes "of") most)
 
 abbrev pub limit_members_in : List ℕ → ℕ → ℕ → List ℕ → List Token

@@ -27,19 +27,25 @@ unit_text ranged u = codes "unit " ++ (u.name ++ (codes " cost " ++ (decimal u.c
 -- AS OBJECTS
 
 -- A task's members.
+unfoldable pub timing_members : TaskLine → List Token
+timing_members t = text_member (codes "task") t.name ++ integer_member (codes "interval") t.interval
+
+unfoldable pub program_members : TaskLine → List Token
+program_members t = integer_member (codes "priority") t.priority ++ text_member (codes "program") t.program
+
 abbrev pub task_members : TaskLine → List Token
-task_members t =
-    text_member (codes "task") t.name
-    ++ (integer_member (codes "interval") t.interval
-    ++ (integer_member (codes "priority") t.priority ++ (text_member (codes "program") t.program ++ number_member (codes "budget") t.budget)))
+task_members t = timing_members t ++ (program_members t ++ number_member (codes "budget") t.budget)
 
 -- The lines of a path, each a number.
 abbrev pub path_tokens : List ℕ → List Token
 path_tokens lines = map (λ line. number (decimal line)) lines
 
 -- A unit's members, with the lines of a path of its cost.
+unfoldable pub cost_members : UnitLine → List Token
+cost_members u = text_member (codes "unit") u.name ++ number_member (codes "cost") u.cost
+
 abbrev pub unit_members : UnitLine → List Token
-unit_members u = text_member (codes "unit") u.name ++ (number_member (codes "cost") u.cost ++ list_member (codes "path") (path_tokens u.path))
+unit_members u = cost_members u ++ list_member (codes "path") (path_tokens u.path)
 
 -- ROWS
 

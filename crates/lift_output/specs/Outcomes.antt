@@ -58,7 +58,7 @@ use Rattle.lift_spec.specs.Image.{sizes_of}
 use Rattle.lift_spec.specs.World.{World, opening}
 use Rattle.lift_trace.specs.Written.{text_of_entries}
 use Rattle.il_reports.specs.Warnings.{warnings_text}
-use Rattle.il_reports.specs.Xref.{xref_text}
+use Rattle.il_reports.specs.Xref.{xref_in}
 use Rattle.lift_watch.specs.declared.names.Watched.{Watched}
 use Rattle.lift_watch.specs.Calls.{IsLogOf}
 use Rattle.lift_watch.specs.Changes.{shown_text}
@@ -118,10 +118,10 @@ IsRangesOutcome form source c (Err fault.NoMemory) = Unit {0}
 IsRangesOutcome form source c (Err _) = ⊥
 
 -- `ranges` prints that of the program of a text, `source`, with the texts of instructions where they are asked for; `xref` prints where names are
--- declared, read, written and called, without `--json`.
+-- declared, read, written and called, in a form.
 abbrev pub IsShowOutcome : Showing → Shown → List ℕ → Program → Outcome → Type 0
 IsShowOutcome showing.Ranges asked source program = IsRangesOutcome (form_of asked.json) (shown_source asked.text source) program.config
-IsShowOutcome showing.Xref asked source program = IsPrinted (xref_text program.config)
+IsShowOutcome showing.Xref asked source program = IsPrinted (xref_in (form_of asked.json) program.config)
 
 -- WHAT DRIVES ROUNDS
 
@@ -433,7 +433,7 @@ IsToldOutcome None traced program source trace outcome = IsScanOutcome traced pr
 IsToldOutcome (Some telling) traced program source trace outcome = IsTraceOutcome telling program source trace outcome
 
 -- A verified program of a text gives what its command prints, with what was read of its other file: the trace, or the file behind `--calls`. With `--json` each
--- row is an object, but those of `xref`.
+-- row is an object.
 abbrev pub IsProgramOutcome : Request → Program → List ℕ → Reading → Outcome → Type 0
 IsProgramOutcome (request.Check checked) program source other outcome = IsCheckOutcome checked program (length source) outcome
 IsProgramOutcome (request.Show command shown) program source other outcome = IsShowOutcome command shown source program outcome

@@ -5,7 +5,7 @@ ghost use Rattle.base_json.specs.Objects.{line_of, list_member, object};
 ghost use Rattle.json.specs.Token.{begin_array, key};
 ghost use Rattle.base_texts.specs.Puts.{Puts};
 ghost use Rattle.il_machine.specs.Listing.{task_lines, unit_lines, task_shown, unit_shown};
-ghost use Rattle.lift_output.specs.Listing.{task_text, unit_text, path_shown, task_members, path_tokens, unit_members, accepted_row, task_row, unit_row, listing};
+ghost use Rattle.lift_output.specs.Listing.{task_text, unit_text, path_shown, task_members, timing_members, program_members, cost_members, path_tokens, unit_members, accepted_row, task_row, unit_row, listing};
 
 use crate::path::{put_path, put_ranged};
 use base_json::form::Form;
@@ -110,11 +110,27 @@ fn put_task_object(alloc: Global, text: &mut String, task: TaskInfo<'_>) -> Resu
 fn add_task(object: &mut Object, task: TaskInfo<'_>) -> Result<(), AllocError>
     ensures { OnOk result (object.new ≡ object.old ++ task_members (task_shown task.entry)) }
 {
-    object.text_member("task", task.name)?;
-    object.integer_member("interval", i128::from(task.interval))?;
-    object.integer_member("priority", i128::from(task.priority))?;
-    object.text_member("program", task.program)?;
+    add_timing(object, task)?;
+    add_program(object, task)?;
     object.number_member("budget", u64::from(task.budget))
+}
+
+// The name and the interval of a task.
+#[tactic(auto, unfolding(crate::specs::Listing::timing_members))]
+fn add_timing(object: &mut Object, task: TaskInfo<'_>) -> Result<(), AllocError>
+    ensures { OnOk result (object.new ≡ object.old ++ timing_members (task_shown task.entry)) }
+{
+    object.text_member("task", task.name)?;
+    object.integer_member("interval", i128::from(task.interval))
+}
+
+// Its priority, and the name on its PROGRAM line.
+#[tactic(auto, unfolding(crate::specs::Listing::program_members))]
+fn add_program(object: &mut Object, task: TaskInfo<'_>) -> Result<(), AllocError>
+    ensures { OnOk result (object.new ≡ object.old ++ program_members (task_shown task.entry)) }
+{
+    object.integer_member("priority", i128::from(task.priority))?;
+    object.text_member("program", task.program)
 }
 
 fn put_unit(
@@ -165,9 +181,17 @@ fn put_unit_object(alloc: Global, text: &mut String, unit: UnitInfo<'_>) -> Resu
 fn add_unit(object: &mut Object, unit: UnitInfo<'_>) -> Result<(), AllocError>
     ensures { OnOk result (object.new ≡ object.old ++ unit_members (unit_shown unit.entry)) }
 {
-    object.text_member("unit", unit.name)?;
-    object.number_member("cost", u64::from(unit.cost))?;
+    add_cost(object, unit)?;
     add_path(object, unit.path)
+}
+
+// The name and the cost of a unit.
+#[tactic(auto, unfolding(crate::specs::Listing::cost_members))]
+fn add_cost(object: &mut Object, unit: UnitInfo<'_>) -> Result<(), AllocError>
+    ensures { OnOk result (object.new ≡ object.old ++ cost_members (unit_shown unit.entry)) }
+{
+    object.text_member("unit", unit.name)?;
+    object.number_member("cost", u64::from(unit.cost))
 }
 
 // The list of the lines of a path.

@@ -158,6 +158,7 @@ fn put_limit_line(text: &mut String, name: &str, used: usize, most: usize) -> Re
     text.push_str("\n")
 }
 
+#[tactic(auto, unfolding(crate::specs::Limits::limit_members))]
 fn add_limit(object: &mut Object, name: &str, used: usize, most: usize) -> Result<(), AllocError>
     ensures { OnOk result (object.new ≡ object.old ++ limit_members name.now used most) }
 {

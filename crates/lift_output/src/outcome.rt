@@ -29,7 +29,7 @@ use crate::span::span_of;
 use crate::telling::Telling;
 use base_json::form::Form;
 use il_machine::Verified;
-use il_reports::{ranges_in, warnings_text, xref_text};
+use il_reports::{ranges_in, warnings_text, xref_in};
 use lift_desk::DeskClosed;
 use lift_draw::{Stop, drawing};
 use lift_host::calls::{CallsFault, CallsFile, read_calls};
@@ -66,7 +66,7 @@ use std::sync::Wait;
 use std::thread::Threads;
 
 /// What a request that isn't `run` prints over the verified configuration of a text, `source`, with what was read of its trace or its file behind
-/// `--calls`, or why it prints nothing. A trace of another text is refused, 85, where it has a state (own rule). With `--json` each row is an object, but those of `xref`.
+/// `--calls`, or why it prints nothing. A trace of another text is refused, 85, where it has a state (own rule). With `--json` each row is an object.
 pub fn outcome(
     alloc: Global,
     request: Request<'_>,
@@ -199,7 +199,7 @@ fn shown(
     let form = Form::of(asked.json);
     let text = match command {
         Showing::Ranges => ranges_in(alloc, verified.names(), form, asked.text, source),
-        Showing::Xref => xref_text(alloc, verified.config()),
+        Showing::Xref => xref_in(alloc, form, verified.config()),
     };
     verified.release();
     Ok(Output::Text(text?))

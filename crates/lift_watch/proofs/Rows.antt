@@ -19,7 +19,7 @@ use Rattle.lift_spec.specs.World.{World}
 use Rattle.lift_watch.specs.declared.asked.Asked.{Asked}
 use Rattle.lift_watch.specs.declared.names.Watched.{Watched}
 use Rattle.lift_watch.specs.Asked.{nothing_asked, asked_behind, serve_in, serve_at, assign_of}
-use Rattle.lift_watch.specs.Denials.{refresh_rows, denials_rows, answers_rows}
+use Rattle.lift_watch.specs.Denials.{refresh_rows, denials_rows, answers_rows, event_members, answer_members}
 use Rattle.lift_watch.specs.Following.{denied_along, rows_along}
 use Rattle.lift_watch.specs.Values.{row_text}
 
@@ -40,6 +40,7 @@ module _ (call : Call) (fields later : Fields) (a b c : Report) (w m n o p q : W
 
 -- A serve of GROUP that was not done, as an object.
 stale : answers_rows Json 3 0 (record { slot = 1; ticket = None; car = 1; answer = Stale } ∷ []) ≡ line_of (begin_object ∷ key (codes "round") ∷ number (decimal 3) ∷ key (codes "by") ∷ string (codes "commit") ∷ key (codes "task") ∷ string (codes "GROUP") ∷ key (codes "slot") ∷ number (decimal 1) ∷ key (codes "answer") ∷ string (codes "stale") ∷ end_object ∷ []) ++ []
+unfolding event_members answer_members
 stale = refl
 
 -- What is asked for behind commits of a small group, computed.

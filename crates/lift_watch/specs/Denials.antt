@@ -25,15 +25,15 @@ unfoldable pub undone_text : ℕ → ℕ → ℕ → List ℕ → List ℕ
 undone_text round task slot answer = codes "round " ++ (decimal round ++ (codes " commit " ++ (task_name task ++ (codes " slot " ++ (decimal slot ++ (codes " " ++ (answer ++ codes "\n")))))))
 
 -- the round, the event and its task
-abbrev pub event_members : ℕ → List ℕ → List ℕ → List Token
+unfoldable pub event_members : ℕ → List ℕ → List ℕ → List Token
 event_members round event task = number_member (codes "round") round ++ (text_member (codes "by") event ++ text_member (codes "task") task)
 
 -- a rule, and what it says
-abbrev pub rule_members : Rule → List Token
+unfoldable pub rule_members : Rule → List Token
 rule_members rule = number_member (codes "rule") (rule_number rule) ++ text_member (codes "says") (rule_sentence rule)
 
 -- a slot, and what its tell or serve was answered
-abbrev pub answer_members : ℕ → List ℕ → List Token
+unfoldable pub answer_members : ℕ → List ℕ → List Token
 answer_members slot answer = number_member (codes "slot") slot ++ text_member (codes "answer") answer
 
 -- the members of a denial

@@ -201,6 +201,7 @@ fn put_denial_object(
 }
 
 // The round, the event and its task.
+#[tactic(auto, unfolding(crate::specs::Denials::event_members))]
 fn add_event(object: &mut Object, round: u32, event: &str, task: &str) -> Result<(), AllocError>
     ensures { OnOk result (object.new ≡ object.old ++ event_members round event.now task.now) }
 {
@@ -210,6 +211,7 @@ fn add_event(object: &mut Object, round: u32, event: &str, task: &str) -> Result
 }
 
 // A rule, and what it says.
+#[tactic(auto, unfolding(crate::specs::Denials::rule_members))]
 fn add_rule(object: &mut Object, rule: Rule) -> Result<(), AllocError>
     ensures { OnOk result (object.new ≡ object.old ++ rule_members rule) }
 {
@@ -218,6 +220,7 @@ fn add_rule(object: &mut Object, rule: Rule) -> Result<(), AllocError>
 }
 
 // A slot, and what its tell or serve was answered.
+#[tactic(auto, unfolding(crate::specs::Denials::answer_members))]
 fn add_answer(object: &mut Object, slot: u8, answer: &str) -> Result<(), AllocError>
     ensures { OnOk result (object.new ≡ object.old ++ answer_members slot answer.now) }
 {
