@@ -1,9 +1,9 @@
 -- A core of a program, by what the tasks share.
-use Rattle.std.proofs.Common.{◌≡◌, ℕ, true, Some, sym, ap, ap₂, ◌∙◌, subst, refl}
+use Rattle.std.proofs.Common.{◌≡◌, ℕ, true, Some, sym, ap, ap₂, ◌∙◌, subst}
 use Rattle.std.specs.Prelude.{is_some}
 use Rattle.il_spec.specs.declared.tree.Config.{Config}
 use Rattle.il_machine.specs.declared.store.Begin.{Begin}
-use Rattle.il_machine.specs.Standing.{IsBeginning, beginning_in}
+use Rattle.il_machine.specs.Standing.{IsBeginning, beginning_with}
 use Rattle.lift_spec.specs.World.{TaskState, task_at, beginning_of}
 use Rattle.lift_world.specs.declared.shared.Shared.{Shared}
 use Rattle.lift_world.specs.declared.shared.TaskMemory.{TaskMemory}
@@ -32,6 +32,9 @@ module _ (k : Config) (shared : Shared) (holds : HoldsShared k shared) (g : Grou
           one a b e = cc
 
       -- what its scan begins with
+      pub begins_here : (x : TaskState) → task_at g.group t ≡ Some x → beginning_with c t s.variables shared.image shared.calls.slots shared.globals ≡ beginning_of g.group x
+      begins_here x there = ap₂ beginning_of (group_here k shared g view_is c same) (task_so x there)
+
       module _ (b : Begin) (variables : b.variables.now ≡ s.variables) (globals : b.globals.now ≡ shared.globals) (image : b.image.now ≡ shared.image) (calls : b.calls.now ≡ shared.calls) where
         pub begins_well : IsBeginning c t b
         begins_well =
@@ -46,9 +49,3 @@ module _ (k : Config) (shared : Shared) (holds : HoldsShared k shared) (g : Grou
               slots = rw calls holds_here.ranges.slots;
               each = (shared.calls.last_ticket, rw calls holds_here.ranges.each_slot);
             }
-
-        pub begins_so : beginning_in c t b ≡ beginning_of (group_in c shared) (task_in c t s)
-        begins_so = rw (variables, globals, image, calls) refl
-
-        pub begins_here : (x : TaskState) → task_at g.group t ≡ Some x → beginning_in c t b ≡ beginning_of g.group x
-        begins_here x there = begins_so ∙ ap₂ beginning_of (group_here k shared g view_is c same) (task_so x there)

@@ -14,7 +14,9 @@ ghost use Rattle.lift_world.specs.Setting.{IsSeated, IsFreshAt, resting, rested,
 use crate::calling::{clear, enter_all};
 use crate::shared::{Shared, set_memory, settle_cars};
 use crate::taking::{take_fields, take_outputs};
-use il_machine::{Store, Unset, Value, Verified, finish, opening_image, set_global, variable};
+use il_machine::{
+    Begin, Store, Unset, Value, Verified, finish, opening_image, set_global, variable,
+};
 use lift_calls::book::CallBook;
 use lift_spec::calls::Slot;
 use lift_spec::hand::Hand;
@@ -235,7 +237,13 @@ impl Core {
         let Some(memory) = &self.shared.memories[usize::from(task)] else {
             unreachable!()
         };
-        store.restart(verified, task, &self.shared.beginning(memory));
+        let begin = Begin {
+            variables: &memory.variables,
+            globals: &self.shared.globals,
+            image: &self.shared.image,
+            calls: &self.shared.calls,
+        };
+        store.restart(verified, task, &begin);
     }
 
     /// A task's scan begins, in this store, and the task holds the tickets that it sees. No allocation.
@@ -273,7 +281,13 @@ impl Core {
         let Some(memory) = &self.shared.memories[usize::from(task)] else {
             unreachable!()
         };
-        store.restart_in_place(verified, task, &self.shared.beginning(memory));
+        let begin = Begin {
+            variables: &memory.variables,
+            globals: &self.shared.globals,
+            image: &self.shared.image,
+            calls: &self.shared.calls,
+        };
+        store.restart_in_place(verified, task, &begin);
         self.shared.open(task);
     }
 
@@ -315,7 +329,13 @@ impl Core {
         let Some(memory) = &self.shared.memories[usize::from(task)] else {
             unreachable!()
         };
-        store.restart_in_place(verified, task, &self.shared.beginning(memory));
+        let begin = Begin {
+            variables: &memory.variables,
+            globals: &self.shared.globals,
+            image: &self.shared.image,
+            calls: &self.shared.calls,
+        };
+        store.restart_in_place(verified, task, &begin);
         finish(verified, task, store);
         self.shared.commit_now(verified, task, store, report);
         store.holds();

@@ -16,9 +16,7 @@ ghost use Rattle.il_machine.specs.Sharing.{globals_in};
 use crate::calling::{clear, report_denials, serve, tell_all, tell_all_now, ticket_in};
 use crate::taking::{take_fields, take_outputs};
 use crate::tickets::Tickets;
-use il_machine::{
-    Begin, FirstRows, Rows, Store, Unset, Value, Verified, opening_image, set_variable,
-};
+use il_machine::{FirstRows, Rows, Store, Unset, Value, Verified, opening_image, set_variable};
 use lift_calls::book::CallBook;
 use lift_interlock::{replace, settle_car, settle_each};
 use lift_spec::image::Wishes;
@@ -253,22 +251,6 @@ impl Shared {
         ensures { option_copied result ≡ memory_at self.now task }
     {
         self.memories.as_slice().get(usize::from(task))?.as_ref()
-    }
-
-    /// What a scan of a task begins with.
-    #[inline(always)]
-    pub fn beginning<'b>(&'b self, memory: &'b TaskMemory) -> Begin<'b>
-        ensures variables { result.variables.now ≡ memory.now.variables }
-        ensures globals { result.globals.now ≡ self.now.globals }
-        ensures image { result.image.now ≡ self.now.image }
-        ensures calls { result.calls.now ≡ self.now.calls }
-    {
-        Begin {
-            variables: &memory.variables,
-            globals: &self.globals,
-            image: &self.image,
-            calls: &self.calls,
-        }
     }
 
     /// The task holds the tickets that the slots have, as its scan begins.
