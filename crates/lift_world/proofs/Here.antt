@@ -1,5 +1,5 @@
 -- A core of a program, by what the tasks share.
-use Rattle.std.proofs.Common.{◌≡◌, ℕ, true, Some, sym, ap, ap₂, ◌∙◌, subst}
+use Rattle.std.proofs.Common.{◌≡◌, ℕ, true, Some, None, sym, ap, ap₂, ◌∙◌, subst}
 use Rattle.std.specs.Prelude.{is_some}
 use Rattle.il_spec.specs.declared.tree.Config.{Config}
 use Rattle.il_machine.specs.declared.store.Begin.{Begin}
@@ -15,6 +15,9 @@ module _ (k : Config) (shared : Shared) (holds : HoldsShared k shared) (g : Grou
   -- a task that is there has a memory
   pub memory_so : (t : ℕ) → is_some (task_at g.group t) ≡ true → is_some (memory_at shared t) ≡ true
   memory_so t there = sym (task_some k shared t) ∙ ap (λ (x : GroupOf). is_some (task_at x.group t)) view_is ∙ there
+
+  pub none_so : (t : ℕ) → memory_at shared t ≡ None → task_at g.group t ≡ None
+  none_so t none = ap (λ (x : GroupOf). task_at x.group t) (sym view_is) ∙ task_is k shared t ∙ ap (task_by k t) none
 
   module _ (c : Config) (same : g.config ≡ c) where
     pub holds_here : HoldsShared c shared

@@ -12,7 +12,7 @@ ghost use Rattle.lift_world.specs.Groups.{is_open_in, CommitsOpen, ScansWhole};
 ghost use Rattle.lift_world.specs.Setting.{IsSeated, IsFreshAt, resting, rested, with_image, with_place, with_last, SetsGlobal, SetsVariable};
 
 use crate::calling::{clear, enter_all};
-use crate::shared::{Shared, set_memory, settle_cars};
+use crate::shared::{Shared, settle_cars};
 use crate::taking::{take_fields, take_outputs};
 use il_machine::{
     Begin, Store, Unset, Value, Verified, finish, opening_image, set_global, variable,
@@ -125,8 +125,10 @@ impl Core {
         ensures { result
             ≡ option_and_then (λ t. values.get t.variables path.now) (task_at self.now.group task) }
     {
-        let memory = self.shared.memory(task)?;
-        variable(&memory.variables, verified, task, path)
+        match self.shared.memory(task) {
+            Some(memory) => variable(&memory.variables, verified, task, path),
+            None => None,
+        }
     }
 
     /// The value of a global, as the last commit left it.
@@ -194,13 +196,7 @@ impl Core {
         ensures set { SetsVariable verified.now.config task self.old.group path.now value result
             self.new.group }
     {
-        set_memory(
-            &mut self.shared.memories[usize::from(task)],
-            verified,
-            task,
-            path,
-            value,
-        )
+        self.shared.set_variable(verified, task, path, value)
     }
 
     /// Every motor is still, and no door has an open command. No allocation.
