@@ -42,7 +42,7 @@ finish-requires-clause-going c =
     let config = c.args.verified.now.config in
     let at = here _ _ _ _ c.from.ensures c.index.ensures (memory_so c.self.inside.program.value.config c.self.inside.shared c.self.invariant c.args.self.now c.self.view_is c.args.task c.requires.there) ∙ c.in-Some.is in
     let own = (holds_here c.self.inside.program.value.config c.self.inside.shared c.self.invariant c.args.self.now c.self.view_is config c.requires.program).fits.memories c.args.task c.in-Some.memory at in
-    begins_going config c.args.task own.0.0 _ c.restart_in_place.new.store.state own.0.1 c.restart_in_place.ensures.begins
+    begins_going config c.args.task own.0.0 _ c.restart_in_place.new.self.state own.0.1 c.restart_in_place.ensures.begins
 
 pub commit_now-requires-clause-there : goal.commit_now-requires-clause-there
 commit_now-requires-clause-there c = memory_so c.self.inside.program.value.config c.self.inside.shared c.self.invariant c.args.self.now c.self.view_is c.args.task c.requires.there
