@@ -4,7 +4,7 @@ use Rattle.il_spec.specs.declared.tree.Config.{Config}
 use Rattle.lift_run_laws.specs.Holding.{RestsWell}
 use Rattle.lift_run_laws.specs.Runs.{IsReached}
 use Rattle.lift_world.specs.declared.stores.Opened.{Opened}
-use Rattle.lift_world.specs.Groups.{StoresFit, KeepVariables, world_by}
+use Rattle.lift_world.specs.Groups.{GroupOf, StoresFit, KeepVariables, world_by}
 use Rattle.lift_world.specs.Setting.{IsSeated, resting}
 use Rattle.lift_world.proofs.Resuming.{world_rests, resting_reached}
 use Rattle.lift_world.proofs.world.World.resume.Goals.{After-new-2}
@@ -15,10 +15,14 @@ core : (c : After-new-2) → c.in_ok-verified.opened.core ≡ c.args.core
 core c = subst (λ r. IfOk r (λ (o : Opened). o.core ≡ c.args.core)) c.in_ok-verified.ensures.ok.1 c.resumed-opened.ensures.core
 
 stores : (c : After-new-2) → StoresFit c.args.verified.config c.args.core.group.tasks c.in_ok-verified.opened.stores.items
-stores c = subst (λ r. IfOk r (λ (o : Opened). StoresFit c.args.verified.config c.args.core.group.tasks o.stores.items)) c.in_ok-verified.ensures.ok.1 c.resumed-opened.ensures.stores
+stores c =
+    subst (λ (k : GroupOf). StoresFit c.args.verified.config k.group.tasks c.in_ok-verified.opened.stores.items) (core c)
+    (subst (λ r. IfOk r (λ (o : Opened). StoresFit c.args.verified.config o.core.group.tasks o.stores.items)) c.in_ok-verified.ensures.ok.1 c.resumed-opened.ensures.stores)
 
 variables : (c : After-new-2) → KeepVariables c.args.core.group.tasks c.in_ok-verified.opened.stores.items
-variables c = subst (λ r. IfOk r (λ (o : Opened). KeepVariables c.args.core.group.tasks o.stores.items)) c.in_ok-verified.ensures.ok.1 c.resumed-opened.ensures.variables
+variables c =
+    subst (λ (k : GroupOf). KeepVariables k.group.tasks c.in_ok-verified.opened.stores.items) (core c)
+    (subst (λ r. IfOk r (λ (o : Opened). KeepVariables o.core.group.tasks o.stores.items)) c.in_ok-verified.ensures.ok.1 c.resumed-opened.ensures.variables)
 
 -- the world that it makes
 rests : (c : After-new-2) → RestsWell c.args.verified.config (resting c.args.verified.config c.args.core.group)
