@@ -1,9 +1,9 @@
 -- A core of a program, by what the tasks share.
-use Rattle.std.proofs.Common.{◌≡◌, ℕ, true, Some, sym, ap, ap₂, ◌∙◌, subst, refl}
+use Rattle.std.proofs.Common.{◌≡◌, ℕ, true, Some, None, sym, ap, ap₂, ◌∙◌, subst}
 use Rattle.std.specs.Prelude.{is_some}
 use Rattle.il_spec.specs.declared.tree.Config.{Config}
 use Rattle.il_machine.specs.declared.store.Begin.{Begin}
-use Rattle.il_machine.specs.Standing.{IsBeginning, beginning_in}
+use Rattle.il_machine.specs.Standing.{IsBeginning, beginning_with}
 use Rattle.lift_spec.specs.World.{TaskState, task_at, beginning_of}
 use Rattle.lift_world.specs.declared.shared.Shared.{Shared}
 use Rattle.lift_world.specs.declared.shared.TaskMemory.{TaskMemory}
@@ -15,6 +15,9 @@ module _ (k : Config) (shared : Shared) (holds : HoldsShared k shared) (g : Grou
   -- a task that is there has a memory
   pub memory_so : (t : ℕ) → is_some (task_at g.group t) ≡ true → is_some (memory_at shared t) ≡ true
   memory_so t there = sym (task_some k shared t) ∙ ap (λ (x : GroupOf). is_some (task_at x.group t)) view_is ∙ there
+
+  pub none_so : (t : ℕ) → memory_at shared t ≡ None → task_at g.group t ≡ None
+  none_so t none = ap (λ (x : GroupOf). task_at x.group t) (sym view_is) ∙ task_is k shared t ∙ ap (task_by k t) none
 
   module _ (c : Config) (same : g.config ≡ c) where
     pub holds_here : HoldsShared c shared
@@ -32,6 +35,9 @@ module _ (k : Config) (shared : Shared) (holds : HoldsShared k shared) (g : Grou
           one a b e = cc
 
       -- what its scan begins with
+      pub begins_here : (x : TaskState) → task_at g.group t ≡ Some x → beginning_with c t s.variables shared.image shared.calls.slots shared.globals ≡ beginning_of g.group x
+      begins_here x there = ap₂ beginning_of (group_here k shared g view_is c same) (task_so x there)
+
       module _ (b : Begin) (variables : b.variables.now ≡ s.variables) (globals : b.globals.now ≡ shared.globals) (image : b.image.now ≡ shared.image) (calls : b.calls.now ≡ shared.calls) where
         pub begins_well : IsBeginning c t b
         begins_well =
@@ -46,9 +52,3 @@ module _ (k : Config) (shared : Shared) (holds : HoldsShared k shared) (g : Grou
               slots = rw calls holds_here.ranges.slots;
               each = (shared.calls.last_ticket, rw calls holds_here.ranges.each_slot);
             }
-
-        pub begins_so : beginning_in c t b ≡ beginning_of (group_in c shared) (task_in c t s)
-        begins_so = rw (variables, globals, image, calls) refl
-
-        pub begins_here : (x : TaskState) → task_at g.group t ≡ Some x → beginning_in c t b ≡ beginning_of g.group x
-        begins_here x there = begins_so ∙ ap₂ beginning_of (group_here k shared g view_is c same) (task_so x there)

@@ -12,9 +12,11 @@ ghost use Rattle.lift_world.specs.Groups.{is_open_in, CommitsOpen, ScansWhole};
 ghost use Rattle.lift_world.specs.Setting.{IsSeated, IsFreshAt, resting, rested, with_image, with_place, with_last, SetsGlobal, SetsVariable};
 
 use crate::calling::{clear, enter_all};
-use crate::shared::{Shared, set_memory, settle_cars};
+use crate::shared::{Shared, settle_cars};
 use crate::taking::{take_fields, take_outputs};
-use il_machine::{Store, Unset, Value, Verified, finish, opening_image, set_global, variable};
+use il_machine::{
+    Begin, Store, Unset, Value, Verified, finish, opening_image, set_global, variable,
+};
 use lift_calls::book::CallBook;
 use lift_spec::calls::Slot;
 use lift_spec::hand::Hand;
@@ -123,8 +125,10 @@ impl Core {
         ensures { result
             ≡ option_and_then (λ t. values.get t.variables path.now) (task_at self.now.group task) }
     {
-        let memory = self.shared.memory(task)?;
-        variable(&memory.variables, verified, task, path)
+        match self.shared.memory(task) {
+            Some(memory) => variable(&memory.variables, verified, task, path),
+            None => None,
+        }
     }
 
     /// The value of a global, as the last commit left it.
@@ -192,13 +196,7 @@ impl Core {
         ensures set { SetsVariable verified.now.config task self.old.group path.now value result
             self.new.group }
     {
-        set_memory(
-            &mut self.shared.memories[usize::from(task)],
-            verified,
-            task,
-            path,
-            value,
-        )
+        self.shared.set_variable(verified, task, path, value)
     }
 
     /// Every motor is still, and no door has an open command. No allocation.
@@ -235,7 +233,13 @@ impl Core {
         let Some(memory) = &self.shared.memories[usize::from(task)] else {
             unreachable!()
         };
-        store.restart(verified, task, &self.shared.beginning(memory));
+        let begin = Begin {
+            variables: &memory.variables,
+            globals: &self.shared.globals,
+            image: &self.shared.image,
+            calls: &self.shared.calls,
+        };
+        store.restart(verified, task, &begin);
     }
 
     /// A task's scan begins, in this store, and the task holds the tickets that it sees. No allocation.
@@ -273,7 +277,13 @@ impl Core {
         let Some(memory) = &self.shared.memories[usize::from(task)] else {
             unreachable!()
         };
-        store.restart_in_place(verified, task, &self.shared.beginning(memory));
+        let begin = Begin {
+            variables: &memory.variables,
+            globals: &self.shared.globals,
+            image: &self.shared.image,
+            calls: &self.shared.calls,
+        };
+        store.restart_in_place(verified, task, &begin);
         self.shared.open(task);
     }
 
@@ -315,7 +325,13 @@ impl Core {
         let Some(memory) = &self.shared.memories[usize::from(task)] else {
             unreachable!()
         };
-        store.restart_in_place(verified, task, &self.shared.beginning(memory));
+        let begin = Begin {
+            variables: &memory.variables,
+            globals: &self.shared.globals,
+            image: &self.shared.image,
+            calls: &self.shared.calls,
+        };
+        store.restart_in_place(verified, task, &begin);
         finish(verified, task, store);
         self.shared.commit_now(verified, task, store, report);
         store.holds();

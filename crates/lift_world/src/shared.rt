@@ -10,15 +10,13 @@ ghost use Rattle.lift_spec.specs.Settle.{settled_car, settled_all, with_outputs}
 ghost use Rattle.lift_spec.specs.Snapshot.{program_of, wishes_of, written_globals};
 ghost use Rattle.lift_spec.specs.World.{InRanges, flat, opening_task, opening_tasks_from, opening_group};
 ghost use Rattle.lift_world.specs.Running.{memory_at, task_by, tasks_in, group_in, FitDeclared, SharedFits, with_memory, HasOpenScan, Commits, CommitsUnder, ClosesWith, ClosesAmong, TellsTo, CommitsTold, settled_report, wished_ticket};
-ghost use Rattle.lift_world.specs.Setting.{SetsMemory};
+ghost use Rattle.lift_world.specs.Setting.{SetsMemory, SetsAmong};
 ghost use Rattle.il_machine.specs.Sharing.{globals_in};
 
 use crate::calling::{clear, report_denials, serve, tell_all, tell_all_now, ticket_in};
 use crate::taking::{take_fields, take_outputs};
 use crate::tickets::Tickets;
-use il_machine::{
-    Begin, FirstRows, Rows, Store, Unset, Value, Verified, opening_image, set_variable,
-};
+use il_machine::{FirstRows, Rows, Store, Unset, Value, Verified, opening_image, set_variable};
 use lift_calls::book::CallBook;
 use lift_interlock::{replace, settle_car, settle_each};
 use lift_spec::image::Wishes;
@@ -103,8 +101,8 @@ fn opening_memories(
     Ok(memories)
 }
 
-/// Gives a variable of a task another value of its declared set. Otherwise nothing changes.
-pub fn set_memory(
+// Gives a variable of a task another value of its declared set. Otherwise nothing changes.
+fn set_memory(
     memory: &mut Option<TaskMemory>,
     verified: &Verified,
     task: u8,
@@ -255,20 +253,29 @@ impl Shared {
         self.memories.as_slice().get(usize::from(task))?.as_ref()
     }
 
-    /// What a scan of a task begins with.
-    #[inline(always)]
-    pub fn beginning<'b>(&'b self, memory: &'b TaskMemory) -> Begin<'b>
-        ensures variables { result.variables.now ≡ memory.now.variables }
-        ensures globals { result.globals.now ≡ self.now.globals }
-        ensures image { result.image.now ≡ self.now.image }
-        ensures calls { result.calls.now ≡ self.now.calls }
+    /// Gives a variable of a task another value of its declared set. Otherwise nothing changes.
+    pub fn set_variable(
+        &mut self,
+        verified: &Verified,
+        task: u8,
+        path: &str,
+        value: Value,
+    ) -> Result<(), Unset>
+        requires there { IsSome (memory_at self.old task) }
+        requires fits { SharedFits verified.now.config self.old }
+        ensures set { (s : MemoryOf) → memory_at self.old task ≡ Some s
+            → SetsAmong verified.now.config task self.old s path.now value result self.new }
+        ensures image { self.new.image ≡ self.old.image }
+        ensures calls { self.new.calls ≡ self.old.calls }
+        ensures globals { self.new.globals ≡ self.old.globals }
     {
-        Begin {
-            variables: &memory.variables,
-            globals: &self.globals,
-            image: &self.image,
-            calls: &self.calls,
-        }
+        set_memory(
+            &mut self.memories[usize::from(task)],
+            verified,
+            task,
+            path,
+            value,
+        )
     }
 
     /// The task holds the tickets that the slots have, as its scan begins.

@@ -1,4 +1,4 @@
-use Rattle.std.proofs.Common.{rules, ◌≡◌, true, false, ap, sym, ◌∙◌, subst}
+use Rattle.std.proofs.Common.{refl, rules, ◌≡◌, true, false, ap, sym, ◌∙◌, subst}
 use Rattle.std.specs.Prelude.{is_some}
 use Rattle.il_machine.specs.Standing.{StillHas}
 use Rattle.il_machine.proofs.Keeping.{start_has}
@@ -23,22 +23,19 @@ unreachable-requires c =
 
 pub restart-requires-clause-begin : goal.restart-requires-clause-begin
 restart-requires-clause-begin c =
-    let e = c.beginning.ensures in
     let at = here _ _ _ _ c.from.ensures c.index.ensures (memory_so c.self.inside.program.value.config c.self.inside.shared c.self.invariant c.args.self.now c.self.view_is c.args.task c.requires.there) ∙ c.in-Some.is in
-    begins_well c.self.inside.program.value.config c.self.inside.shared c.self.invariant c.args.self.now c.self.view_is c.args.verified.now.config c.requires.program c.args.task c.in-Some.memory at c.beginning.result e.variables e.globals e.image e.calls
+    begins_well c.self.inside.program.value.config c.self.inside.shared c.self.invariant c.args.self.now c.self.view_is c.args.verified.now.config c.requires.program c.args.task c.in-Some.memory at _ refl refl refl refl
 
 pub returns-clause-begins : goal.returns-clause-begins
 returns-clause-begins c = λ x there.
-    let e = c.beginning.ensures in
     let config = c.args.verified.now.config in
     let at = here _ _ _ _ c.from.ensures c.index.ensures (memory_so c.self.inside.program.value.config c.self.inside.shared c.self.invariant c.args.self.now c.self.view_is c.args.task c.requires.there) ∙ c.in-Some.is in
-    c.restart.ensures.begins ∙ ap (scan_begins config c.args.task) (begins_here c.self.inside.program.value.config c.self.inside.shared c.self.invariant c.args.self.now c.self.view_is config c.requires.program c.args.task c.in-Some.memory at c.beginning.result e.variables e.globals e.image e.calls x there)
+    c.restart.ensures.begins ∙ ap (scan_begins config c.args.task) (begins_here c.self.inside.program.value.config c.self.inside.shared c.self.invariant c.args.self.now c.self.view_is config c.requires.program c.args.task c.in-Some.memory at x there)
 
 pub returns-clause-kept : goal.returns-clause-kept
 returns-clause-kept c = λ x there.
-    let e = c.beginning.ensures in
     let config = c.args.verified.now.config in
     let at = here _ _ _ _ c.from.ensures c.index.ensures (memory_so c.self.inside.program.value.config c.self.inside.shared c.self.invariant c.args.self.now c.self.view_is c.args.task c.requires.there) ∙ c.in-Some.is in
     let own = (holds_here c.self.inside.program.value.config c.self.inside.shared c.self.invariant c.args.self.now c.self.view_is config c.requires.program).fits.memories c.args.task c.in-Some.memory at in
-    let begins = c.restart.ensures.begins ∙ ap (scan_begins config c.args.task) (begins_here c.self.inside.program.value.config c.self.inside.shared c.self.invariant c.args.self.now c.self.view_is config c.requires.program c.args.task c.in-Some.memory at c.beginning.result e.variables e.globals e.image e.calls x there) in
+    let begins = c.restart.ensures.begins ∙ ap (scan_begins config c.args.task) (begins_here c.self.inside.program.value.config c.self.inside.shared c.self.invariant c.args.self.now c.self.view_is config c.requires.program c.args.task c.in-Some.memory at x there) in
     subst (StillHas x.variables) (sym begins) (start_has config c.args.task own.0.0 own.0.1 (beginning_of c.args.self.now.group x))

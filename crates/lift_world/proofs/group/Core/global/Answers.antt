@@ -7,7 +7,7 @@ use Rattle.lift_world.proofs.Grouped.{config_here}
 use Rattle.lift_world.proofs.group.Core.global.Goals as goal
 
 pub global-requires : goal.global-requires
-global-requires c = subst (λ (k : Config). FitsGlobals k c.self.inside.shared.globals) (config_here c.self.inside.program.value.config c.self.inside.shared c.args.self.now c.self.view_is _ c.requires) c.self.invariant.fits.globals
+global-requires c = record { fits = subst (λ (k : Config). FitsGlobals k c.self.inside.shared.globals) (config_here c.self.inside.program.value.config c.self.inside.shared c.args.self.now c.self.view_is _ c.requires) c.self.invariant.fits.globals }
 
 pub returns : goal.returns
 returns c =

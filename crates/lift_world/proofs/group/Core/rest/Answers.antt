@@ -12,8 +12,8 @@ use Rattle.lift_world.proofs.Setting.{image_of, image_holds, image_group}
 use Rattle.lift_world.proofs.group.Core.rest.Goals.{After-take_outputs}
 use Rattle.lift_world.proofs.group.Core.rest.Goals as goal
 
-pub opening_image-requires : goal.opening_image-requires
-opening_image-requires c = subst (λ (s : Sizes). s.cars ≤ 8) (sym c.sizes.ensures) (sizes_fit _ c.config-config.ensures.runnable).0.1
+pub opening_image-opening-requires : goal.opening_image-opening-requires
+opening_image-opening-requires c = subst (λ (s : Sizes). s.cars ≤ 8) (sym c.sizes.ensures) (sizes_fit _ c.config-config.ensures.runnable).0.1
 
 -- there are as many outputs as cars
 outputs_are : (c : After-take_outputs) → let fields = c.self.inside.shared.image.fields in image_of fields c.take_outputs.new.outputs ≡ image_of fields (replicate (length fields.cars) opening_outputs)

@@ -1,4 +1,4 @@
-use Rattle.std.proofs.Common.{rules, ◌≡◌, true, false, map, ap, ap₂, sym, ◌∙◌, subst}
+use Rattle.std.proofs.Common.{refl, rules, ◌≡◌, true, false, map, ap, ap₂, sym, ◌∙◌, subst}
 use Rattle.std.specs.Prelude.{is_some}
 use Rattle.std.proofs.lemmas.List.{length-map}
 use Rattle.il_run.specs.State.{State}
@@ -28,22 +28,21 @@ unreachable-requires c =
 
 pub restart_in_place-requires-clause-begin : goal.restart_in_place-requires-clause-begin
 restart_in_place-requires-clause-begin c =
-    let e = c.beginning.ensures in
     let at = here _ _ _ _ c.from.ensures c.index.ensures (memory_so c.self.inside.program.value.config c.self.inside.shared c.self.invariant c.args.self.now c.self.view_is c.args.task c.requires.there) ∙ c.in-Some.is in
-    begins_well c.self.inside.program.value.config c.self.inside.shared c.self.invariant c.args.self.now c.self.view_is c.args.verified.now.config c.requires.program c.args.task c.in-Some.memory at c.beginning.result e.variables e.globals e.image e.calls
+    begins_well c.self.inside.program.value.config c.self.inside.shared c.self.invariant c.args.self.now c.self.view_is c.args.verified.now.config c.requires.program c.args.task c.in-Some.memory at _ refl refl refl refl
 
 pub restart_in_place-requires-clause-kept : goal.restart_in_place-requires-clause-kept
 restart_in_place-requires-clause-kept c =
     let config = c.args.verified.now.config in
     let at = here _ _ _ _ c.from.ensures c.index.ensures (memory_so c.self.inside.program.value.config c.self.inside.shared c.self.invariant c.args.self.now c.self.view_is c.args.task c.requires.there) ∙ c.in-Some.is in
-    rw c.beginning.ensures.variables (c.requires.kept (task_in config c.args.task c.in-Some.memory) (task_here c.self.inside.program.value.config c.self.inside.shared c.self.invariant c.args.self.now c.self.view_is config c.requires.program c.args.task c.in-Some.memory at))
+    (c.requires.kept (task_in config c.args.task c.in-Some.memory) (task_here c.self.inside.program.value.config c.self.inside.shared c.self.invariant c.args.self.now c.self.view_is config c.requires.program c.args.task c.in-Some.memory at))
 
 pub finish-requires-clause-going : goal.finish-requires-clause-going
 finish-requires-clause-going c =
     let config = c.args.verified.now.config in
     let at = here _ _ _ _ c.from.ensures c.index.ensures (memory_so c.self.inside.program.value.config c.self.inside.shared c.self.invariant c.args.self.now c.self.view_is c.args.task c.requires.there) ∙ c.in-Some.is in
     let own = (holds_here c.self.inside.program.value.config c.self.inside.shared c.self.invariant c.args.self.now c.self.view_is config c.requires.program).fits.memories c.args.task c.in-Some.memory at in
-    begins_going config c.args.task own.0.0 _ c.restart_in_place.new.store.state own.0.1 c.restart_in_place.ensures.begins
+    begins_going config c.args.task own.0.0 _ c.restart_in_place.new.self.state own.0.1 c.restart_in_place.ensures.begins
 
 pub commit_now-requires-clause-there : goal.commit_now-requires-clause-there
 commit_now-requires-clause-there c = memory_so c.self.inside.program.value.config c.self.inside.shared c.self.invariant c.args.self.now c.self.view_is c.args.task c.requires.there
@@ -69,10 +68,9 @@ invariant_of-self c =
 pub returns-clause-scan : goal.returns-clause-scan
 returns-clause-scan c = λ x there.
     let config = c.args.verified.now.config in
-    let e = c.beginning.ensures in
     let f = c.finish.ensures in
     let at = here _ _ _ _ c.from.ensures c.index.ensures (memory_so c.self.inside.program.value.config c.self.inside.shared c.self.invariant c.args.self.now c.self.view_is c.args.task c.requires.there) ∙ c.in-Some.is in
-    let begins = c.restart_in_place.ensures.begins ∙ ap (scan_begins config c.args.task) (begins_here c.self.inside.program.value.config c.self.inside.shared c.self.invariant c.args.self.now c.self.view_is config c.requires.program c.args.task c.in-Some.memory at c.beginning.result e.variables e.globals e.image e.calls x there) in
+    let begins = c.restart_in_place.ensures.begins ∙ ap (scan_begins config c.args.task) (begins_here c.self.inside.program.value.config c.self.inside.shared c.self.invariant c.args.self.now c.self.view_is config c.requires.program c.args.task c.in-Some.memory at x there) in
     let after = c.commit_now.new.self in
     let commits =
     ap₂ (λ g y. committed_group config g c.args.task y (map ticket_of g.calls.slots) c.finish.new.store.state.values) (sym (group_here c.self.inside.program.value.config c.self.inside.shared c.args.self.now c.self.view_is config c.requires.program)) (sym (task_so c.self.inside.program.value.config c.self.inside.shared c.self.invariant c.args.self.now c.self.view_is config c.requires.program c.args.task c.in-Some.memory at x there))

@@ -1,52 +1,40 @@
-use Rattle.std.proofs.Common.{rules, ap, ap₂, sym, ◌∙◌, refl, subst, slice_set}
+use Rattle.std.proofs.Common.{ap, sym, ◌∙◌, subst}
 use Rattle.std.specs.Prelude.{is_some}
 use Rattle.il_spec.specs.declared.tree.Config.{Config}
 use Rattle.lift_spec.specs.World.{Group, task_at}
-use Rattle.lift_world.specs.Running.{memory_at, HoldsShared, group_in}
+use Rattle.lift_world.specs.Groups.{GroupOf}
+use Rattle.lift_world.specs.Running.{memory_at, SharedFits, HoldsShared, group_in}
 use Rattle.lift_world.specs.Setting.{SetsTask}
-use Rattle.lift_world.proofs.Grouped.{config_here, group_here}
-use Rattle.lift_world.proofs.Here.{memory_so, holds_here}
+use Rattle.lift_world.proofs.Grouped.{config_here, group_here, task_some}
 use Rattle.lift_world.proofs.Setting.{variable_holds, variable_set}
-use Rattle.lift_world.proofs.Views.{here, some_of, within}
+use Rattle.lift_world.proofs.Views.{some_of}
 use Rattle.lift_world.proofs.group.Core.set_variable.Goals as goal
 
-pub index_mut-requires : goal.index_mut-requires
-index_mut-requires c =
-    let s = some_of _ (memory_so c.self.inside.program.value.config c.self.inside.shared c.self.invariant c.args.self.now c.self.view_is c.args.task c.requires.there) in
-    let below = within c.self.inside.shared.memories.items c.args.task s.0 s.1 in
-    search (rules, below, c.from.ensures)
+pub set_variable-requires-clause-there : goal.set_variable-requires-clause-there
+set_variable-requires-clause-there c = sym (task_some c.self.inside.program.value.config c.self.inside.shared c.args.task) ∙ ap (λ (k : GroupOf). is_some (task_at k.group c.args.task)) c.self.view_is ∙ c.requires.there
 
-pub set_memory-requires-clause-there : goal.set_memory-requires-clause-there
-set_memory-requires-clause-there c =
-    let there = memory_so c.self.inside.program.value.config c.self.inside.shared c.self.invariant c.args.self.now c.self.view_is c.args.task c.requires.there in
-    ap is_some (sym (here _ _ _ _ c.from.ensures c.index_mut.ensures.value there)) ∙ there
-
-pub set_memory-requires-clause-variables : goal.set_memory-requires-clause-variables
-set_memory-requires-clause-variables c = λ s is.
-    let there = memory_so c.self.inside.program.value.config c.self.inside.shared c.self.invariant c.args.self.now c.self.view_is c.args.task c.requires.there in
-    (holds_here c.self.inside.program.value.config c.self.inside.shared c.self.invariant c.args.self.now c.self.view_is c.args.verified.now.config c.requires.program).fits.memories c.args.task s (here _ _ _ _ c.from.ensures c.index_mut.ensures.value there ∙ is)
+pub set_variable-requires-clause-fits : goal.set_variable-requires-clause-fits
+set_variable-requires-clause-fits c = subst (λ (k : Config). SharedFits k c.self.inside.shared) (config_here c.self.inside.program.value.config c.self.inside.shared c.args.self.now c.self.view_is _ c.requires.program) c.self.invariant.fits
 
 pub invariant_of-self : goal.invariant_of-self
 invariant_of-self c =
     let config = c.args.verified.now.config in
-    let k = c.self.inside.shared in
-    let there = memory_so c.self.inside.program.value.config c.self.inside.shared c.self.invariant c.args.self.now c.self.view_is c.args.task c.requires.there in
-    let s = some_of (memory_at k c.args.task) there in
-    let set = c.set_memory.ensures s.0 (sym (here _ _ _ _ c.from.ensures c.index_mut.ensures.value there) ∙ s.1) in
-    subst (λ x. HoldsShared x _) (sym (config_here c.self.inside.program.value.config c.self.inside.shared c.args.self.now c.self.view_is config c.requires.program))
-    (variable_holds config k _ (holds_here c.self.inside.program.value.config c.self.inside.shared c.self.invariant c.args.self.now c.self.view_is config c.requires.program) c.args.task s.0 s.1 c.args.path.now c.args.value c.set_memory.result (set.0, ap₂ (slice_set k.memories.items) c.from.ensures set.1, set.2, set.3, set.4) refl refl refl)
+    let same = config_here c.self.inside.program.value.config c.self.inside.shared c.args.self.now c.self.view_is _ c.requires.program in
+    let holds = subst (λ k. HoldsShared k c.self.inside.shared) same c.self.invariant in
+    let s = some_of (memory_at c.self.inside.shared c.args.task) (sym (task_some c.self.inside.program.value.config c.self.inside.shared c.args.task) ∙ ap (λ (k : GroupOf). is_some (task_at k.group c.args.task)) c.self.view_is ∙ c.requires.there) in
+    let e = c.set_variable.ensures in
+    subst (λ k. HoldsShared k c.set_variable.new.self) (sym same)
+    (variable_holds config c.self.inside.shared c.set_variable.new.self holds c.args.task s.0 s.1 c.args.path.now c.args.value c.set_variable.result (e.set s.0 s.1) e.image e.calls e.globals)
 
 pub returns-clause-set : goal.returns-clause-set
-returns-clause-set c = λ x u at is.
+returns-clause-set c = λ x u there is.
     let config = c.args.verified.now.config in
-    let k = c.self.inside.shared in
-    let there = memory_so c.self.inside.program.value.config c.self.inside.shared c.self.invariant c.args.self.now c.self.view_is c.args.task c.requires.there in
-    let s = some_of (memory_at k c.args.task) there in
-    let set = c.set_memory.ensures s.0 (sym (here _ _ _ _ c.from.ensures c.index_mut.ensures.value there) ∙ s.1) in
-    let after = record k { memories = record { items = slice_set k.memories.items c.from.result c.set_memory.new.memory } } in
-    let path = c.args.path.now in
-    let result = c.set_memory.result in
-    subst (λ (y : Config). SetsTask config c.args.task u x c.args.self.now.group path c.args.value result (group_in y after)) (sym (config_here c.self.inside.program.value.config c.self.inside.shared c.args.self.now c.self.view_is config c.requires.program))
-    (subst (λ (g : Group). SetsTask config c.args.task u x g path c.args.value result (group_in config after)) (group_here c.self.inside.program.value.config c.self.inside.shared c.args.self.now c.self.view_is config c.requires.program)
-    (variable_set config k after (holds_here c.self.inside.program.value.config c.self.inside.shared c.self.invariant c.args.self.now c.self.view_is config c.requires.program) c.args.task s.0 s.1 path c.args.value result (set.0, ap₂ (slice_set k.memories.items) c.from.ensures set.1, set.2, set.3, set.4) refl refl refl x u
-    (ap (λ g. task_at g c.args.task) (group_here c.self.inside.program.value.config c.self.inside.shared c.args.self.now c.self.view_is config c.requires.program) ∙ at) is))
+    let here = group_here c.self.inside.program.value.config c.self.inside.shared c.args.self.now c.self.view_is config c.requires.program in
+    let same = config_here c.self.inside.program.value.config c.self.inside.shared c.args.self.now c.self.view_is _ c.requires.program in
+    let holds = subst (λ k. HoldsShared k c.self.inside.shared) same c.self.invariant in
+    let s = some_of (memory_at c.self.inside.shared c.args.task) (sym (task_some c.self.inside.program.value.config c.self.inside.shared c.args.task) ∙ ap (λ (k : GroupOf). is_some (task_at k.group c.args.task)) c.self.view_is ∙ c.requires.there) in
+    let after = c.set_variable.new.self in
+    let e = c.set_variable.ensures in
+    subst (λ (k : Config). SetsTask config c.args.task u x c.args.self.now.group c.args.path.now c.args.value c.set_variable.result (group_in k after)) (sym same)
+    (subst (λ (g : Group). SetsTask config c.args.task u x g c.args.path.now c.args.value c.set_variable.result (group_in config after)) here
+    (variable_set config c.self.inside.shared after holds c.args.task s.0 s.1 c.args.path.now c.args.value c.set_variable.result (e.set s.0 s.1) e.image e.calls e.globals x u (ap (λ g. task_at g c.args.task) here ∙ there) is))

@@ -1,4 +1,4 @@
-use Rattle.std.proofs.Common.{rules, ◌≡◌, true, false, ap, sym, ◌∙◌}
+use Rattle.std.proofs.Common.{refl, rules, ◌≡◌, true, false, ap, sym, ◌∙◌}
 use Rattle.std.specs.Prelude.{is_some}
 use Rattle.lift_spec.specs.Snapshot.{scan_begins}
 use Rattle.lift_spec.specs.World.{started_group, task_at}
@@ -24,15 +24,14 @@ unreachable-requires c =
 
 pub restart_in_place-requires-clause-begin : goal.restart_in_place-requires-clause-begin
 restart_in_place-requires-clause-begin c =
-    let e = c.beginning.ensures in
     let at = here _ _ _ _ c.from.ensures c.index.ensures (memory_so c.self.inside.program.value.config c.self.inside.shared c.self.invariant c.args.self.now c.self.view_is c.args.task c.requires.there) ∙ c.in-Some.is in
-    begins_well c.self.inside.program.value.config c.self.inside.shared c.self.invariant c.args.self.now c.self.view_is c.args.verified.now.config c.requires.program c.args.task c.in-Some.memory at c.beginning.result e.variables e.globals e.image e.calls
+    begins_well c.self.inside.program.value.config c.self.inside.shared c.self.invariant c.args.self.now c.self.view_is c.args.verified.now.config c.requires.program c.args.task c.in-Some.memory at _ refl refl refl refl
 
 pub restart_in_place-requires-clause-kept : goal.restart_in_place-requires-clause-kept
 restart_in_place-requires-clause-kept c =
     let config = c.args.verified.now.config in
     let at = here _ _ _ _ c.from.ensures c.index.ensures (memory_so c.self.inside.program.value.config c.self.inside.shared c.self.invariant c.args.self.now c.self.view_is c.args.task c.requires.there) ∙ c.in-Some.is in
-    rw c.beginning.ensures.variables (c.requires.kept (task_in config c.args.task c.in-Some.memory) (task_here c.self.inside.program.value.config c.self.inside.shared c.self.invariant c.args.self.now c.self.view_is config c.requires.program c.args.task c.in-Some.memory at))
+    (c.requires.kept (task_in config c.args.task c.in-Some.memory) (task_here c.self.inside.program.value.config c.self.inside.shared c.self.invariant c.args.self.now c.self.view_is config c.requires.program c.args.task c.in-Some.memory at))
 
 pub open-requires : goal.open-requires
 open-requires c = record { there = memory_so c.self.inside.program.value.config c.self.inside.shared c.self.invariant c.args.self.now c.self.view_is c.args.task c.requires.there }
@@ -52,7 +51,6 @@ returns-clause-group c = λ x there.
 
 pub returns-clause-begins : goal.returns-clause-begins
 returns-clause-begins c = λ x there.
-    let e = c.beginning.ensures in
     let config = c.args.verified.now.config in
     let at = here _ _ _ _ c.from.ensures c.index.ensures (memory_so c.self.inside.program.value.config c.self.inside.shared c.self.invariant c.args.self.now c.self.view_is c.args.task c.requires.there) ∙ c.in-Some.is in
-    c.restart_in_place.ensures.begins ∙ ap (scan_begins config c.args.task) (begins_here c.self.inside.program.value.config c.self.inside.shared c.self.invariant c.args.self.now c.self.view_is config c.requires.program c.args.task c.in-Some.memory at c.beginning.result e.variables e.globals e.image e.calls x there)
+    c.restart_in_place.ensures.begins ∙ ap (scan_begins config c.args.task) (begins_here c.self.inside.program.value.config c.self.inside.shared c.self.invariant c.args.self.now c.self.view_is config c.requires.program c.args.task c.in-Some.memory at x there)

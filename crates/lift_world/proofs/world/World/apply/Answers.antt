@@ -1,4 +1,4 @@
-use Rattle.std.proofs.Common.{ap, sym, ◌∙◌, arith}
+use Rattle.std.proofs.Common.{[], ◌∷◌, ap, sym, ◌∙◌, arith}
 use Rattle.lift_spec.specs.World.{happens}
 use Rattle.lift_spec.proofs.Laws.{instruction_leaves}
 use Rattle.lift_world.proofs.world.World.apply.Goals as goal
@@ -42,3 +42,21 @@ returns-in-Gather-clause-model c = rw c.in-Gather.is (c.gather.ensures.model c.a
 
 pub returns-in-Gather-clause-reports : goal.returns-in-Gather-clause-reports
 returns-in-Gather-clause-reports c = rw c.in-Gather.is (omega (arith, c.gather.ensures.plain))
+
+pub returns-in-Start-clause-well : goal.returns-in-Start-clause-well
+returns-in-Start-clause-well c = c.holds.ensures.well (c.args.event.now ∷ [])
+
+pub returns-in-Instruction-clause-well : goal.returns-in-Instruction-clause-well
+returns-in-Instruction-clause-well c = c.holds.ensures.well (c.args.event.now ∷ [])
+
+pub returns-in-Commit-clause-well : goal.returns-in-Commit-clause-well
+returns-in-Commit-clause-well c = c.holds.ensures.well (c.args.event.now ∷ [])
+
+pub returns-in-Refresh-clause-well : goal.returns-in-Refresh-clause-well
+returns-in-Refresh-clause-well c = c.holds.ensures.well (c.args.event.now ∷ [])
+
+pub returns-in-Press-clause-well : goal.returns-in-Press-clause-well
+returns-in-Press-clause-well c = c.holds.ensures.well (c.args.event.now ∷ [])
+
+pub returns-in-Gather-clause-well : goal.returns-in-Gather-clause-well
+returns-in-Gather-clause-well c = c.holds.ensures.well (c.args.event.now ∷ [])

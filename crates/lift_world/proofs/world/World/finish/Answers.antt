@@ -1,5 +1,6 @@
 use Rattle.std.proofs.Common.{rules, ap, refl, true, false}
 use Rattle.std.specs.Prelude.{is_some}
+use Rattle.lift_world.specs.Running.{instructions}
 use Rattle.lift_world.specs.Kept.{world_in}
 use Rattle.lift_world.specs.Groups.{world_by}
 use Rattle.std.specs.Prelude.{slice_set}
@@ -74,3 +75,12 @@ returns-clause-scan_only c =
     (finish_alone w.verified.config c.args.task (world_in w) (world_by w.core.group (slice_set w.stores.items c.from.result c.run_out.new.store) w.desk w.hand) c.run_out.result
     (finish_model w is c.args.task x c.run_out.result c.run_out.new.store c.from.result c.from.ensures so lent c.run_out.ensures.steps)
     (finish_refused w is c.args.task x c.run_out.result c.index_mut.result.now c.run_out.new.store c.from.result c.from.ensures so lent c.run_out.ensures.ended))
+
+pub returns-then-not-has_task-clause-well : goal.returns-then-not-has_task-clause-well
+returns-then-not-has_task-clause-well c = λ n. c.holds.ensures.well (instructions c.args.task n)
+
+pub returns-then-not-is_open-clause-well : goal.returns-then-not-is_open-clause-well
+returns-then-not-is_open-clause-well c = λ n. c.holds.ensures.well (instructions c.args.task n)
+
+pub returns-clause-well : goal.returns-clause-well
+returns-clause-well c = λ n. c.holds.ensures.well (instructions c.args.task n)

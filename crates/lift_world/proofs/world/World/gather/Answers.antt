@@ -1,5 +1,7 @@
 use Rattle.std.proofs.Common.{◌∙◌, sym, refl}
 use Rattle.lift_spec.specs.declared.event.Event.TheVariants.{Gather}
+use Rattle.lift_spec.specs.Hands.{calls_from, mask_of}
+use Rattle.lift_spec.specs.Replies.{Gathered}
 use Rattle.lift_world.specs.Kept.{world_in}
 use Rattle.lift_world.proofs.Events.{gather_nowhere, gather_held, gather_moves}
 use Rattle.lift_world.proofs.Happening.{told, floor_fits, keeps_world}
@@ -26,7 +28,7 @@ pub invariant_of-self : goal.invariant_of-self
 invariant_of-self c =
     let w = c.self.inside in
     let is = c.self.invariant in
-    keeps_world w _ (Gather c.args.floor) _ is refl refl is.stores is.variables
+    keeps_world w _ (Gather c.args.floor) (Gathered (mask_of (calls_from c.args.floor w.desk))) is refl refl is.stores is.variables
     (rw (c.take_from.ensures.rest, c.take_from.ensures.moved)
     (gather_moves w.verified.config (world_in w) c.args.floor (told _ _ _ _ _ c.sizes.ensures c.is_floor.ensures c.if-not-is_floor.false) (sym c.has_from.ensures ∙ c.if-has_from.false)))
 

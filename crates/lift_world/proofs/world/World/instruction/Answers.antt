@@ -37,10 +37,9 @@ invariant_of-self c =
     let x = found w is c.args.task _ c.has_task.ensures c.if-not-has_task.false in
     let lent = lent_is w is c.args.task x _ _ c.from.ensures c.index_mut.ensures.value in
     let so = tickets_so w is c.args.task x _ true c.is_open.ensures c.if-not-is_open.false in
-    let over = λ over. (let e = c.advance.ensures.ended x.store lent over in (e.0, e.1 ∙ lent)) in
     let steps = c.advance.ensures.step x.store lent in
-    keeps_world w _ (Instruction c.args.task) _ is refl refl (advanced_stores w is c.args.task x c.advance.new.store c.advance.result c.from.result c.from.ensures over steps)
-    (open_variables w is c.args.task x so c.advance.new.store c.from.result c.from.ensures) (advanced w is c.args.task x c.advance.new.store c.advance.result c.from.result no_report c.from.ensures so over steps)
+    keeps_world w _ (Instruction c.args.task) _ is refl refl (advanced_stores w is c.args.task x c.advance.new.store c.advance.result c.from.result c.from.ensures (λ over. (let e = c.advance.ensures.ended x.store lent over in (e.0, e.1 ∙ lent))) steps)
+    (open_variables w is c.args.task x so c.advance.new.store c.from.result c.from.ensures) (advanced w is c.args.task x c.advance.new.store c.advance.result c.from.result no_report c.from.ensures so (λ over. (let e = c.advance.ensures.ended x.store lent over in (e.0, e.1 ∙ lent))) steps)
   where
     no_report : Report
     no_report = record { outputs = []; denials = []; answers = []; entered = [] }

@@ -1,4 +1,4 @@
-use Rattle.std.proofs.Common.{refl, sym, subst}
+use Rattle.std.proofs.Common.{[], ◌∷◌, refl, sym, subst}
 use Rattle.lift_spec.specs.Image.{sizes_of, FieldsInRange}
 use Rattle.lift_spec.specs.declared.event.Event.TheVariants.{Refresh}
 use Rattle.lift_spec.specs.Replies.{Refreshed}
@@ -31,3 +31,6 @@ pub returns-clause-model : goal.returns-clause-model
 returns-clause-model c =
     let inside = subst (λ (v : WorldOf). FieldsInRange (sizes_of v.program.config) c.args.fields.now) (sym c.self.view_is) c.requires.inside in
     rw (← c.self.view_is) (refreshed_world c.self.inside c.self.invariant c.args.fields.now inside c.refresh.new.core.group c.refresh.new.hand c.refresh.new.report c.refresh.ensures.group c.refresh.ensures.hand)
+
+pub returns-clause-well : goal.returns-clause-well
+returns-clause-well c = c.holds.ensures.well (Refresh c.args.fields.now ∷ [])

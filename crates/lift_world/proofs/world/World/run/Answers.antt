@@ -29,3 +29,6 @@ events-preserved c =
           c.events.invariant.rest
           ∙ one_more _ _ _ _ _ _ _ _ _ _ (ap (λ (p : Program). p.config) c.events.invariant.same) c.events-test.true c.event-item.is c.apply-reply.ensures.model c.push.ensures.items;
     }
+
+pub returns-clause-well : goal.returns-clause-well
+returns-clause-well c = c.holds.ensures.well c.args.events.now

@@ -2,6 +2,7 @@ use Rattle.std.proofs.Common.{rules, ◌≡◌, ◌∙◌, sym, ap, refl, true, 
 use Rattle.std.specs.Prelude.{is_some}
 use Rattle.il_machine.specs.Scanning.{HasTask}
 use Rattle.lift_spec.specs.World.{scan_at}
+use Rattle.lift_world.specs.Running.{scan_events}
 use Rattle.lift_world.specs.Worlds.{WorldOf}
 use Rattle.lift_world.proofs.Happening.{store_within, lent_is, lent_of}
 use Rattle.lift_world.proofs.Whole.{the_task, kept_variables, scans, leaves}
@@ -53,3 +54,6 @@ returns-clause-scan c =
     let has = subst (λ (v : WorldOf). HasTask v.program.config c.args.task) (sym c.self.view_is) c.requires.there in
     let closed = ap (λ (v : WorldOf). scan_at v.world c.args.task) c.self.view_is ∙ c.requires.closed in
     rw (← c.self.view_is) (scans w c.self.invariant c.args.task has closed c.from.result c.from.ensures c.scan_whole.new.store c.scan_whole.new.self.group c.scan_whole.new.report c.scan_whole.ensures.scan)
+
+pub returns-clause-well : goal.returns-clause-well
+returns-clause-well c = λ n. c.holds.ensures.well (scan_events c.args.task n)
