@@ -16,7 +16,7 @@ use Rattle.std.proofs.lemmas.Bool.{cases_eq}
 use Rattle.lift_world.specs.declared.shared.TaskMemory.{TaskMemory}
 use Rattle.lift_world.specs.Running.{task_in, task_by, tasks_in}
 use Rattle.lift_world.specs.Groups.{scan_by, scans_by, world_by}
-use Rattle.lift_world.proofs.Views.{flat_of}
+use Rattle.lift_world.proofs.Views.{flat_of, within}
 
 -- a task that is there has a program
 there_is : {X : Type 0} (o : Option X) → is_some o ≡ true → (x : X) × (o ≡ Some x)
