@@ -160,11 +160,16 @@ work_rows form c = work_row form (most_of None (map (work_use c) c.units))
 -- ALL LIMITS
 
 -- of a text of so many bytes, and of its units
-unfoldable pub unit_limits : Form → Config → ℕ → List ℕ
-unit_limits form c bytes =
-    limit_row form (codes "bytes") bytes 262144
-    ++ (limit_row form (codes "units") (length c.units) 64
-    ++ (most_row form (codes "instructions") (most_of None (map (unit_use Instructions) c.units)) 4096 ++ most_row form (codes "nesting") (most_of None (map (unit_use Nesting) c.units)) 16))
+unfoldable pub text_limits : Form → Config → ℕ → List ℕ
+text_limits form c bytes = limit_row form (codes "bytes") bytes 262144 ++ limit_row form (codes "units") (length c.units) 64
+
+-- and of the bodies of its units
+unfoldable pub body_limits : Form → Config → List ℕ
+body_limits form c =
+    most_row form (codes "instructions") (most_of None (map (unit_use Instructions) c.units)) 4096 ++ most_row form (codes "nesting") (most_of None (map (unit_use Nesting) c.units)) 16
+
+abbrev pub unit_limits : Form → Config → ℕ → List ℕ
+unit_limits form c bytes = text_limits form c bytes ++ body_limits form c
 
 -- of chains, slots and costs
 unfoldable pub run_limits : Form → Program → List ℕ

@@ -31,10 +31,10 @@ unfoldable pub timing_members : TaskLine → List Token
 timing_members t = text_member (codes "task") t.name ++ integer_member (codes "interval") t.interval
 
 unfoldable pub program_members : TaskLine → List Token
-program_members t = integer_member (codes "priority") t.priority ++ text_member (codes "program") t.program
+program_members t = text_member (codes "program") t.program ++ number_member (codes "budget") t.budget
 
 abbrev pub task_members : TaskLine → List Token
-task_members t = timing_members t ++ (program_members t ++ number_member (codes "budget") t.budget)
+task_members t = timing_members t ++ (integer_member (codes "priority") t.priority ++ program_members t)
 
 -- The lines of a path, each a number.
 abbrev pub path_tokens : List ℕ → List Token

@@ -1,7 +1,7 @@
 // What `check` prints.
 
 ghost use Rattle.std.specs.Prelude.{◌≡◌, ◌++◌, ◌∷◌, [], codes, flat_map, IfOk, OnOk, string_bytes};
-ghost use Rattle.base_json.specs.Objects.{line_of, list_member, object};
+ghost use Rattle.base_json.specs.Objects.{integer_member, line_of, list_member, object};
 ghost use Rattle.json.specs.Token.{begin_array, key};
 ghost use Rattle.base_texts.specs.Puts.{Puts};
 ghost use Rattle.il_machine.specs.Listing.{task_lines, unit_lines, task_shown, unit_shown};
@@ -111,8 +111,8 @@ fn add_task(object: &mut Object, task: TaskInfo<'_>) -> Result<(), AllocError>
     ensures { OnOk result (object.new ≡ object.old ++ task_members (task_shown task.entry)) }
 {
     add_timing(object, task)?;
-    add_program(object, task)?;
-    object.number_member("budget", u64::from(task.budget))
+    add_priority(object, task)?;
+    add_program(object, task)
 }
 
 // The name and the interval of a task.
@@ -124,13 +124,20 @@ fn add_timing(object: &mut Object, task: TaskInfo<'_>) -> Result<(), AllocError>
     object.integer_member("interval", i128::from(task.interval))
 }
 
-// Its priority, and the name on its PROGRAM line.
+fn add_priority(object: &mut Object, task: TaskInfo<'_>) -> Result<(), AllocError>
+    ensures { OnOk result (object.new
+        ≡ object.old ++ integer_member (codes "priority") (task_shown task.entry).priority) }
+{
+    object.integer_member("priority", i128::from(task.priority))
+}
+
+// The name on its PROGRAM line, and its budget.
 #[tactic(auto, unfolding(crate::specs::Listing::program_members))]
 fn add_program(object: &mut Object, task: TaskInfo<'_>) -> Result<(), AllocError>
     ensures { OnOk result (object.new ≡ object.old ++ program_members (task_shown task.entry)) }
 {
-    object.integer_member("priority", i128::from(task.priority))?;
-    object.text_member("program", task.program)
+    object.text_member("program", task.program)?;
+    object.number_member("budget", u64::from(task.budget))
 }
 
 fn put_unit(

@@ -10,7 +10,7 @@ ghost use Rattle.il_order.specs.Related.{tabulate};
 ghost use Rattle.il_order.specs.Used.{uses};
 ghost use Rattle.lift_spec.specs.Image.{sizes_of};
 ghost use Rattle.lift_spec.specs.Snapshot.{program_of, task_name};
-ghost use Rattle.lift_output.specs.Limits.{chain_from, chain_through, chains, cost_use, limit_line, limit_line_in, limit_members, limit_members_in, limit_row, limit_row_in, limit_words, limits_rows, longest_chain, longest_of, run_limits, measured, most_row, most_of, slots_rows, slots_row, task_slots, unit_limits, unit_use, use_shown, with_more, work_use, work_line, work_members, work_rows};
+ghost use Rattle.lift_output.specs.Limits.{chain_from, chain_through, chains, cost_use, limit_line, limit_line_in, limit_members, limit_members_in, limit_row, limit_row_in, limit_words, limits_rows, longest_chain, longest_of, run_limits, measured, most_row, most_of, slots_rows, slots_row, task_slots, text_limits, body_limits, unit_limits, unit_use, use_shown, with_more, work_use, work_line, work_members, work_rows};
 ghost use Rattle.il_work_laws.specs.Work.{most_work};
 ghost use Rattle.il_work.specs.Sizes.{capped};
 
@@ -73,7 +73,6 @@ pub fn put_limits(
 }
 
 // Of a text of so many bytes, and of its units.
-#[tactic(auto, unfolding(crate::specs::Limits::unit_limits))]
 fn put_unit_limits(
     alloc: Global,
     text: &mut String,
@@ -83,9 +82,35 @@ fn put_unit_limits(
 ) -> Result<(), AllocError>
     ensures { OnOk result (Puts text.old text.new (unit_limits form config.now bytes)) }
 {
+    put_text_limits(alloc, text, form, config, bytes)?;
+    put_body_limits(alloc, text, form, config)
+}
+
+#[tactic(auto, unfolding(crate::specs::Limits::text_limits))]
+fn put_text_limits(
+    alloc: Global,
+    text: &mut String,
+    form: Form,
+    config: &Config,
+    bytes: usize,
+) -> Result<(), AllocError>
+    ensures { OnOk result (Puts text.old text.new (text_limits form config.now bytes)) }
+{
     let units = config.units.as_slice();
     put_limit(alloc, text, form, "bytes", bytes, MOST_BYTES)?;
-    put_limit(alloc, text, form, "units", units.len(), MOST_UNITS)?;
+    put_limit(alloc, text, form, "units", units.len(), MOST_UNITS)
+}
+
+#[tactic(auto, unfolding(crate::specs::Limits::body_limits))]
+fn put_body_limits(
+    alloc: Global,
+    text: &mut String,
+    form: Form,
+    config: &Config,
+) -> Result<(), AllocError>
+    ensures { OnOk result (Puts text.old text.new (body_limits form config.now)) }
+{
+    let units = config.units.as_slice();
     let instructions = greatest(units, Measure::Instructions);
     put_most(
         alloc,

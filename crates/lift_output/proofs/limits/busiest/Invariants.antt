@@ -5,4 +5,4 @@ use Rattle.lift_output.proofs.limits.busiest.Given as goal
 
 -- the units that are left complete the search
 abbrev pub invariant-units : goal.invariant-units
-invariant-units l = most_of (option_map use_shown l.best) (map (work_use l.config) (drop l.at l.config.units)) ≡ most_of None (map (work_use l.config) l.config.units)
+invariant-units l = most_of (option_map use_shown l.best) (map (work_use l.config) (drop l.at l.units)) ≡ most_of None (map (work_use l.config) l.units)
