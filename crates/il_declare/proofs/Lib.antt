@@ -10,3 +10,4 @@ pub mod SizeLaws
 pub mod Members
 pub mod Numbers
 pub mod AllBroken
+pub mod UnitFaults

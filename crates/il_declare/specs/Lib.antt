@@ -10,3 +10,4 @@ pub mod Taken
 pub mod Mentions
 pub mod Units
 pub mod Whole
+pub mod UnitFaults

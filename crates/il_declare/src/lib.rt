@@ -7,6 +7,7 @@ mod declared;
 mod externals;
 mod fault;
 mod mentions;
+mod per_unit;
 mod sets;
 mod sizes;
 mod taken;
@@ -24,6 +25,7 @@ pub use fault::DeclareFault;
 use il_rules::{Written, refusal};
 use il_scope::Scoped;
 use il_spec::fault::Refusal;
+pub use per_unit::{UnitFault, put_found, unit_faults};
 use std::alloc::Global;
 
 /// Checks the declarations of a configuration as a text spells it (20 to 25), and finds what its names mean.
@@ -34,6 +36,15 @@ pub fn declare(alloc: Global, written: Written) -> Result<Declared, Refusal>
     ensures refused { IfErr result (IsRefusedBy (BreaksDeclarations written)) }
 {
     let scoped = Scoped::of(alloc, written)?;
+    declare_scoped(alloc, scoped)
+}
+
+/// The same of a configuration of which it is known what its names mean.
+pub fn declare_scoped(alloc: Global, scoped: Scoped) -> Result<Declared, Refusal>
+    ensures same { IfOk result (λ d. d ≡ scoped) }
+    ensures accepted { IfOk result (λ _. HasNoFault (BreaksDeclarations scoped)) }
+    ensures refused { IfErr result (IsRefusedBy (BreaksDeclarations scoped)) }
+{
     check(alloc, &scoped)?;
     Ok(Declared::of(scoped))
 }

@@ -32,8 +32,11 @@ pub fn units_fault(alloc: Global, names: &Scoped) -> Result<Option<Found<Declare
     Ok(found)
 }
 
-// The first fault of a unit.
-fn unit_fault(alloc: Global, here: &UnitScope) -> Result<Option<Found<DeclareFault>>, AllocError>
+/// The first fault of a unit.
+pub fn unit_fault(
+    alloc: Global,
+    here: &UnitScope,
+) -> Result<Option<Found<DeclareFault>>, AllocError>
     ensures { IfOk result (λ found. IsLeast found (UnitBreaks here.now.config here.now.unit)) }
 {
     let again = again_fault(alloc, here.tree())?;

@@ -1,7 +1,7 @@
 pub mod Names
 pub mod Uses
 pub mod Xref
-pub mod Texts
+pub mod Gathered
 pub mod Lines
 pub mod Warnings
 pub mod Sources

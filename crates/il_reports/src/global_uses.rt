@@ -1,10 +1,10 @@
 // What units use of the globals, by name and manner.
 
-ghost use Rattle.std.specs.Prelude.{◌≡◌, ◌++◌, List, ℕ, IfOk, OnOk};
+ghost use Rattle.std.specs.Prelude.{◌≡◌, ◌++◌, List, ℕ, map, IfOk, OnOk};
 ghost use Rattle.std.specs.List.{list_any};
 ghost use Rattle.il_reports.specs.declared.uses.Manner.{Manner};
-ghost use Rattle.il_reports.specs.Xref.{uses_global, unit_places, global_places};
-ghost use Rattle.il_reports.specs.Lines.{line_of, AreSound, ArePushed, HavePlaces, unit_lines, places_at};
+ghost use Rattle.il_reports.specs.Xref.{uses_global, unit_places, unit_places_shown, global_places};
+ghost use Rattle.il_reports.specs.Lines.{AreSound, ArePlaced, HavePlaces, places_in, unit_lines, places_at};
 
 use crate::lines::Lines;
 use crate::names::declared_names;
@@ -12,13 +12,21 @@ use crate::unit_uses::UnitUses;
 use crate::uses::Manner;
 use il_spec::tree::Unit;
 use il_table::Table;
+use lists::Items;
 use std::alloc::{AllocError, Global};
+
+/// A unit, and the lines in which it uses a global.
+#[derive(Drop)]
+pub struct UnitLines<'c> {
+    pub unit: &'c str,
+    pub lines: Items<u32>,
+}
 
 /// Units, and the places where they use the globals that they list.
 #[derive(Drop)]
 pub struct GlobalUses<'c> {
     pub units: &'c [Unit],
-    lines: Lines,
+    lines: Lines<UnitLines<'c>>,
     ghost holds: { HavePlaces lines units.now },
 }
 
@@ -32,8 +40,8 @@ impl<'c> GlobalUses<'c> {
     }
 
     /// The units that use a global in a manner, each with the lines.
-    pub fn places(&self, manner: Manner, name: &str) -> &str
-        ensures { result.now ≡ global_places self.now.units.now name.now manner }
+    pub fn places(&self, manner: Manner, name: &str) -> &[UnitLines<'c>]
+        ensures { map unit_places_shown result.now ≡ global_places self.now.units.now name.now manner }
     {
         self.lines.of(manner, name)
     }
@@ -47,7 +55,7 @@ impl<'c> GlobalUses<'c> {
 }
 
 // The places where units use globals.
-fn places_of(alloc: Global, units: &[Unit]) -> Result<Lines, AllocError>
+fn places_of<'c>(alloc: Global, units: &'c [Unit]) -> Result<Lines<UnitLines<'c>>, AllocError>
     ensures { IfOk result (λ l. HavePlaces l units.now) }
 {
     let mut lines = Lines::new(alloc);
@@ -58,11 +66,15 @@ fn places_of(alloc: Global, units: &[Unit]) -> Result<Lines, AllocError>
 }
 
 // Adds the places of a unit.
-fn add_unit(alloc: Global, lines: &mut Lines, unit: &Unit) -> Result<(), AllocError>
+fn add_unit<'c>(
+    alloc: Global,
+    lines: &mut Lines<UnitLines<'c>>,
+    unit: &'c Unit,
+) -> Result<(), AllocError>
     requires { AreSound lines.old }
     ensures sound { OnOk result (AreSound lines.new) }
-    ensures lines { OnOk result ((name : List ℕ) (manner : Manner) → line_of lines.new name manner
-        ≡ line_of lines.old name manner ++ unit_places manner name unit.now) }
+    ensures lines { OnOk result ((name : List ℕ) (manner : Manner) → places_in lines.new name manner
+        ≡ places_in lines.old name manner ++ unit_places manner name unit.now) }
 {
     if unit.externals.as_slice().is_empty() {
         return Ok(());
@@ -72,11 +84,15 @@ fn add_unit(alloc: Global, lines: &mut Lines, unit: &Unit) -> Result<(), AllocEr
 }
 
 // Adds the places of the globals that a unit lists, of each once.
-fn add_externals(alloc: Global, lines: &mut Lines, uses: &UnitUses<'_>) -> Result<(), AllocError>
+fn add_externals<'c>(
+    alloc: Global,
+    lines: &mut Lines<UnitLines<'c>>,
+    uses: &UnitUses<'c>,
+) -> Result<(), AllocError>
     requires { AreSound lines.old }
     ensures sound { OnOk result (AreSound lines.new) }
-    ensures lines { OnOk result ((name : List ℕ) (manner : Manner) → line_of lines.new name manner
-        ≡ line_of lines.old name manner ++ unit_places manner name uses.now.unit.now) }
+    ensures lines { OnOk result ((name : List ℕ) (manner : Manner) → places_in lines.new name manner
+        ≡ places_in lines.old name manner ++ unit_places manner name uses.now.unit.now) }
 {
     let mut seen = Table::new(alloc);
     'names: for declared in declared_names(uses.unit.externals.as_slice()) {
@@ -89,16 +105,16 @@ fn add_externals(alloc: Global, lines: &mut Lines, uses: &UnitUses<'_>) -> Resul
 }
 
 // Adds the places of one global.
-fn add_external(
+fn add_external<'c>(
     alloc: Global,
-    lines: &mut Lines,
-    uses: &UnitUses<'_>,
+    lines: &mut Lines<UnitLines<'c>>,
+    uses: &UnitUses<'c>,
     name: &str,
 ) -> Result<(), AllocError>
     requires { AreSound lines.old }
     ensures sound { OnOk result (AreSound lines.new) }
     ensures lines { OnOk result ((other : List ℕ) (manner : Manner)
-        → line_of lines.new other manner ≡ line_of lines.old other manner
+        → places_in lines.new other manner ≡ places_in lines.old other manner
         ++ places_at uses.now.unit.now name.now other manner) }
 {
     add_places(alloc, lines, uses, Manner::Read, name)?;
@@ -107,22 +123,39 @@ fn add_external(
 }
 
 // Adds the places of one global in one manner.
-fn add_places(
+fn add_places<'c>(
     alloc: Global,
-    lines: &mut Lines,
-    uses: &UnitUses<'_>,
+    lines: &mut Lines<UnitLines<'c>>,
+    uses: &UnitUses<'c>,
     manner: Manner,
     name: &str,
 ) -> Result<(), AllocError>
     requires { AreSound lines.old }
     ensures sound { OnOk result (AreSound lines.new) }
-    ensures lines { OnOk result (ArePushed lines.old lines.new manner name.now
+    ensures lines { OnOk result (ArePlaced lines.old lines.new manner name.now
         (unit_lines manner name.now uses.now.unit.now)) }
 {
-    let places = uses.lines(manner, name);
-    if places.is_empty() {
+    let used = uses.lines(manner, name);
+    if used.is_empty() {
         return Ok(());
     }
-    let piece = format!(in alloc; " {}{}", uses.unit.name.name.as_str(), places)?;
-    lines.push(alloc, manner, name, piece.as_str())
+    let unit = uses.unit.name.name.as_str();
+    let places = unit_lines_of(alloc, unit, used)?;
+    lines.push(alloc, manner, name, places)
+}
+
+// A unit with the lines of a use.
+fn unit_lines_of<'c>(
+    alloc: Global,
+    unit: &'c str,
+    used: &[u32],
+) -> Result<UnitLines<'c>, AllocError>
+    ensures unit { IfOk result (λ u. u.unit.now ≡ unit.now) }
+    ensures lines { IfOk result (λ u. u.lines ≡ used.now) }
+{
+    let mut lines = Items::new(alloc);
+    'lines: for line in used {
+        lines.push(*line)?;
+    }
+    Ok(UnitLines { unit, lines })
 }

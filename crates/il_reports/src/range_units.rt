@@ -3,9 +3,10 @@
 ghost use Rattle.std.specs.Prelude.{◌≡◌, ◌++◌, ℕ, List, Some, IfOk, option_map, slice_get, string_bytes};
 ghost use Rattle.il_rules.specs.Faults.{BreaksDeclarations, Broken, Typing, HasNoFault};
 ghost use Rattle.il_reports.specs.Sources.{shown_source};
-ghost use Rattle.il_reports.specs.RangeTexts.{IsUnitShown, AreRangesShown};
+ghost use Rattle.il_reports.specs.RangeTexts.{IsUnitShown, AreRangesIn};
 
 use crate::range_lines::{Lines, put_heading, put_refused};
+use base_json::form::Form;
 use il_ranges::shown_unit;
 use il_scope::Scoped;
 use il_spec::tree::Unit;
@@ -17,6 +18,7 @@ fn unit_lines(
     names: &Scoped,
     at: usize,
     unit: &Unit,
+    form: Form,
     source: Option<&[u8]>,
     before: String,
 ) -> Result<String, AllocError>
@@ -25,27 +27,38 @@ fn unit_lines(
     requires typed { HasNoFault (Broken Typing names.now) }
     ensures { IfOk result (λ after. (one : List ℕ)
         × (string_bytes after ≡ string_bytes before ++ one)
-        × IsUnitShown (option_map (λ s. s.now) source.entry) names.now unit.now one) }
+        × IsUnitShown form (option_map (λ s. s.now) source.entry) names.now unit.now one) }
 {
     let mut text = before;
-    put_heading(&mut text, unit)?;
-    let (found, lines) = shown_unit(alloc, names, at, unit, Lines { text, source })?;
+    put_heading(alloc, &mut text, form, unit)?;
+    let lines = Lines {
+        alloc,
+        form,
+        text,
+        source,
+    };
+    let (found, lines) = shown_unit(alloc, names, at, unit, lines)?;
     let Lines { mut text, .. } = lines;
-    put_refused(&mut text, &found)?;
+    put_refused(alloc, &mut text, form, &found)?;
     Ok(text)
 }
 
 // The lines of all units, with the text of their instructions where that is to be shown.
-fn units_text(alloc: Global, names: &Scoped, source: Option<&[u8]>) -> Result<String, AllocError>
+fn units_text(
+    alloc: Global,
+    names: &Scoped,
+    form: Form,
+    source: Option<&[u8]>,
+) -> Result<String, AllocError>
     requires declared { HasNoFault (BreaksDeclarations names.now) }
     requires typed { HasNoFault (Broken Typing names.now) }
-    ensures { IfOk result (λ t. AreRangesShown (option_map (λ s. s.now) source.entry) names.now
+    ensures { IfOk result (λ t. AreRangesIn form (option_map (λ s. s.now) source.entry) names.now
         (string_bytes t)) }
 {
     let units = names.config().units.as_slice();
     let mut lines = String::new(alloc);
     'units: for at in 0..units.len() {
-        lines = unit_lines(alloc, names, at, &units[at], source, lines)?;
+        lines = unit_lines(alloc, names, at, &units[at], form, source, lines)?;
     }
     Ok(lines)
 }
@@ -54,20 +67,22 @@ fn units_text(alloc: Global, names: &Scoped, source: Option<&[u8]>) -> Result<St
 /// line for each instruction, with the range of the current result and of the variables that it names (own rule). The
 /// lines of a unit that is refused end behind the instruction that is refused. TIME is in milliseconds. `with_text` has
 /// each line show the text of its instruction, as it stands in `source`, the text of the configuration.
-pub fn ranges_text(
+/// In a form: lines, or an object for each of them. Objects have no text of an instruction.
+pub fn ranges_in(
     alloc: Global,
     names: &Scoped,
+    form: Form,
     with_text: bool,
     source: &[u8],
 ) -> Result<String, AllocError>
     requires declared { HasNoFault (BreaksDeclarations names.now) }
     requires typed { HasNoFault (Broken Typing names.now) }
-    ensures { IfOk result (λ t. AreRangesShown (shown_source with_text source.now) names.now
+    ensures { IfOk result (λ t. AreRangesIn form (shown_source with_text source.now) names.now
         (string_bytes t)) }
 {
     if with_text {
-        units_text(alloc, names, Some(source))
+        units_text(alloc, names, form, Some(source))
     } else {
-        units_text(alloc, names, None)
+        units_text(alloc, names, form, None)
     }
 }

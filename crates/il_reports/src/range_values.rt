@@ -1,13 +1,16 @@
 // Values and variables, as they are written.
 
-ghost use Rattle.std.specs.Prelude.{◌≡◌, ◌++◌, OnOk};
+ghost use Rattle.std.specs.Prelude.{◌≡◌, ◌++◌, ◌∷◌, [], codes, flat_map, map, OnOk};
+ghost use Rattle.base_json.specs.Objects.{list_member, text_member};
 ghost use Rattle.base_texts.specs.Puts.{Puts};
-ghost use Rattle.il_reports.specs.RangeLines.{type_word, range_text, result_text, variable_text, index_text, reference_text, first_text, argument_text, operands_text, arguments_text, variables_text};
+ghost use Rattle.il_reports.specs.RangeLines.{type_word, range_text, result_text, variable_text, range_members, result_tokens, variable_tokens, variable_shown};
+ghost use Rattle.json.specs.Token.{begin_array, begin_object, key};
 
+use crate::range_variables::RangedVariable;
+use base_json::object::Object;
 use il_interval::Interval;
-use il_ranges::PlaceFacts;
 use il_run::known::Known;
-use il_spec::tree::{Argument, Elementary, Index, Instruction, Operand, Reference};
+use il_spec::tree::Elementary;
 use std::alloc::AllocError;
 
 // The word of a type.
@@ -53,117 +56,111 @@ pub fn put_result(text: &mut String, found: Option<Known>) -> Result<(), AllocEr
     }
 }
 
-// `, NAME LO..HI`, where the variable has a range.
-fn put_variable(text: &mut String, known: &PlaceFacts, name: &str) -> Result<(), AllocError>
-    ensures { OnOk result (Puts text.old text.new (variable_text known.now name.now)) }
+// `, NAME LO..HI`
+fn put_variable(text: &mut String, variable: &RangedVariable<'_>) -> Result<(), AllocError>
+    ensures { OnOk result (Puts text.old text.new (variable_text (variable_shown variable.now))) }
 {
-    match known.range(name) {
-        Some(range) => {
-            text.push_str(", ")?;
-            text.push_str(name)?;
-            put_range(text, range)
+    text.push_str(", ")?;
+    text.push_str(variable.name)?;
+    put_range(text, variable.range)
+}
+
+/// `, NAME LO..HI` for each variable.
+pub fn put_variables(text: &mut String, variables: &[RangedVariable<'_>]) -> Result<(), AllocError>
+    ensures { OnOk result (Puts text.old text.new
+        (flat_map variable_text (map variable_shown variables.now))) }
+{
+    'variables: for variable in variables {
+        put_variable(text, variable)?;
+    }
+    Ok(())
+}
+
+// The members of a range.
+fn add_range(object: &mut Object, range: Interval) -> Result<(), AllocError>
+    ensures { OnOk result (object.new ≡ object.old ++ range_members range) }
+{
+    object.integer_member("from", range.lo)?;
+    object.integer_member("to", range.hi)
+}
+
+/// The type of a result and its range, or null.
+pub fn add_result(object: &mut Object, found: Option<Known>) -> Result<(), AllocError>
+    ensures { OnOk result (object.new ≡ object.old ++ key (codes "result") ∷ result_tokens found) }
+{
+    match found {
+        None => object.null_member("result"),
+        Some(Known::Flag) => {
+            begin_result(object, "BOOL")?;
+            object.end_object()
         }
-        None => Ok(()),
+        Some(Known::Ranged(elementary, range)) => {
+            begin_result(object, type_word(elementary))?;
+            add_range(object, range)?;
+            object.end_object()
+        }
     }
 }
 
-// The variable of an index.
-fn put_index(text: &mut String, known: &PlaceFacts, index: &Index) -> Result<(), AllocError>
-    ensures { OnOk result (Puts text.old text.new (index_text known.now index.now)) }
+// An object that begins with the type of a result.
+fn begin_result(object: &mut Object, word: &str) -> Result<(), AllocError>
+    ensures { OnOk result (object.new ≡ object.old
+        ++ key (codes "result") ∷ begin_object ∷ text_member (codes "type") word.now) }
 {
-    match index {
-        Index::Number(_) => Ok(()),
-        Index::Variable(name) => put_variable(text, known, name.as_str()),
-    }
+    object.key("result")?;
+    object.begin_object()?;
+    object.text_member("type", word)
 }
 
-// The variable of an operand, of an element that of its index.
-fn put_reference(
-    text: &mut String,
-    known: &PlaceFacts,
-    reference: &Reference,
-) -> Result<(), AllocError>
-    ensures { OnOk result (Puts text.old text.new (reference_text known.now reference.now)) }
+// The object of a variable.
+fn add_variable(object: &mut Object, variable: &RangedVariable<'_>) -> Result<(), AllocError>
+    ensures { OnOk result (object.new ≡ object.old
+        ++ variable_tokens (variable_shown variable.now)) }
 {
-    match reference {
-        Reference::Literal(_) => Ok(()),
-        Reference::Variable(name) => put_variable(text, known, name.as_str()),
-        Reference::Element(_, index) => put_index(text, known, index),
-        Reference::Member(_, _) => Ok(()),
-    }
+    object.begin_object()?;
+    object.text_member("name", variable.name)?;
+    add_range(object, variable.range)?;
+    object.end_object()
 }
 
-// The same of an operand that may not be there.
-fn put_first(
-    text: &mut String,
-    known: &PlaceFacts,
-    first: &Option<Operand>,
-) -> Result<(), AllocError>
-    ensures { OnOk result (Puts text.old text.new (first_text known.now first.now)) }
+// An object of each variable.
+fn add_each(object: &mut Object, variables: &[RangedVariable<'_>]) -> Result<(), AllocError>
+    ensures { OnOk result (object.new ≡ object.old
+        ++ flat_map variable_tokens (map variable_shown variables.now)) }
 {
-    match first {
-        Some(operand) => put_reference(text, known, &operand.reference),
-        None => Ok(()),
-    }
-}
-
-// Of an argument: its operand's, or the target of an output.
-fn put_argument(
-    text: &mut String,
-    known: &PlaceFacts,
-    argument: &Argument,
-) -> Result<(), AllocError>
-    ensures { OnOk result (Puts text.old text.new (argument_text known.now argument.now)) }
-{
-    match argument {
-        Argument::Input { operand, .. } => put_reference(text, known, &operand.reference),
-        Argument::Output { target, .. } => put_variable(text, known, target.name.as_str()),
-    }
-}
-
-// Of operands, in the written order.
-fn put_operands(
-    text: &mut String,
-    known: &PlaceFacts,
-    operands: &[Operand],
-) -> Result<(), AllocError>
-    ensures { OnOk result (Puts text.old text.new (operands_text known.now operands.now)) }
-{
-    'operands: for operand in operands {
-        put_reference(text, known, &operand.reference)?;
+    'variables: for variable in variables {
+        add_variable(object, variable)?;
     }
     Ok(())
 }
 
-// Of arguments, in the written order.
-fn put_arguments(
-    text: &mut String,
-    known: &PlaceFacts,
-    arguments: &[Argument],
+/// The list of variables.
+pub fn add_variables(
+    object: &mut Object,
+    variables: &[RangedVariable<'_>],
 ) -> Result<(), AllocError>
-    ensures { OnOk result (Puts text.old text.new (arguments_text known.now arguments.now)) }
+    ensures { OnOk result (object.new ≡ object.old ++ list_member (codes "variables")
+        (flat_map variable_tokens (map variable_shown variables.now))) }
 {
-    'arguments: for argument in arguments {
-        put_argument(text, known, argument)?;
-    }
-    Ok(())
+    add_list(object, "variables", variables)
 }
 
-/// The variables that an instruction names.
-pub fn put_variables(
-    text: &mut String,
-    known: &PlaceFacts,
-    instruction: &Instruction,
+fn add_list(
+    object: &mut Object,
+    name: &str,
+    variables: &[RangedVariable<'_>],
 ) -> Result<(), AllocError>
-    ensures { OnOk result (Puts text.old text.new (variables_text known.now instruction.now)) }
+    ensures { OnOk result (object.new ≡ object.old ++ list_member name.now
+        (flat_map variable_tokens (map variable_shown variables.now))) }
 {
-    match instruction {
-        Instruction::Load { operand, .. } => put_reference(text, known, &operand.reference),
-        Instruction::Store { target, .. } => put_reference(text, known, &target.reference),
-        Instruction::Operate { operand, .. } => put_reference(text, known, &operand.reference),
-        Instruction::Defer { first, .. } => put_first(text, known, first),
-        Instruction::Call { arguments, .. } => put_arguments(text, known, arguments.as_slice()),
-        Instruction::Invoke { operands, .. } => put_operands(text, known, operands.as_slice()),
-        _ => Ok(()),
-    }
+    begin_list(object, name)?;
+    add_each(object, variables)?;
+    object.end_list()
+}
+
+fn begin_list(object: &mut Object, name: &str) -> Result<(), AllocError>
+    ensures { OnOk result (object.new ≡ object.old ++ key name.now ∷ begin_array ∷ []) }
+{
+    object.key(name)?;
+    object.begin_list()
 }

@@ -15,7 +15,7 @@ use std::alloc::{AllocError, Global};
 #[derive(Drop)]
 pub struct UnitUses<'c> {
     pub unit: &'c Unit,
-    lines: Lines,
+    lines: Lines<u32>,
     ghost holds: { HaveUses lines unit.now.body.steps },
 }
 
@@ -28,8 +28,8 @@ impl<'c> UnitUses<'c> {
         Ok(UnitUses { unit, lines })
     }
 
-    /// The lines in which the body uses a name in a manner, each behind a blank.
-    pub fn lines(&self, manner: Manner, name: &str) -> &str
+    /// The lines in which the body uses a name in a manner.
+    pub fn lines(&self, manner: Manner, name: &str) -> &[u32]
         ensures { result.now ≡ use_lines self.now.unit.now.body.steps name.now manner }
     {
         self.lines.of(manner, name)
@@ -44,7 +44,7 @@ impl<'c> UnitUses<'c> {
 }
 
 // The lines in which steps use names.
-fn lines_of(alloc: Global, steps: &[Step]) -> Result<Lines, AllocError>
+fn lines_of(alloc: Global, steps: &[Step]) -> Result<Lines<u32>, AllocError>
     ensures { IfOk result (λ l. HaveUses l steps.now) }
 {
     let mut lines = Lines::new(alloc);
@@ -55,12 +55,11 @@ fn lines_of(alloc: Global, steps: &[Step]) -> Result<Lines, AllocError>
 }
 
 // Adds the line of a use.
-fn add_use(alloc: Global, lines: &mut Lines, used: &Use<'_>) -> Result<(), AllocError>
+fn add_use(alloc: Global, lines: &mut Lines<u32>, used: &Use<'_>) -> Result<(), AllocError>
     requires { AreSound lines.old }
     ensures sound { OnOk result (AreSound lines.new) }
     ensures lines { OnOk result ((name : List ℕ) (manner : Manner) → line_of lines.new name manner
         ≡ line_of lines.old name manner ++ use_line manner name (use_shown used.now)) }
 {
-    let line = format!(in alloc; " {}", used.line)?;
-    lines.push(alloc, used.manner, used.name, line.as_str())
+    lines.push(alloc, used.manner, used.name, used.line)
 }

@@ -12,7 +12,7 @@ use Rattle.il_spec.specs.declared.fault.Refusal.TheVariants.{Fault}
 use Rattle.il_rules.specs.Faults.{IsNoLater, earlier, same_place, IsRefusedBy, Typing, BreaksTypes, of_instruction, unknown_label as of_unknown_label, backward_jump, two_writers as of_two_writers, unreached as of_unreached, Broken}
 use Rattle.il_rules.specs.Least.{NumberedFault, IsLeast, earlier_of}
 use Rattle.il_rules.proofs.Least.{least_same, least_both}
-use Rattle.il_typed.specs.Faults.{BreaksAt, by_types, by_unknown_label, by_backward_jump, by_unreached, AllUnitsBreak, HasWriters, IsStoreOfTwo, HasStoreOfTwo, AnyBreaks}
+use Rattle.il_typed.specs.Faults.{BreaksAt, by_types, by_unknown_label, by_backward_jump, by_unreached, UnitBreaks, AllUnitsBreak, HasWriters, IsStoreOfTwo, HasStoreOfTwo, AnyBreaks}
 
 among : {A : Type 0} (xs : List A) (i : ℕ) (x : A) → slice_get xs i ≡ Some x → Contains xs x
 among xs i x e = (i, slice_get_within xs i x e, get_or_from_slice_get xs i x x e)
@@ -45,6 +45,10 @@ down config n p (backward_jump e (backward unit at to step label j known back is
     unit_at config unit at step n p j.written j.jumps.stands (by_backward_jump j.jumps.condition label to j.jumps.jumps known back e) is
 down config n p (of_two_writers e w) = inr (e, w)
 down config n p (of_unreached e (unreached unit at step s none is)) = unit_at config unit at step n p s.written s.stands (by_unreached none e) is
+
+-- what a unit breaks is a rule of types
+pub broken_by : (config : Config) (unit : ProgramUnit) (n : ℕ) (p : Place) → Contains config.units unit → UnitBreaks config unit n p → BreaksTypes config n p
+broken_by config unit n p (i, low, e) breaks = up config n p (inl (i, unit, low, slice_get-get_or config.units i unit low ∙ ap Some e, breaks))
 
 -- the first fault of all units, or of 38, is the first that breaks a rule of types
 pub least_types : (config : Config) (found : Option NumberedFault) → IsLeast found (AnyBreaks config) → IsLeast found (λ n p. BreaksTypes config n p)

@@ -129,7 +129,7 @@ finds_by : (c : Config) (number : Option ℕ) (named : Option ProgramUnit) → o
 finds_by c None named is there = sym is
 finds_by c (Some k) named is there = let v = there k refl in (v.0, sym is ∙ v.1, v.1)
 
-finds_function : (c : Config) (name : Spelling) → Finds c (function_number c name) (function_named c name)
+pub finds_function : (c : Config) (name : Spelling) → Finds c (function_number c name) (function_named c name)
 unfolding function_number
 finds_function c name = finds_by c (function_number c name) (function_named c name) (function_found c name) (λ k e. unit_there is_function c (unit_number c name) k e)
 
@@ -171,7 +171,7 @@ finds_form c (OfBlock name) = by_standard (standard_block name) refl
     by_standard (Some b) is = standard_is_not_own c name b is
     by_standard None is = by_own (function_block_number c name) (function_block_named c name) (finds_block c name)
 
-finds_called : (c : Config) (m : Option Meaning) → Finds c (callee_of (option_map (binding_of c) m)) (block_unit c (option_map (λ v. v.form) (meant_variable m)))
+pub finds_called : (c : Config) (m : Option Meaning) → Finds c (callee_of (option_map (binding_of c) m)) (block_unit c (option_map (λ v. v.form) (meant_variable m)))
 finds_called c None = refl
 finds_called c (Some (MeansVariable v)) = finds_form c v.form
 finds_called c (Some (MeansUnit u)) = refl
@@ -215,11 +215,11 @@ step_agrees c u longest costs table kept next (Invoke function operands) are s =
     (callee_agrees c longest costs (function_number c function.name) (function_named c function.name) are (finds_function c function.name))
 
 -- one rest on top
-get_last : {X : Type 0} (xs : List X) (x : X) → slice_get (xs ++ x ∷ []) (length xs) ≡ Some x
+pub get_last : {X : Type 0} (xs : List X) (x : X) → slice_get (xs ++ x ∷ []) (length xs) ≡ Some x
 get_last [] x = refl
 get_last (y ∷ xs) x = get_last xs x
 
-get_before : {X : Type 0} (xs : List X) (x : X) (k : ℕ) → k < length xs → slice_get (xs ++ x ∷ []) k ≡ slice_get xs k
+pub get_before : {X : Type 0} (xs : List X) (x : X) (k : ℕ) → k < length xs → slice_get (xs ++ x ∷ []) k ≡ slice_get xs k
 get_before [] x k low = absurd (omega (arith, low))
 get_before (y ∷ xs) x zero low = refl
 get_before (y ∷ xs) x (suc k) low = get_before xs x k (omega (arith, low))

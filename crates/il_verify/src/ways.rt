@@ -41,8 +41,8 @@ pub fn ways(alloc: Global, names: &Scoped, at: usize, unit: &Unit) -> Result<Ite
     Ok(ways)
 }
 
-// The way of an instruction.
-fn way_of(names: &Scoped, at: usize, instruction: &Instruction) -> Way
+/// The way of an instruction.
+pub fn way_of(names: &Scoped, at: usize, instruction: &Instruction) -> Way
     ensures { (unit : ProgramUnit) → slice_get names.now.units at ≡ Some unit → result
         ≡ way_of names.now unit instruction.now }
 {

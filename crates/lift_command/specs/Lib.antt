@@ -3,3 +3,4 @@ pub mod Loaded
 pub mod Runs
 pub mod Servings
 pub mod Origins
+pub mod Others

@@ -17,6 +17,7 @@ use Rattle.lift_host.specs.Writes.{Writes}
 use Rattle.lift_command.specs.declared.memory_trace.MemoryTrace.{MemoryTrace}
 use Rattle.lift_command.specs.declared.program.Outcome.{Outcome}
 use Rattle.il_reasons.specs.Reasons.{IsReason}
+use Rattle.lift_command.specs.Others.{AreOthers}
 use Rattle.lift_command.specs.Runs.{IsTextOutcome}
 use Rattle.lift_command.specs.Servings.{Streams, streams, held_trace, IsUntouched, IsServeAnswer}
 
@@ -33,7 +34,7 @@ pub record IsUnread (out err : Held) (ends : Status) : Type 0 where
 
 -- what words as they are read have printed or told, of whatever command but `serve`
 abbrev pub HasAnswered : (List ℕ → ℕ → List ℕ → Type 0) → (List ℕ → ℕ → ReadFault → Type 0) → Bool → List (List ℕ) → Flags → Held → Held → Status → Type 0
-HasAnswered reads fails wanted words flags = HasPrinted (IsAnswer reads fails IsTextOutcome IsReason wanted words flags)
+HasAnswered reads fails wanted words flags = HasPrinted (IsAnswer reads fails IsTextOutcome IsReason AreOthers wanted words flags)
 
 -- Words as they are read ask to serve, and the group was served; or they don't, and the input and the trace are untouched.
 pub data IsPlainAnswer (reads : List ℕ → ℕ → List ℕ → Type 0) (fails : List ℕ → ℕ → ReadFault → Type 0) (wanted : Bool) (words : List (List ℕ)) (flags : Flags) (s : Streams) (ends : Status) : Type 0 where

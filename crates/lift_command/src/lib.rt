@@ -5,5 +5,6 @@ mod disk_trace;
 mod liftplc;
 pub mod memory_trace;
 mod origin;
+mod others;
 pub mod program;
 pub mod serving;

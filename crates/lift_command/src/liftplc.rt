@@ -3,24 +3,25 @@
 ghost use Rattle.std.specs.Prelude.{◌≡◌, ◌≢◌, ℕ, List, Some, Ok, Err, true, false};
 ghost use Rattle.il_reasons.specs.Reasons.{IsReason};
 ghost use Rattle.lift_command.specs.Loaded.{IsLoaded};
-ghost use Rattle.lift_command.specs.Runs.{IsInForm, IsKnown, IsPlainOutcome, IsRefusedOutcome, IsTextOutcome};
+ghost use Rattle.lift_command.specs.Others.{AreOthers};
+ghost use Rattle.lift_command.specs.Runs.{IsKnown, IsRefusedOutcome, IsTextOutcome};
 ghost use Rattle.lift_output.specs.Outcomes.{AreWarned, IsProgramOutcome};
 ghost use Rattle.lift_shell.specs.Runs.{runs};
 
+use crate::others::others;
+use base_json::form::Form;
 use il_machine::Verified;
 use il_reasons::reason;
-use il_reports::ranges_text;
+use il_reports::ranges_in;
 use il_spec::fault::Refusal;
 use il_spec::tree::Place;
 use lift_host::files::Reading;
 use lift_host::request::{Request, Showing, Shown, Simulating};
 use lift_host::status::Fault;
-use lift_json::form::Form;
-use lift_json::lines::json_lines;
 use lift_load::{load, unbroken};
-use lift_messages::output::{Output, Warned};
+use lift_messages::output::Output;
 use lift_output::outcome::{outcome, ran};
-use lift_shell::commands::Commands;
+use lift_shell::commands::{Commands, OtherFault};
 use std::alloc::{AllocError, Global};
 use std::sync::Wait;
 use std::thread::Threads;
@@ -34,6 +35,8 @@ impl Commands for Liftplc {
 
     ghost reasons = { λ _. IsReason };
 
+    ghost others = { λ _. AreOthers };
+
     fn outcome(
         &self,
         alloc: Global,
@@ -41,8 +44,7 @@ impl Commands for Liftplc {
         text: &[u8],
         trace: &Reading,
     ) -> Result<Output, Fault> {
-        let plain = plain_outcome(alloc, request, text, trace);
-        in_form(alloc, Form::of(request), plain)
+        text_outcome(alloc, request, text, trace)
     }
 
     fn run<R: Threads + Wait + Sync>(
@@ -68,51 +70,32 @@ impl Commands for Liftplc {
     ) -> Result<Vec<u8>, AllocError> {
         reason(alloc, text, number, place)
     }
+
+    fn others(
+        &self,
+        alloc: Global,
+        text: &[u8],
+        number: u16,
+        place: Place,
+    ) -> Result<Vec<OtherFault>, AllocError> {
+        others(alloc, text, number, place)
+    }
 }
 
-// What a request that isn't `run` gives of a text, without `--json`.
-fn plain_outcome(
+// What a request that isn't `run` gives of a text.
+fn text_outcome(
     alloc: Global,
     request: Request<'_>,
     text: &[u8],
     trace: &Reading,
 ) -> Result<Output, Fault>
     requires { runs request ≡ false }
-    ensures gives { IsPlainOutcome request.entry text.now trace.now result }
+    ensures gives { IsTextOutcome request.entry text.now trace.now result }
     ensures unwritten { result ≢ Err Fault.CannotWrite }
 {
     match loaded(alloc, text) {
         Ok(verified) => outcome(alloc, request, verified, text, trace),
         Err(refusal) => refused(alloc, request, text, refusal),
-    }
-}
-
-// An outcome in the form that is asked for.
-fn in_form(alloc: Global, form: Option<Form>, plain: Result<Output, Fault>) -> Result<Output, Fault>
-    ensures formed { IsInForm form plain result }
-    ensures unwritten { plain ≢ Err Fault.CannotWrite → result ≢ Err Fault.CannotWrite }
-{
-    let Some(form) = form else {
-        return plain;
-    };
-    match plain {
-        Ok(output) => formed(alloc, form, output),
-        Err(fault) => Err(fault),
-    }
-}
-
-// An output in a form. No command that has a form prints a trace.
-fn formed(alloc: Global, form: Form, output: Output) -> Result<Output, Fault>
-    ensures formed { IsInForm (Some form) (Ok output) result }
-    ensures unwritten { result ≢ Err Fault.CannotWrite }
-{
-    match output {
-        Output::Text(text) => Ok(Output::Text(json_lines(alloc, form, &text)?)),
-        Output::Warned(Warned { text, warnings }) => {
-            let text = json_lines(alloc, form, &text)?;
-            Ok(Output::Warned(Warned { text, warnings }))
-        }
-        Output::Trace(_) | Output::Ran(_) => Err(Fault::NoMemory),
     }
 }
 
@@ -157,11 +140,15 @@ fn refused(
 
 // The ranges of a refused text, where no rule of its declarations, types and order is broken.
 fn known(alloc: Global, asked: Shown<'_>, text: &[u8], refusal: Refusal) -> Result<Output, Fault>
-    ensures is { IsKnown asked.entry.text text.now refusal result }
+    ensures is { IsKnown asked.entry text.now refusal result }
     ensures unwritten { result ≢ Err Fault.CannotWrite }
 {
     match unbroken(alloc, text) {
-        Ok(ordered) => Ok(Output::Text(ranges_text(alloc, ordered.names(), asked.text, text)?)),
+        Ok(ordered) => {
+            let form = Form::of(asked.json);
+            let names = ordered.names();
+            Ok(Output::Text(ranges_in(alloc, names, form, asked.text, text)?))
+        }
         Err(Refusal::Memory) => Err(Fault::NoMemory),
         Err(Refusal::Fault { .. }) => Err(refusal.into()),
     }

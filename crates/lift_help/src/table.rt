@@ -84,6 +84,12 @@ const PATHS_FLAG: Argument = Argument {
     help: "Shows lines of a path that follow one another as a range, as 144-247; not with --json",
 };
 
+const ALL_UNITS_FLAG: Argument = Argument {
+    name: ALL,
+    standing: Standing::Alone,
+    help: "Also tells the first fault of each other unit of a refused FILE",
+};
+
 const TEXT_FLAG: Argument = Argument {
     name: TEXT,
     standing: Standing::Alone,
@@ -227,7 +233,14 @@ static COMMANDS: [Row; 13] = [
     Row {
         name: Named::Of(Name::Check),
         about: "Verifies FILE and shows its tasks and units",
-        arguments: &[FILE_WORD, WARN_FLAG, LIMITS_FLAG, PATHS_FLAG, JSON_FLAG],
+        arguments: &[
+            FILE_WORD,
+            WARN_FLAG,
+            LIMITS_FLAG,
+            PATHS_FLAG,
+            ALL_UNITS_FLAG,
+            JSON_FLAG,
+        ],
     },
     Row {
         name: Named::Of(Name::Show(Showing::Ranges)),

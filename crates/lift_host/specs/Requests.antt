@@ -264,6 +264,10 @@ second_of command =
     else if bytes_eq command (codes "run") then Some (codes "--left")
     else if bytes_eq command (codes "replay") || bytes_eq command (codes "draw") || bytes_eq command (codes "calls") || bytes_eq command (codes "scan") then Some (codes "--cut") else None
 
+-- a third flag: `--all` of `check`
+abbrev pub third_of : List ℕ → Option (List ℕ)
+third_of command = if bytes_eq command (codes "check") then Some (codes "--all") else None
+
 -- the flag of the command of words: this is the first word but `--explain`
 abbrev pub own_flag : List (List ℕ) → Option (List ℕ)
 own_flag [] = None
@@ -273,6 +277,11 @@ own_flag (word ∷ words) = if bytes_eq word (codes "--explain") then own_flag w
 abbrev pub own_second : List (List ℕ) → Option (List ℕ)
 own_second [] = None
 own_second (word ∷ words) = if bytes_eq word (codes "--explain") then own_second words else second_of word
+
+-- its third flag
+abbrev pub own_third : List (List ℕ) → Option (List ℕ)
+own_third [] = None
+own_third (word ∷ words) = if bytes_eq word (codes "--explain") then own_third words else third_of word
 
 -- `--json` of a command that prints lines
 abbrev pub json_of : List ℕ → Option (List ℕ)
@@ -307,7 +316,7 @@ asked_json words = if excludes_json words then None else own_json words
 
 -- which flags of their command are
 abbrev pub flags_of : List (List ℕ) → Flags
-flags_of words = record { own = names_flag (own_flag words) words; second = names_flag (own_second words) words; json = names_flag (asked_json words) words }
+flags_of words = record { own = names_flag (own_flag words) words; second = names_flag (own_second words) words; third = names_flag (own_third words) words; json = names_flag (asked_json words) words }
 
 -- a word, or for the options of `scan` two
 abbrev pub cut_scan_word : List ℕ → List (List ℕ)
@@ -331,17 +340,21 @@ cut_word word =
     else if bytes_eq (take 9 word) (codes "--rounds=") then codes "--rounds" ∷ drop 9 word ∷ []
     else cut_serve_word word
 
+-- whether a word is one of the flags that are not the command's first one
+abbrev pub is_other_flag : Option (List ℕ) → Option (List ℕ) → Option (List ℕ) → List ℕ → Bool
+is_other_flag second third json word = is_flag second word || is_flag third word || is_flag json word
+
 -- the words in place of a word: none for `--explain`, and none for a flag of the command
-abbrev pub plain_word : Option (List ℕ) → Option (List ℕ) → Option (List ℕ) → List ℕ → List (List ℕ)
-plain_word own second json word = if bytes_eq word (codes "--explain") || is_flag own word || is_flag second word || is_flag json word then [] else cut_word word
+abbrev pub plain_word : Option (List ℕ) → Option (List ℕ) → Option (List ℕ) → Option (List ℕ) → List ℕ → List (List ℕ)
+plain_word own second third json word = if bytes_eq word (codes "--explain") || is_flag own word || is_other_flag second third json word then [] else cut_word word
 
 -- the words as they are read
 abbrev pub plain_words : List (List ℕ) → List (List ℕ)
-plain_words words = flat_map (plain_word (own_flag words) (own_second words) (asked_json words)) words
+plain_words words = flat_map (plain_word (own_flag words) (own_second words) (own_third words) (asked_json words)) words
 
 -- a request with the flags of its command that stand among the words
 abbrev pub with_flags : Flags → Request → Request
-with_flags flags (request.Check checked) = request.Check (record checked { limits = flags.own; paths = flags.second; json = flags.json })
+with_flags flags (request.Check checked) = request.Check (record checked { limits = flags.own; paths = flags.second; all = flags.third; json = flags.json })
 with_flags flags (request.Show command shown) = request.Show command (record shown { text = flags.own; json = flags.json })
 with_flags flags (request.Rounds command rounds) = request.Rounds command (record rounds { flag = flags.own; left = flags.second; json = flags.json })
 with_flags flags (request.Trace command traced) = request.Trace command (record traced { flag = flags.own; cut = flags.second || traced.cut; json = flags.json })

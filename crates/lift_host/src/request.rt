@@ -1,7 +1,7 @@
 // What the words ask for.
 
 ghost use Rattle.std.specs.Prelude.{◌≡◌, ◌≤◌, ◌<◌, ◌∷◌, ◌++◌, ◌↔◌, [], ℕ, Bool, List, Option, Some, true, false, IfSome, IfOk, IsNone, IsTrue, MatchOption, OnOk, codes, bytes_eq, flat_map, length, map, option_map, slice_get, string_bytes};
-ghost use Rattle.lift_host.specs.Requests.{IsNumberTo, IsDigits, IsOption, AreNoOptions, LeaveOut, IsApart, IsOnlyApart, AreApart, AreOnlyApart, IsBehind, IsOnlyBehind, IsFlagApart, IsFile, IsFileBeside, IsFileWith, AreFiles, GiveRounds, GiveTrace, GiveDrawing, GiveFollowed, GiveScan, AreNames, Takes, TakesTrace, Asks, BeginsWithDigit, BeginWithName, NeedsName, AreNamesFirst, plain_words, plain_word, cut_word, cut_scan_word, cut_serve_word, flag_of, second_of, json_of, own_flag, own_second, own_json, asked_json, excludes_json, is_flag, explains, names_flag, flags_of, with_flags, command_of, name_of, word_of, words_of};
+ghost use Rattle.lift_host.specs.Requests.{IsNumberTo, IsDigits, IsOption, AreNoOptions, LeaveOut, IsApart, IsOnlyApart, AreApart, AreOnlyApart, IsBehind, IsOnlyBehind, IsFlagApart, IsFile, IsFileBeside, IsFileWith, AreFiles, GiveRounds, GiveTrace, GiveDrawing, GiveFollowed, GiveScan, AreNames, Takes, TakesTrace, Asks, BeginsWithDigit, BeginWithName, NeedsName, AreNamesFirst, plain_words, plain_word, cut_word, cut_scan_word, cut_serve_word, flag_of, second_of, third_of, json_of, own_flag, own_second, own_third, own_json, asked_json, excludes_json, is_flag, is_other_flag, explains, names_flag, flags_of, with_flags, command_of, name_of, word_of, words_of};
 ghost use Rattle.lift_host.specs.declared.request.Name.{Name};
 ghost use Rattle.lift_host.specs.declared.request.Request.{Request};
 ghost use Rattle.lift_host.specs.declared.request.Rounds.{Rounds};
@@ -57,7 +57,7 @@ const FROM_IS: &str = "--from=";
 /// The flag of `watch` that has it leave out a round whose values are those of the round before.
 pub const CHANGES: &str = "--changes";
 
-/// The flag of `denials` that has it show all denials.
+/// The flag of `denials` that has it show all denials, and of `check` that has it tell the first fault of each unit.
 pub const ALL: &str = "--all";
 
 /// The flag of `run` that has a round end for all before the next begins.
@@ -157,6 +157,8 @@ pub struct Checked<'w> {
     pub limits: bool,
     /// Whether lines of a path that follow one another are to be printed as a range.
     pub paths: bool,
+    /// Whether the first fault of each other unit is to be told too.
+    pub all: bool,
     /// Whether JSON is to be printed.
     pub json: bool,
 }
@@ -363,6 +365,7 @@ impl<'w> Request<'w> {
                 Request::Check(Checked {
                     limits: flags.own,
                     paths: flags.second,
+                    all: flags.third,
                     json,
                     ..checked
                 })
@@ -586,6 +589,7 @@ fn check_given(rest: &[String]) -> Option<Checked<'_>>
         warns: has_option,
         limits: false,
         paths: false,
+        all: false,
         json: false,
     })
 }
@@ -1078,6 +1082,8 @@ pub struct Flags {
     pub own: bool,
     /// A second one: `--paths` of `check`, `--left` of `run`, `--cut` of `replay`, `draw`, `calls` and `scan`; that of `denials` and `watch` over a trace is one of the words.
     pub second: bool,
+    /// A third one: `--all` of `check`.
+    pub third: bool,
     /// `--json` of `check`, `ranges`, `xref`, `calls` and `denials`. Beside `--summary`, `--paths` or `--text` it stays one of the words.
     pub json: bool,
 }
@@ -1104,13 +1110,15 @@ pub fn read_words(alloc: Global, words: &[String]) -> Result<Plain, AllocError>
 {
     let own = own_flag(words);
     let second = own_second(words);
+    let third = own_third(words);
     let json = asked_json(words);
     Ok(Plain {
-        words: plain_words(alloc, words, own, second, json)?,
+        words: plain_words(alloc, words, own, second, third, json)?,
         explains: explains(words),
         flags: Flags {
             own: names_flag(own, words),
             second: names_flag(second, words),
+            third: names_flag(third, words),
             json: names_flag(json, words),
         },
     })
@@ -1135,6 +1143,18 @@ fn own_second(words: &[String]) -> Option<&'static str>
     'words: for word in words {
         if !is_explain(word) {
             return second_of(word);
+        }
+    }
+    None
+}
+
+// The third flag of the words' command.
+fn own_third(words: &[String]) -> Option<&'static str>
+    ensures { option_map (λ f. f.now) result ≡ own_third (map string_bytes words.now) }
+{
+    'words: for word in words {
+        if !is_explain(word) {
+            return third_of(word);
         }
     }
     None
@@ -1199,6 +1219,16 @@ fn second_of(command: &str) -> Option<&'static str>
     }
 }
 
+// The third flag of a command: `--all` of `check`.
+fn third_of(command: &str) -> Option<&'static str>
+    ensures { option_map (λ f. f.now) result ≡ third_of command.now }
+{
+    match command {
+        "check" => Some(ALL),
+        _ => None,
+    }
+}
+
 // `--json`, where a command takes it.
 fn json_of(command: &str) -> Option<&'static str>
     ensures { option_map (λ f. f.now) result ≡ json_of command.now }
@@ -1250,16 +1280,18 @@ fn plain_words(
     words: &[String],
     own: Option<&str>,
     second: Option<&str>,
+    third: Option<&str>,
     json: Option<&str>,
 ) -> Result<Vec<String>, AllocError>
     ensures { IfOk result (λ plain. map string_bytes plain.items
         ≡ flat_map (plain_word (option_map (λ f. f.now) own.entry)
-        (option_map (λ f. f.now) second.entry) (option_map (λ f. f.now) json.entry))
+        (option_map (λ f. f.now) second.entry) (option_map (λ f. f.now) third.entry)
+        (option_map (λ f. f.now) json.entry))
         (map string_bytes words.now)) }
 {
     let mut plain = Vec::new(alloc);
     'words: for word in words {
-        add_plain(alloc, &mut plain, word, own, second, json)?;
+        add_plain(alloc, &mut plain, word, own, second, third, json)?;
     }
     Ok(plain)
 }
@@ -1271,17 +1303,26 @@ fn add_plain(
     word: &str,
     own: Option<&str>,
     second: Option<&str>,
+    third: Option<&str>,
     json: Option<&str>,
 ) -> Result<(), AllocError>
     ensures { OnOk result (map string_bytes plain.new.items ≡ map string_bytes plain.old.items
         ++ plain_word (option_map (λ f. f.now) own.entry)
-        (option_map (λ f. f.now) second.entry)
+        (option_map (λ f. f.now) second.entry) (option_map (λ f. f.now) third.entry)
         (option_map (λ f. f.now) json.entry) word.now) }
 {
-    if is_explain(word) || is_flag(own, word) || is_flag(second, word) || is_flag(json, word) {
+    if is_explain(word) || is_flag(own, word) || is_other_flag(second, third, json, word) {
         return Ok(());
     }
     add_word(alloc, plain, word)
+}
+
+// Whether a word is one of the flags that are not the command's first one.
+fn is_other_flag(second: Option<&str>, third: Option<&str>, json: Option<&str>, word: &str) -> bool
+    ensures { result ≡ is_other_flag (option_map (λ f. f.now) second.entry)
+        (option_map (λ f. f.now) third.entry) (option_map (λ f. f.now) json.entry) word.now }
+{
+    is_flag(second, word) || is_flag(third, word) || is_flag(json, word)
 }
 
 // An option and its value.

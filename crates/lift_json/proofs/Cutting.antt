@@ -1,42 +1,16 @@
--- Texts in pieces, by where they are cut.
-use Rattle.std.proofs.Common.{arith, ◌≡◌, ℕ, ◌<◌, ◌≤◌, ◌+◌, zero, suc, List, [], ◌∷◌, length, drop, refl, sym, ap, ◌∙◌}
+-- Texts in lines, by their line feeds.
+use Rattle.std.proofs.Common.{arith, ◌≡◌, ℕ, ◌<◌, List, [], ◌∷◌, length, sym, ap, ◌∙◌}
 use Rattle.std.specs.List.{position_or_len, before_first, after_first}
-use Rattle.std.proofs.lemmas.List.{take_all}
 use Rattle.std.proofs.lemmas.List.Sums.{fails_before_first}
 use Rattle.std.proofs.lemmas.List.Splits.{slice_split_none, slice_split_first}
-use Rattle.lift_json.specs.Pieces.{sign_of, is_cut, pieces}
-use Rattle.lift_json.specs.declared.pieces.Cut.{Cut}
-use Rattle.lift_json.specs.declared.pieces.Cut.TheVariants.{Feed, Blank, Comma, Colon, Dot}
+use Rattle.lift_json.specs.Pieces.{is_feed, lines_of}
 
--- each sign is ASCII
-pub sign_small : (cut : Cut) → sign_of cut < 128
-sign_small Feed = omega arith
-sign_small Blank = omega arith
-sign_small Comma = omega arith
-sign_small Colon = omega arith
-sign_small Dot = omega arith
+module _ (text : List ℕ) where
+  -- a text without a line feed is its one line
+  pub one_line : position_or_len is_feed text ≡ length text → lines_of text ≡ text ∷ []
+  one_line e = slice_split_none is_feed text (λ k d low. fails_before_first is_feed text k d (omega (arith, e, low)))
 
-module _ (cut : Cut) (text : List ℕ) where
-  -- a text that is cut nowhere is its one piece
-  pub one_piece : position_or_len (is_cut cut) text ≡ length text → pieces cut text ≡ text ∷ []
-  one_piece e = slice_split_none (is_cut cut) text (λ k d low. fails_before_first (is_cut cut) text k d (omega (arith, e, low)))
-
-  -- and another begins with what stands before the first cut
-  pub piece_before : (first rest : List ℕ) → position_or_len (is_cut cut) text < length text → first ≡ before_first (is_cut cut) text → rest ≡ after_first (is_cut cut) text → pieces cut text ≡ first ∷ pieces cut rest
-  piece_before first rest low is_first is_rest =
-      slice_split_first (is_cut cut) text 0 low ∙ ap (λ x. x ∷ pieces cut (after_first (is_cut cut) text)) (sym is_first) ∙ ap (λ r. first ∷ pieces cut r) (sym is_rest)
-
-  -- all of a text that is cut nowhere stands before the first cut
-  pub all_before : position_or_len (is_cut cut) text ≡ length text → text ≡ before_first (is_cut cut) text
-  all_before e = sym (take_all (position_or_len (is_cut cut) text) text (omega (arith, e)))
-
--- nothing stands behind the end of a text
-past : (n : ℕ) (text : List ℕ) → length text ≤ n → [] ≡ drop n text
-past zero [] low = refl
-past zero (b ∷ text) low = absurd (omega (arith, low))
-past (suc n) [] low = refl
-past (suc n) (b ∷ text) low = past n text (omega (arith, low))
-
--- nothing stands behind the first cut of a text that is cut nowhere
-pub none_behind : (cut : Cut) (text : List ℕ) → position_or_len (is_cut cut) text ≡ length text → [] ≡ after_first (is_cut cut) text
-none_behind cut text e = past (position_or_len (is_cut cut) text + 1) text (omega (arith, e))
+  -- and another begins with what stands before the first
+  pub line_before : (first rest : List ℕ) → position_or_len is_feed text < length text → first ≡ before_first is_feed text → rest ≡ after_first is_feed text → lines_of text ≡ first ∷ lines_of rest
+  line_before first rest low is_first is_rest =
+      slice_split_first is_feed text 0 low ∙ ap (λ x. x ∷ lines_of (after_first is_feed text)) (sym is_first) ∙ ap (λ r. first ∷ lines_of r) (sym is_rest)

@@ -1,5 +1,2 @@
-pub mod Forms
-pub mod Lines
 pub mod Pieces
-pub mod States
 pub mod Refusals

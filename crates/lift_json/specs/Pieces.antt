@@ -1,46 +1,20 @@
--- Texts in pieces (own rules).
-use Rattle.std.specs.Prelude.{ℕ, Bool, false, nat_le, nat_lt, ◌==◌, ◌||◌, ◌&&◌, List, [], ◌∷◌, length, Option, Some, None}
-use Rattle.std.specs.List.{slice_split, position_or_len, before_first, after_first}
-use Rattle.lift_json.specs.declared.pieces.Cut.{Cut}
-use Rattle.lift_json.specs.declared.pieces.Cut.TheVariants.{Feed, Blank, Comma, Colon, Dot}
+-- Texts in lines (own rules).
+use Rattle.std.specs.Prelude.{ℕ, Bool, ◌==◌, List, [], Option, Some, None}
+use Rattle.std.specs.List.{slice_split, position_or_len}
 
--- the character at which a text is cut
-abbrev pub sign_of : Cut → ℕ
-sign_of Feed = 10
-sign_of Blank = 32
-sign_of Comma = 44
-sign_of Colon = 58
-sign_of Dot = 46
+-- a line feed
+abbrev pub is_feed : ℕ → Bool
+is_feed b = b == 10
 
-abbrev pub is_cut : Cut → ℕ → Bool
-is_cut cut b = b == sign_of cut
+-- the lines of a text, between its line feeds
+abbrev pub lines_of : List ℕ → List (List ℕ)
+lines_of text = slice_split is_feed text
 
--- the pieces of a text, between the places where it is cut
-abbrev pub pieces : Cut → List ℕ → List (List ℕ)
-pieces cut text = slice_split (is_cut cut) text
+-- the lines of what is left of a text, if anything is
+abbrev pub lines_left : Option (List ℕ) → List (List ℕ)
+lines_left None = []
+lines_left (Some text) = lines_of text
 
--- the pieces of what is left of a text, if anything is
-abbrev pub pieces_left : Cut → Option (List ℕ) → List (List ℕ)
-pieces_left cut None = []
-pieces_left cut (Some text) = pieces cut text
-
--- what stands before the first cut; all of the text, where there is none
-abbrev pub front : Cut → List ℕ → List ℕ
-front cut text = before_first (is_cut cut) text
-
--- what stands behind it; nothing, where there is none
-abbrev pub behind : Cut → List ℕ → List ℕ
-behind cut text = after_first (is_cut cut) text
-
--- the place of the first cut; that of the end, where there is none
-abbrev pub cut_place : Cut → List ℕ → ℕ
-cut_place cut text = position_or_len (is_cut cut) text
-
--- whether there is a cut
-abbrev pub has : Cut → List ℕ → Bool
-has cut text = nat_lt (position_or_len (is_cut cut) text) (length text)
-
--- a number begins with a digit or a minus
-abbrev pub is_number : List ℕ → Bool
-is_number [] = false
-is_number (b ∷ bytes) = (nat_le 48 b && nat_le b 57) || b == 45
+-- the place of the first line feed; that of the end, where there is none
+abbrev pub feed_place : List ℕ → ℕ
+feed_place text = position_or_len is_feed text

@@ -6,8 +6,7 @@ use Rattle.json.specs.Written.{Written}
 use Rattle.base_shown.specs.Shown.{shown}
 use Rattle.il_spec.specs.declared.tree.Place.{Place}
 use Rattle.lift_messages.specs.Places.{IsLineAround, IsTitle, marked}
-use Rattle.lift_json.specs.declared.pieces.Cut.TheVariants.{Feed}
-use Rattle.lift_json.specs.Pieces.{pieces}
+use Rattle.lift_json.specs.Pieces.{lines_of}
 
 -- a writer has these tokens after those that it had
 abbrev pub Adds : Written → Written → List Token → Type 0
@@ -39,7 +38,7 @@ line_tokens line = if bytes_eq line [] then [] else string line ∷ []
 
 -- lines that are told, as they are shown
 abbrev pub told_member : List ℕ → List Token
-told_member told = key (codes "told") ∷ begin_array ∷ (flat_map line_tokens (pieces Feed told) ++ end_array ∷ [])
+told_member told = key (codes "told") ∷ begin_array ∷ (flat_map line_tokens (lines_of told) ++ end_array ∷ [])
 
 -- THE OBJECT
 

@@ -1,9 +1,5 @@
-//! What the commands print, as JSON: an object a line.
+//! A refusal as JSON: an object in one line.
 #![tactic(auto)]
 
-pub mod form;
-pub mod lines;
 mod pieces;
-mod put;
 pub mod refusal;
-mod states;

@@ -1,100 +1,26 @@
-// Texts in pieces.
+// Texts in lines.
 
-ghost use Rattle.std.specs.Prelude.{◌≡◌, ◌∷◌, ◌<◌, Some, length, option_map, bytes_eq, MatchOption};
+ghost use Rattle.std.specs.Prelude.{◌≡◌, ◌∷◌, ◌<◌, Some, length, option_map, MatchOption};
 ghost use Rattle.std.specs.List.{before_first, after_first};
-ghost use Rattle.lift_json.specs.Pieces.{sign_of, is_cut, cut_place, front, behind, has, pieces_left, is_number};
+ghost use Rattle.lift_json.specs.Pieces.{is_feed, feed_place, lines_left};
 
-/// Where a text is cut.
-#[derive(Clone, Copy)]
-pub enum Cut {
-    /// At line feeds.
-    Feed,
-    /// At blanks.
-    Blank,
-    Comma,
-    Colon,
-    Dot,
-}
-
-impl Cut {
-    // The character at which it cuts.
-    fn sign(self) -> char
-        ensures { result ≡ sign_of self }
-    {
-        match self {
-            Cut::Feed => '\n',
-            Cut::Blank => ' ',
-            Cut::Comma => ',',
-            Cut::Colon => ':',
-            Cut::Dot => '.',
-        }
-    }
-}
-
-// What stands before the first cut and what stands behind it.
-fn parts(cut: Cut, text: &str) -> Option<(&str, &str)>
-    ensures { MatchOption result (cut_place cut text.now ≡ length text.now)
-        (λ x. (cut_place cut text.now < length text.now)
-        × (x.0.now ≡ before_first (is_cut cut) text.now)
-        × (x.1.now ≡ after_first (is_cut cut) text.now)) }
+// What stands before the first line feed and what stands behind it.
+fn parts(text: &str) -> Option<(&str, &str)>
+    ensures { MatchOption result (feed_place text.now ≡ length text.now)
+        (λ x. (feed_place text.now < length text.now)
+        × (x.0.now ≡ before_first is_feed text.now)
+        × (x.1.now ≡ after_first is_feed text.now)) }
 {
-    text.split_once(cut.sign())
+    text.split_once('\n')
 }
 
-/// What stands before the first cut, and what is left behind it.
-pub fn first_piece(cut: Cut, text: &str) -> (&str, Option<&str>)
-    ensures { pieces_left cut (Some text.now)
-        ≡ result.0.now ∷ pieces_left cut (option_map (λ left. left.now) result.1) }
+/// The first line, and what is left behind it.
+pub fn first_line(text: &str) -> (&str, Option<&str>)
+    ensures { lines_left (Some text.now)
+        ≡ result.0.now ∷ lines_left (option_map (λ left. left.now) result.1) }
 {
-    match parts(cut, text) {
-        Some((piece, left)) => (piece, Some(left)),
+    match parts(text) {
+        Some((line, left)) => (line, Some(left)),
         None => (text, None),
     }
-}
-
-/// What stands before the first cut; all of the text, where there is none.
-pub fn front(cut: Cut, text: &str) -> &str
-    ensures { result.now ≡ front cut text.now }
-{
-    match parts(cut, text) {
-        Some((front, _)) => front,
-        None => text,
-    }
-}
-
-/// What stands behind the first cut; nothing, where there is none.
-pub fn behind(cut: Cut, text: &str) -> &str
-    ensures { result.now ≡ behind cut text.now }
-{
-    match parts(cut, text) {
-        Some((_, behind)) => behind,
-        None => "",
-    }
-}
-
-/// Whether there is a cut.
-pub fn has(cut: Cut, text: &str) -> bool
-    ensures { result ≡ has cut text.now }
-{
-    match parts(cut, text) {
-        Some(_) => true,
-        None => false,
-    }
-}
-
-/// Whether a word is a number: it begins with a digit or a minus.
-pub fn is_number(word: &str) -> bool
-    ensures { result ≡ is_number word.now }
-{
-    match word.as_bytes().first() {
-        Some(byte) => (b'0' <= *byte && *byte <= b'9') || *byte == b'-',
-        None => false,
-    }
-}
-
-/// Whether two words are the same.
-pub fn is_word(word: &str, other: &str) -> bool
-    ensures { result ≡ bytes_eq word.now other.now }
-{
-    word == other
 }

@@ -3,11 +3,10 @@
 ghost use Rattle.std.specs.Prelude.{◌≡◌, ◌+◌, ◌++◌, ℕ, List, map, flat_map, length, codes, IfOk, OnOk, string_bytes};
 ghost use Rattle.json.specs.Token.{Token};
 ghost use Rattle.lift_messages.specs.Places.{IsTitle};
-ghost use Rattle.lift_json.specs.Pieces.{pieces};
-ghost use Rattle.lift_json.specs.declared.pieces.Cut.TheVariants.{Feed};
+ghost use Rattle.lift_json.specs.Pieces.{lines_of};
 ghost use Rattle.lift_json.specs.Refusals.{Adds, AreRefusalTokens, IsRefusalLine, column_members, line_byte, line_tokens, number_member, place_members, text_member, told_member};
 
-use crate::pieces::{Cut, first_piece};
+use crate::pieces::first_line;
 use base_shown::shown::shown;
 use il_spec::tree::Place;
 use json::Writer;
@@ -106,11 +105,11 @@ fn put_told(json: &mut Writer<Global>, told: &str) -> Result<(), AllocError>
 
 fn put_lines(json: &mut Writer<Global>, told: &str) -> Result<(), AllocError>
     ensures { OnOk result (Adds json.old json.new
-        (flat_map line_tokens (pieces Feed told.now))) }
+        (flat_map line_tokens (lines_of told.now))) }
 {
     let mut rest = Some(told);
     'lines: while let Some(left) = rest {
-        let (line, behind) = first_piece(Cut::Feed, left);
+        let (line, behind) = first_line(left);
         put_line(json, line)?;
         rest = behind;
     }

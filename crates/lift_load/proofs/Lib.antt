@@ -3,3 +3,4 @@ pub mod Explaining
 pub mod Accepting
 pub mod Phases
 pub mod OneFault
+pub mod PerUnit

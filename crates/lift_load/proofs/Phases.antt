@@ -20,6 +20,8 @@ use Rattle.lift_load.proofs.Explaining.{explained_by_tree}
 use Rattle.lift_load.proofs.Accepting.{same_spelled, names_broken, accepted_is}
 use Rattle.lift_run_laws.proofs.Accepted.{accepted_runs_well}
 use Rattle.il_machine.proofs.Scans.{sound_of}
+use Rattle.il_work_laws.specs.Work.{ScansDoNoMore}
+use Rattle.il_work_laws.proofs.Working.{scans_do_no_more}
 
 -- what the parser gives is all that a text spells
 pub spells_only : (text : List ℕ) (tokens : List Token) (c : Config) → ((ts : List Token) → AreTokens text 0 ts → ts ≡ tokens) → length text ≤ 262144 → Spells text c → (length text ≤ 262144 → IsWithinLimits text c)
@@ -61,6 +63,13 @@ pub runs_by : (c : Config) (r : Result Program Refusal) → IsWritten c → IsNe
 runs_by c (Ok v) written nested same unbroken annotated =
     subst RunsWell (sym same) (accepted_runs_well c (sound_of c (record { written = written; declared = unbroken.declared; typed = unbroken.typed; ordered = unbroken.ordered; annotated = annotated; nested = nested })))
 runs_by c (Err e) written nested same unbroken annotated = tt
+
+-- and no scan of it does more work than is counted
+pub works_by : (c : Config) (r : Result Program Refusal) → IsWritten c → IsNested c → IfOk r (λ v. v.config ≡ c) → IfOk r (λ _. IsUnbroken c) → IfOk r (λ _. Annotated c) → IfOk r (λ v. ScansDoNoMore v.config)
+works_by c (Ok v) written nested same unbroken annotated =
+    let sound = sound_of c (record { written = written; declared = unbroken.declared; typed = unbroken.typed; ordered = unbroken.ordered; annotated = annotated; nested = nested }) in
+    subst ScansDoNoMore (sym same) (scans_do_no_more c sound.written sound.declared sound.typed sound.ordered sound.annotated)
+works_by c (Err e) written nested same unbroken annotated = tt
 
 -- THE PHASES
 

@@ -14,6 +14,7 @@ ghost use Rattle.il_layout.specs.Program.{program_names};
 ghost use Rattle.il_layout.specs.Whole.{unit_code};
 ghost use Rattle.il_exec.specs.Windows.{AreAllQuick};
 ghost use Rattle.il_machine.specs.Sharing.{ArePlans};
+ghost use Rattle.il_work_laws.specs.Work.{ScansDoNoMore};
 ghost use Rattle.lift_run_laws.specs.Runs.{RunsWell};
 ghost use Rattle.lift_load.specs.Loading.{IsSpelled, SpellsOnly, SpellsNone, IsUnbroken, IsAccepted, IsRefusedFor, IsSpelledWith, IsExplained, ReportsFaultOfText, ReportsFaultOfGrammar};
 
@@ -39,6 +40,7 @@ pub fn load(alloc: Global, text: &[u8]) -> Result<Verified, Refusal>
     ensures found { IfOk result (λ v. IsAccepted text.now v.config) }
     ensures costs { IfOk result (λ v. v.costs ≡ map (cost_of v.config) v.config.units) }
     ensures runs { IfOk result (λ v. RunsWell v.config) }
+    ensures works { IfOk result (λ v. ScansDoNoMore v.config) }
     ensures refused { IsFault result → (c : ConfigOf) → IsAccepted text.now c → ⊥ }
     ensures named { IsFault result → (c : ConfigOf) → IsSpelled text.now c
         → IsErrAnd result (IsRefusedFor c) }
@@ -70,8 +72,8 @@ pub fn unbroken(alloc: Global, text: &[u8]) -> Result<Ordered, Refusal>
     in_order(alloc, written)
 }
 
-// The configuration that a text spells. Its tokens are given up before it is verified.
-fn parsed(alloc: Global, text: &[u8]) -> Result<Written, Refusal>
+/// The configuration that a text spells. Its tokens are given up before it is verified.
+pub(crate) fn parsed(alloc: Global, text: &[u8]) -> Result<Written, Refusal>
     ensures only { IfOk result (SpellsOnly text.now) }
     ensures written { IfOk result IsWritten }
     ensures nested { IfOk result IsNested }

@@ -1,5 +1,9 @@
 -- What `check --limits` prints of how much of each limit is used (own rules).
 use Rattle.std.specs.Prelude.{ℕ, zero, suc, ◌+◌, min, max, nat_lt, Bool, false, if◌then◌else◌, List, [], ◌∷◌, ◌++◌, length, map, Option, Some, None, codes, decimal}
+use Rattle.json.specs.Token.{Token}
+use Rattle.base_json.specs.declared.form.Form.{Form}
+use Rattle.base_json.specs.Forms.{row_in}
+use Rattle.base_json.specs.Objects.{number_member, text_member}
 use Rattle.il_spec.specs.declared.tree.Config.{Config}
 use Rattle.il_spec.specs.declared.tree.Unit.{Unit as ProgramUnit}
 use Rattle.il_spec.specs.Grammar.{greatest_depth}
@@ -10,6 +14,8 @@ use Rattle.il_machine.specs.Scanning.{Program}
 use Rattle.il_order.specs.Counted.{number_at}
 use Rattle.il_order.specs.Related.{holds, tabulate}
 use Rattle.il_order.specs.Used.{uses}
+use Rattle.il_work_laws.specs.Work.{most_work}
+use Rattle.il_work.specs.Sizes.{capped}
 use Rattle.lift_spec.specs.Image.{sizes_of}
 use Rattle.lift_spec.specs.Snapshot.{program_of, task_name}
 use Rattle.lift_output.specs.declared.limits.Measure.{Measure}
@@ -23,6 +29,24 @@ limit_words name used most = codes "limit " ++ (name ++ (codes " used " ++ (deci
 -- the line of a limit of the whole text
 unfoldable pub limit_line : List ℕ → ℕ → ℕ → List ℕ
 limit_line name used most = limit_words name used most ++ codes "\n"
+
+-- the line of a limit of a unit or a task, behind which its name stands
+unfoldable pub limit_line_in : List ℕ → ℕ → ℕ → List ℕ → List ℕ
+limit_line_in name used most holder = limit_words name used most ++ (codes " in " ++ (holder ++ codes "\n"))
+
+-- the members of both
+unfoldable pub limit_members : List ℕ → ℕ → ℕ → List Token
+limit_members name used most = text_member (codes "limit") name ++ (number_member (codes "used") used ++ number_member (codes "of") most)
+
+abbrev pub limit_members_in : List ℕ → ℕ → ℕ → List ℕ → List Token
+limit_members_in name used most holder = limit_members name used most ++ text_member (codes "in") holder
+
+-- the rows of both
+abbrev pub limit_row : Form → List ℕ → ℕ → ℕ → List ℕ
+limit_row form name used most = row_in form (limit_line name used most) (limit_members name used most)
+
+abbrev pub limit_row_in : Form → List ℕ → ℕ → ℕ → List ℕ → List ℕ
+limit_row_in form name used most holder = row_in form (limit_line_in name used most holder) (limit_members_in name used most holder)
 
 -- UNITS
 
@@ -56,10 +80,10 @@ unit_use measure unit = record { name = unit.name.name; used = measured measure 
 abbrev pub cost_use : UnitLine → UnitUse
 cost_use line = record { name = line.name; used = line.cost }
 
--- the line of the unit that uses the most; there is none without units
-unfoldable pub most_line : List ℕ → Option UnitUse → ℕ → List ℕ
-most_line name None most = []
-most_line name (Some unit) most = limit_words name unit.used most ++ (codes " in " ++ (unit.name ++ codes "\n"))
+-- the row of the unit that uses the most; there is none without units
+abbrev pub most_row : Form → List ℕ → Option UnitUse → ℕ → List ℕ
+most_row form name None most = []
+most_row form name (Some unit) most = limit_row_in form name unit.used most unit.name
 
 -- CHAINS OF USES
 
@@ -91,43 +115,69 @@ longest_chain used count = longest_of (chains used count 16) count
 
 -- SLOTS
 
--- the line of so many slots of a task
-unfoldable pub slots_words : ℕ → ℕ → List ℕ
-slots_words task slots = limit_words (codes "slots") slots 4096 ++ (codes " in " ++ (task_name task ++ codes "\n"))
+-- the row of so many slots of a task
+abbrev pub slots_row : Form → ℕ → ℕ → List ℕ
+slots_row form task slots = limit_row_in form (codes "slots") slots 4096 (task_name task)
 
 -- the slots of a task, its own and those of the functions that it reaches
-unfoldable pub slots_line : Config → Option ProgramUnit → ℕ → List ℕ
-slots_line c None task = []
-slots_line c (Some unit) task = slots_words task (length (own_cells c unit))
+unfoldable pub slots_of_unit : Form → Config → Option ProgramUnit → ℕ → List ℕ
+slots_of_unit form c None task = []
+slots_of_unit form c (Some unit) task = slots_row form task (length (own_cells c unit))
 
-abbrev pub task_slots : Config → ℕ → List ℕ
-task_slots c task = slots_line c (program_of c task) task
+abbrev pub task_slots : Form → Config → ℕ → List ℕ
+task_slots form c task = slots_of_unit form c (program_of c task) task
 
 -- those of the cars' tasks up to a number
-abbrev pub car_slots : Config → ℕ → List ℕ
-car_slots c zero = []
-car_slots c (suc car) = car_slots c car ++ task_slots c (suc car)
+abbrev pub car_slots : Form → Config → ℕ → List ℕ
+car_slots form c zero = []
+car_slots form c (suc car) = car_slots form c car ++ task_slots form c (suc car)
 
 -- CAR1 to CARn, and GROUP
-abbrev pub slots_text : Config → List ℕ
-slots_text c = car_slots c (sizes_of c).cars ++ task_slots c 0
+abbrev pub slots_rows : Form → Config → List ℕ
+slots_rows form c = car_slots form c (sizes_of c).cars ++ task_slots form c 0
+
+-- WORK
+
+-- the most work of a unit: its steps, and the values that calls set and copy
+abbrev pub work_use : Config → ProgramUnit → UnitUse
+work_use c unit = record { name = unit.name.name; used = capped (most_work c unit) }
+
+-- `work N in UNIT`
+unfoldable pub work_line : ℕ → Text → List ℕ
+work_line used name = codes "work " ++ (decimal used ++ (codes " in " ++ (name ++ codes "\n")))
+
+abbrev pub work_members : ℕ → Text → List Token
+work_members used name = number_member (codes "work") used ++ text_member (codes "in") name
+
+-- the row of the unit that does the most; there is none without units
+abbrev pub work_row : Form → Option UnitUse → List ℕ
+work_row form None = []
+work_row form (Some unit) = row_in form (work_line unit.used unit.name) (work_members unit.used unit.name)
+
+abbrev pub work_rows : Form → Config → List ℕ
+work_rows form c = work_row form (most_of None (map (work_use c) c.units))
 
 -- ALL LIMITS
 
 -- of a text of so many bytes, and of its units
-unfoldable pub unit_limits : Config → ℕ → List ℕ
-unit_limits c bytes =
-    limit_line (codes "bytes") bytes 262144
-    ++ (limit_line (codes "units") (length c.units) 64
-    ++ (most_line (codes "instructions") (most_of None (map (unit_use Instructions) c.units)) 4096 ++ most_line (codes "nesting") (most_of None (map (unit_use Nesting) c.units)) 16))
+unfoldable pub text_limits : Form → Config → ℕ → List ℕ
+text_limits form c bytes = limit_row form (codes "bytes") bytes 262144 ++ limit_row form (codes "units") (length c.units) 64
+
+-- and of the bodies of its units
+unfoldable pub body_limits : Form → Config → List ℕ
+body_limits form c =
+    most_row form (codes "instructions") (most_of None (map (unit_use Instructions) c.units)) 4096 ++ most_row form (codes "nesting") (most_of None (map (unit_use Nesting) c.units)) 16
+
+abbrev pub unit_limits : Form → Config → ℕ → List ℕ
+unit_limits form c bytes = text_limits form c bytes ++ body_limits form c
 
 -- of chains, slots and costs
-unfoldable pub run_limits : Program → List ℕ
-run_limits p =
-    limit_line (codes "chain") (longest_chain (uses p.config false) (length p.config.units)) 16
-    ++ (slots_text p.config
-    ++ (limit_line (codes "globals") (length (global_cells p.config)) 4096 ++ most_line (codes "cost") (most_of None (map cost_use (unit_lines p.config.units p.costs))) 1000000))
+unfoldable pub run_limits : Form → Program → List ℕ
+run_limits form p =
+    limit_row form (codes "chain") (longest_chain (uses p.config false) (length p.config.units)) 16
+    ++ (slots_rows form p.config
+    ++ (limit_row form (codes "globals") (length (global_cells p.config)) 4096 ++ most_row form (codes "cost") (most_of None (map cost_use (unit_lines p.config.units p.costs))) 1000000))
 
--- of a program whose text has so many bytes
-abbrev pub limits_text : Program → ℕ → List ℕ
-limits_text p bytes = unit_limits p.config bytes ++ run_limits p
+-- of a program whose text has so many bytes, and its work, which has no limit of its own
+abbrev pub limits_rows : Form → Program → ℕ → List ℕ
+limits_rows form p bytes = unit_limits form p.config bytes ++ (run_limits form p ++ work_rows form p.config)

@@ -1,7 +1,9 @@
 -- What a request gives of a verified configuration (own rules).
 use Rattle.std.specs.Prelude.{◌≡◌, ◌<◌, ◌⊎◌, ℕ, ◌+◌, ◌++◌, Bool, true, false, List, [], ◌∷◌, length, Option, Some, None, option_map, Ok, Err, IfOk, IsErrAnd, codes, decimal, string_bytes}
+use Rattle.base_json.specs.declared.form.Form.{Form}
+use Rattle.base_json.specs.Forms.{form_of}
 use Rattle.il_spec.specs.declared.tree.Config.{Config}
-use Rattle.il_reports.specs.RangeTexts.{AreRangesShown}
+use Rattle.il_reports.specs.RangeTexts.{AreRangesIn}
 use Rattle.il_reports.specs.Sources.{shown_source}
 use Rattle.il_machine.specs.Scanning.{Program}
 use Rattle.lift_desk.specs.Passes.{Left}
@@ -17,6 +19,7 @@ use Rattle.lift_host.specs.declared.request.Request.{Request}
 use Rattle.lift_host.specs.declared.request.Rounds.{Rounds}
 use Rattle.lift_host.specs.declared.request.Request.TheVariants as request
 use Rattle.lift_host.specs.declared.request.Showing.{Showing}
+use Rattle.lift_host.specs.declared.request.Shown.{Shown}
 use Rattle.lift_host.specs.declared.request.Traced.{Traced}
 use Rattle.lift_host.specs.declared.request.Showing.TheVariants as showing
 use Rattle.lift_host.specs.declared.request.Simulating.{Simulating}
@@ -31,10 +34,10 @@ use Rattle.lift_host.specs.declared.request.Words.{Words}
 use Rattle.lift_host.specs.Requests.{AreNamesFirst, IsNumberTo, words_of}
 use Rattle.lift_journal.specs.Rounds.{TakesAll, IsRefusedAt}
 use Rattle.lift_journeys.specs.declared.log.Log.{Log}
-use Rattle.lift_journeys.specs.Lines.{lines_text}
+use Rattle.lift_journeys.specs.Lines.{lines_in}
 use Rattle.lift_journeys.specs.Summaries.{IsSummaryOf}
 use Rattle.lift_output.specs.ImageText.{image_text}
-use Rattle.lift_output.specs.Limits.{limits_text}
+use Rattle.lift_output.specs.Limits.{limits_rows}
 use Rattle.lift_output.specs.Listing.{listing}
 use Rattle.lift_output.specs.Scans.{IsAsked, IsEarlyRefused, IsScanOf, IsUnasked, IsUnaskedBy, HasNoScan}
 use Rattle.lift_output.specs.Spans.{IsSpanWord, IsNoSpan}
@@ -55,12 +58,12 @@ use Rattle.lift_spec.specs.Image.{sizes_of}
 use Rattle.lift_spec.specs.World.{World, opening}
 use Rattle.lift_trace.specs.Written.{text_of_entries}
 use Rattle.il_reports.specs.Warnings.{warnings_text}
-use Rattle.il_reports.specs.Xref.{xref_text}
+use Rattle.il_reports.specs.Xref.{xref_in}
 use Rattle.lift_watch.specs.declared.names.Watched.{Watched}
 use Rattle.lift_watch.specs.Calls.{IsLogOf}
 use Rattle.lift_watch.specs.Changes.{shown_text}
-use Rattle.lift_watch.specs.Denials.{denied}
-use Rattle.lift_watch.specs.Following.{IsDeniedAlong, AreRowsAlong}
+use Rattle.lift_watch.specs.Denials.{denied_in}
+use Rattle.lift_watch.specs.Following.{IsDeniedIn, AreRowsAlong}
 use Rattle.lift_watch.specs.Words.{meant}
 use Rattle.lift_watch.specs.Values.{AreWatched, IsUnknown, header_text, watching}
 use Rattle.lift_workers.specs.Ran.{IsRun}
@@ -73,15 +76,15 @@ IsPrinted text (Ok output) = bytes_of output ≡ text
 IsPrinted text (Err fault.NoMemory) = Unit {0}
 IsPrinted text (Err _) = ⊥
 
--- what `check` shows of a program whose text has so many bytes: its listing, with ranges of lines where they are asked for, and behind it limits,
--- where those are
-abbrev pub check_shown : Bool → Bool → Program → ℕ → List ℕ
-check_shown ranged false program bytes = listing ranged program
-check_shown ranged true program bytes = listing ranged program ++ limits_text program bytes
+-- what `check` shows of a program whose text has so many bytes, in a form: its listing, with ranges of lines where they are asked for, and behind it
+-- limits, where those are
+abbrev pub check_shown : Form → Bool → Bool → Program → ℕ → List ℕ
+check_shown form ranged false program bytes = listing form ranged program
+check_shown form ranged true program bytes = listing form ranged program ++ limits_rows form program bytes
 
 -- `check` of a verified program prints that.
 abbrev pub IsCheckOutcome : Checked → Program → ℕ → Outcome → Type 0
-IsCheckOutcome asked program bytes = IsPrinted (check_shown asked.paths asked.limits program bytes)
+IsCheckOutcome asked program bytes = IsPrinted (check_shown (form_of asked.json) asked.paths asked.limits program bytes)
 
 -- what a request warns of: `check` of what is in vain, where that is asked for
 abbrev pub asked_warnings : Bool → Program → Option (List ℕ)
@@ -108,17 +111,17 @@ AreWarned (request.Trace command traced) program outcome = HasWarnings None outc
 
 -- WHAT A TEXT SHOWS
 
--- `ranges` prints what the verifier has found for each instruction, with the instruction's text where `source` has that; memory may be missing.
-abbrev pub IsRangesOutcome : Option (List ℕ) → Config → Outcome → Type 0
-IsRangesOutcome source c (Ok output) = AreRangesShown source c (bytes_of output)
-IsRangesOutcome source c (Err fault.NoMemory) = Unit {0}
-IsRangesOutcome source c (Err _) = ⊥
+-- `ranges` prints in a form what the verifier has found for each instruction, with the instruction's text where `source` has that; memory may be missing.
+abbrev pub IsRangesOutcome : Form → Option (List ℕ) → Config → Outcome → Type 0
+IsRangesOutcome form source c (Ok output) = AreRangesIn form source c (bytes_of output)
+IsRangesOutcome form source c (Err fault.NoMemory) = Unit {0}
+IsRangesOutcome form source c (Err _) = ⊥
 
 -- `ranges` prints that of the program of a text, `source`, with the texts of instructions where they are asked for; `xref` prints where names are
--- declared, read, written and called.
-abbrev pub IsShowOutcome : Showing → Bool → List ℕ → Program → Outcome → Type 0
-IsShowOutcome showing.Ranges with_text source program = IsRangesOutcome (shown_source with_text source) program.config
-IsShowOutcome showing.Xref with_text source program = IsPrinted (xref_text program.config)
+-- declared, read, written and called, in a form.
+abbrev pub IsShowOutcome : Showing → Shown → List ℕ → Program → Outcome → Type 0
+IsShowOutcome showing.Ranges asked source program = IsRangesOutcome (form_of asked.json) (shown_source asked.text source) program.config
+IsShowOutcome showing.Xref asked source program = IsPrinted (xref_in (form_of asked.json) program.config)
 
 -- WHAT DRIVES ROUNDS
 
@@ -249,14 +252,14 @@ IsRunOutcome program asked calls (Err why) = IsUndriven (sizes_of program.config
 
 -- DENIALS
 
--- The lines are those of a simulation of the program from its opening, with the presses and the settings of the words and of the file; the stops
--- at the ends of the shaft are among them where all are asked for.
+-- The rows are those of a simulation of the program from its opening, with the presses and the settings of the words and of the file, in the form that is
+-- asked for; the stops at the ends of the shaft are among them where all are.
 pub record IsDenialsOf (program : Program) (asked : Rounds) (calls : Reading) (text : List ℕ) : Type 0 where
   pub presses : List Press
   pub settings : List Setting
   pub driven : AreDriven (sizes_of program.config) asked calls presses settings
   pub entries : List Entry
-  pub shown : IsShown (denied asked.flag) program.config presses settings asked.rounds entries text
+  pub shown : IsShown (denied_in (form_of asked.json) asked.flag) program.config presses settings asked.rounds entries text
 
 -- `denials` prints them, where the words and the file are good.
 abbrev pub IsDenialsOutcome : Program → Rounds → Reading → Outcome → Type 0
@@ -306,16 +309,16 @@ IsWatchOutcome program asked calls (Err why) = IsUnwatched program asked calls w
 
 -- TRACES
 
--- what is printed of what is known of calls: a line of each, or a summary
-abbrev pub IsCallsText : Bool → Log → List ℕ → Type 0
-IsCallsText false log text = text ≡ lines_text log.journeys
-IsCallsText true log text = IsSummaryOf log.pressed log.journeys text
+-- what is printed of what is known of calls: a row of each in a form, or a summary
+abbrev pub IsCallsText : Form → Bool → Log → List ℕ → Type 0
+IsCallsText form false log text = text ≡ lines_in form log.journeys
+IsCallsText form true log text = IsSummaryOf log.pressed log.journeys text
 
 -- the text of the calls of a trace's events, from a world on
-pub record IsTextOfCalls (c : Config) (summary : Bool) (from : World) (events : List TraceEvent) (after : World) (text : List ℕ) : Type 0 where
+pub record IsTextOfCalls (c : Config) (form : Form) (summary : Bool) (from : World) (events : List TraceEvent) (after : World) (text : List ℕ) : Type 0 where
   pub log : Log
   pub known : IsLogOf c from events after log
-  pub is : IsCallsText summary log text
+  pub is : IsCallsText form summary log text
 
 -- the text of the values of names behind each round of a trace's events, from a world on, with `--changes` without the rows that repeat
 pub record IsTextOfValues (c : Config) (names : List (List ℕ)) (changes : Bool) (from : World) (events : List TraceEvent) (after : World) (text : List ℕ) : Type 0 where
@@ -330,8 +333,8 @@ pub record IsTextOfValues (c : Config) (names : List (List ℕ)) (changes : Bool
 abbrev pub Says : Telling → Program → World → List TraceEvent → World → List ℕ → Type 0
 Says Image program from events after text = text ≡ image_text program.config after
 Says (Picture span) program from events after text = Unit {0}
-Says (Calls summary) program from events after text = IsTextOfCalls program.config summary from events after text
-Says (Denials all) program from events after text = IsDeniedAlong all program.config from events after text
+Says (Calls form summary) program from events after text = IsTextOfCalls program.config form summary from events after text
+Says (Denials form all) program from events after text = IsDeniedIn form all program.config from events after text
 Says (Values names changes) program from events after text = IsTextOfValues program.config (meant program.config (words_of names)) changes from events after text
 
 -- the word behind `--rounds` says no rounds
@@ -359,8 +362,8 @@ HaveValues from names = (watched : List Watched) × AreWatched from names watche
 abbrev pub HasGoodWords : Telling → Program → World → Type 0
 HasGoodWords Image program from = Unit {0}
 HasGoodWords (Picture span) program from = (rounds : Span) × IsSpanWord (option_map (λ word. word.now) span) rounds
-HasGoodWords (Calls summary) program from = Unit {0}
-HasGoodWords (Denials all) program from = Unit {0}
+HasGoodWords (Calls form summary) program from = Unit {0}
+HasGoodWords (Denials form all) program from = Unit {0}
 HasGoodWords (Values names changes) program from = HaveValues from (meant program.config (words_of names))
 
 -- the words beside a trace are good, and an event of it is refused, with this number, at its line
@@ -429,10 +432,10 @@ abbrev pub IsToldOutcome : Option Telling → Traced → Program → List ℕ �
 IsToldOutcome None traced program source trace outcome = IsScanOutcome traced program source trace outcome
 IsToldOutcome (Some telling) traced program source trace outcome = IsTraceOutcome telling program source trace outcome
 
--- A verified program of a text gives what its command prints, with what was read of its other file: the trace, or the file behind `--calls`. This is without
--- `--json`.
+-- A verified program of a text gives what its command prints, with what was read of its other file: the trace, or the file behind `--calls`. With `--json` each
+-- row is an object.
 abbrev pub IsProgramOutcome : Request → Program → List ℕ → Reading → Outcome → Type 0
 IsProgramOutcome (request.Check checked) program source other outcome = IsCheckOutcome checked program (length source) outcome
-IsProgramOutcome (request.Show command shown) program source other outcome = IsShowOutcome command shown.text source program outcome
+IsProgramOutcome (request.Show command shown) program source other outcome = IsShowOutcome command shown source program outcome
 IsProgramOutcome (request.Rounds command asked) program source other outcome = IsRoundsOutcome command program asked other outcome
 IsProgramOutcome (request.Trace command traced) program source other outcome = IsToldOutcome (telling_of command traced) traced program source other outcome

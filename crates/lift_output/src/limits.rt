@@ -1,6 +1,7 @@
 // How much of each limit a configuration uses.
 
-ghost use Rattle.std.specs.Prelude.{◌≡◌, ◌≤◌, ◌<◌, ◌+◌, IfOk, OnOk, None, Some, false, length, map, option_map};
+ghost use Rattle.std.specs.Prelude.{◌≡◌, ◌≤◌, ◌<◌, ◌+◌, ◌++◌, IfOk, OnOk, None, Some, false, length, map, option_map};
+ghost use Rattle.base_json.specs.Forms.{row_in};
 ghost use Rattle.base_texts.specs.Puts.{Puts};
 ghost use Rattle.il_spec.specs.Grammar.{depth_after, greatest_depth};
 ghost use Rattle.il_machine.specs.Listing.{unit_lines};
@@ -9,13 +10,18 @@ ghost use Rattle.il_order.specs.Related.{tabulate};
 ghost use Rattle.il_order.specs.Used.{uses};
 ghost use Rattle.lift_spec.specs.Image.{sizes_of};
 ghost use Rattle.lift_spec.specs.Snapshot.{program_of, task_name};
-ghost use Rattle.lift_output.specs.Limits.{chain_from, chain_through, chains, cost_use, limit_line, limit_words, limits_text, longest_chain, longest_of, run_limits, measured, most_line, most_of, slots_text, slots_words, task_slots, unit_limits, unit_use, use_shown, with_more};
+ghost use Rattle.lift_output.specs.Limits.{chain_from, chain_through, chains, cost_use, limit_line, limit_line_in, limit_members, limit_members_in, limit_row, limit_row_in, limit_words, limits_rows, longest_chain, longest_of, run_limits, measured, most_row, most_of, slots_rows, slots_row, task_slots, text_limits, body_limits, unit_limits, unit_use, use_shown, with_more, work_use, work_line, work_members, work_rows};
+ghost use Rattle.il_work_laws.specs.Work.{most_work};
+ghost use Rattle.il_work.specs.Sizes.{capped};
 
+use base_json::form::Form;
+use base_json::object::Object;
 use il_machine::Verified;
 use il_order::relation::{Relation, holds};
 use il_order::uses::uses;
 use il_scope::Scoped;
 use il_spec::tree::{Config, Instruction, Step, Unit};
+use il_work::works;
 use lists::Items;
 use std::alloc::{AllocError, Global};
 
@@ -50,44 +56,96 @@ enum Measure {
     Nesting,
 }
 
-/// Writes how much a configuration uses of each limit, where its text has so many bytes: a line of each, of what is
-/// counted by unit the first that uses the most, and of slots each task.
+/// Writes how much a configuration uses of each limit, where its text has so many bytes: a row of each, of what is
+/// counted by unit the first that uses the most, and of slots each task. The last row has the most work of a unit.
 pub fn put_limits(
     alloc: Global,
     text: &mut String,
+    form: Form,
     verified: &Verified,
     bytes: usize,
 ) -> Result<(), AllocError>
-    ensures { OnOk result (Puts text.old text.new (limits_text verified.now bytes)) }
+    ensures { OnOk result (Puts text.old text.new (limits_rows form verified.now bytes)) }
 {
-    put_unit_limits(text, verified.config(), bytes)?;
-    put_run_limits(alloc, text, verified)
+    put_unit_limits(alloc, text, form, verified.config(), bytes)?;
+    put_run_limits(alloc, text, form, verified)?;
+    put_work(alloc, text, form, verified.names())
 }
 
 // Of a text of so many bytes, and of its units.
-#[tactic(auto, unfolding(crate::specs::Limits::unit_limits))]
-fn put_unit_limits(text: &mut String, config: &Config, bytes: usize) -> Result<(), AllocError>
-    ensures { OnOk result (Puts text.old text.new (unit_limits config.now bytes)) }
+fn put_unit_limits(
+    alloc: Global,
+    text: &mut String,
+    form: Form,
+    config: &Config,
+    bytes: usize,
+) -> Result<(), AllocError>
+    ensures { OnOk result (Puts text.old text.new (unit_limits form config.now bytes)) }
+{
+    put_text_limits(alloc, text, form, config, bytes)?;
+    put_body_limits(alloc, text, form, config)
+}
+
+#[tactic(auto, unfolding(crate::specs::Limits::text_limits))]
+fn put_text_limits(
+    alloc: Global,
+    text: &mut String,
+    form: Form,
+    config: &Config,
+    bytes: usize,
+) -> Result<(), AllocError>
+    ensures { OnOk result (Puts text.old text.new (text_limits form config.now bytes)) }
 {
     let units = config.units.as_slice();
-    put_limit(text, "bytes", bytes, MOST_BYTES)?;
-    put_limit(text, "units", units.len(), MOST_UNITS)?;
+    put_limit(alloc, text, form, "bytes", bytes, MOST_BYTES)?;
+    put_limit(alloc, text, form, "units", units.len(), MOST_UNITS)
+}
+
+#[tactic(auto, unfolding(crate::specs::Limits::body_limits))]
+fn put_body_limits(
+    alloc: Global,
+    text: &mut String,
+    form: Form,
+    config: &Config,
+) -> Result<(), AllocError>
+    ensures { OnOk result (Puts text.old text.new (body_limits form config.now)) }
+{
+    let units = config.units.as_slice();
     let instructions = greatest(units, Measure::Instructions);
-    put_most(text, "instructions", instructions, MOST_INSTRUCTIONS)?;
+    put_most(
+        alloc,
+        text,
+        form,
+        "instructions",
+        instructions,
+        MOST_INSTRUCTIONS,
+    )?;
     let nesting = greatest(units, Measure::Nesting);
-    put_most(text, "nesting", nesting, MOST_NESTING)
+    put_most(alloc, text, form, "nesting", nesting, MOST_NESTING)
 }
 
 // Of chains, slots and costs.
 #[tactic(auto, unfolding(crate::specs::Limits::run_limits))]
-fn put_run_limits(alloc: Global, text: &mut String, verified: &Verified) -> Result<(), AllocError>
-    ensures { OnOk result (Puts text.old text.new (run_limits verified.now)) }
+fn put_run_limits(
+    alloc: Global,
+    text: &mut String,
+    form: Form,
+    verified: &Verified,
+) -> Result<(), AllocError>
+    ensures { OnOk result (Puts text.old text.new (run_limits form verified.now)) }
 {
     let chain = longest_chain(alloc, verified.names())?;
-    put_limit(text, "chain", chain, MOST_CHAIN)?;
-    put_slots(text, verified)?;
-    put_limit(text, "globals", verified.globals().len(), MOST_SLOTS)?;
-    put_most(text, "cost", most_costly(verified), MOST_COST)
+    put_limit(alloc, text, form, "chain", chain, MOST_CHAIN)?;
+    put_slots(alloc, text, form, verified)?;
+    put_limit(
+        alloc,
+        text,
+        form,
+        "globals",
+        verified.globals().len(),
+        MOST_SLOTS,
+    )?;
+    put_most(alloc, text, form, "cost", most_costly(verified), MOST_COST)
 }
 
 // `limit NAME used N of N`.
@@ -97,29 +155,95 @@ fn put_words(text: &mut String, name: &str, used: usize, most: usize) -> Result<
     write!(text, "limit {} used {} of {}", name, used, most)
 }
 
+fn put_limit(
+    alloc: Global,
+    text: &mut String,
+    form: Form,
+    name: &str,
+    used: usize,
+    most: usize,
+) -> Result<(), AllocError>
+    ensures { OnOk result (Puts text.old text.new (limit_row form name.now used most)) }
+{
+    match form {
+        Form::Plain => put_limit_line(text, name, used, most),
+        Form::Json => {
+            let mut object = Object::begin(alloc)?;
+            add_limit(&mut object, name, used, most)?;
+            object.put_line(text)
+        }
+    }
+}
+
 #[tactic(auto, unfolding(crate::specs::Limits::limit_line))]
-fn put_limit(text: &mut String, name: &str, used: usize, most: usize) -> Result<(), AllocError>
+fn put_limit_line(text: &mut String, name: &str, used: usize, most: usize) -> Result<(), AllocError>
     ensures { OnOk result (Puts text.old text.new (limit_line name.now used most)) }
 {
     put_words(text, name, used, most)?;
     text.push_str("\n")
 }
 
-#[tactic(auto, unfolding(crate::specs::Limits::most_line))]
-fn put_most(
+#[tactic(auto, unfolding(crate::specs::Limits::limit_members))]
+fn add_limit(object: &mut Object, name: &str, used: usize, most: usize) -> Result<(), AllocError>
+    ensures { OnOk result (object.new ≡ object.old ++ limit_members name.now used most) }
+{
+    object.text_member("limit", name)?;
+    object.number_member("used", used as u64)?;
+    object.number_member("of", most as u64)
+}
+
+// A limit of a unit or a task.
+fn put_limit_in(
+    alloc: Global,
     text: &mut String,
+    form: Form,
+    name: &str,
+    used: usize,
+    most: usize,
+    holder: &str,
+) -> Result<(), AllocError>
+    ensures { OnOk result (Puts text.old text.new
+        (limit_row_in form name.now used most holder.now)) }
+{
+    match form {
+        Form::Plain => put_limit_line_in(text, name, used, most, holder),
+        Form::Json => {
+            let mut object = Object::begin(alloc)?;
+            add_limit(&mut object, name, used, most)?;
+            object.text_member("in", holder)?;
+            object.put_line(text)
+        }
+    }
+}
+
+#[tactic(auto, unfolding(crate::specs::Limits::limit_line_in))]
+fn put_limit_line_in(
+    text: &mut String,
+    name: &str,
+    used: usize,
+    most: usize,
+    holder: &str,
+) -> Result<(), AllocError>
+    ensures { OnOk result (Puts text.old text.new
+        (limit_line_in name.now used most holder.now)) }
+{
+    put_words(text, name, used, most)?;
+    writeln!(text, " in {}", holder)
+}
+
+fn put_most(
+    alloc: Global,
+    text: &mut String,
+    form: Form,
     name: &str,
     unit: Option<Usage<'_>>,
     most: usize,
 ) -> Result<(), AllocError>
     ensures { OnOk result (Puts text.old text.new
-        (most_line name.now (option_map use_shown unit.entry) most)) }
+        (most_row form name.now (option_map use_shown unit.entry) most)) }
 {
     match unit {
-        Some(unit) => {
-            put_words(text, name, unit.used, most)?;
-            writeln!(text, " in {}", unit.name)
-        }
+        Some(unit) => put_limit_in(alloc, text, form, name, unit.used, most, unit.name),
         None => Ok(()),
     }
 }
@@ -197,6 +321,64 @@ fn most_costly(verified: &Verified) -> Option<Usage<'_>>
         let usage = Usage {
             name: unit.name,
             used: unit.cost as usize,
+        };
+        best = Some(with_more(best, usage));
+    }
+    best
+}
+
+// Which unit does the most work.
+fn put_work(alloc: Global, text: &mut String, form: Form, names: &Scoped) -> Result<(), AllocError>
+    ensures { OnOk result (Puts text.old text.new (work_rows form names.now)) }
+{
+    let works = works(alloc, names)?;
+    match busiest(names.config(), &works) {
+        Some(unit) => put_work_row(alloc, text, form, unit.used, unit.name),
+        None => Ok(()),
+    }
+}
+
+fn put_work_row(
+    alloc: Global,
+    text: &mut String,
+    form: Form,
+    used: usize,
+    name: &str,
+) -> Result<(), AllocError>
+    ensures { OnOk result (Puts text.old text.new
+        (row_in form (work_line used name.now) (work_members used name.now))) }
+{
+    match form {
+        Form::Plain => put_work_line(text, used, name),
+        Form::Json => {
+            let mut object = Object::begin(alloc)?;
+            object.number_member("work", used as u64)?;
+            object.text_member("in", name)?;
+            object.put_line(text)
+        }
+    }
+}
+
+// `work N in UNIT`.
+#[tactic(auto, unfolding(crate::specs::Limits::work_line))]
+fn put_work_line(text: &mut String, used: usize, name: &str) -> Result<(), AllocError>
+    ensures { OnOk result (Puts text.old text.new (work_line used name.now)) }
+{
+    writeln!(text, "work {} in {}", used, name)
+}
+
+// The first unit that does the most work, by the work of each.
+fn busiest<'c>(config: &'c Config, works: &Items<usize>) -> Option<Usage<'c>>
+    requires { works.now ≡ map (λ u. capped (most_work config.now u)) config.now.units }
+    ensures { option_map use_shown result
+        ≡ most_of None (map (work_use config.now) config.now.units) }
+{
+    let units = config.units.as_slice();
+    let mut best = None;
+    'units: for at in 0..units.len() {
+        let usage = Usage {
+            name: units[at].name.name.as_str(),
+            used: number_at(works, at),
         };
         best = Some(with_more(best, usage));
     }
@@ -288,36 +470,51 @@ fn number_at(numbers: &Items<usize>, at: usize) -> usize
 }
 
 // The slots of each task.
-fn put_slots(text: &mut String, verified: &Verified) -> Result<(), AllocError>
-    ensures { OnOk result (Puts text.old text.new (slots_text verified.now.config)) }
+fn put_slots(
+    alloc: Global,
+    text: &mut String,
+    form: Form,
+    verified: &Verified,
+) -> Result<(), AllocError>
+    ensures { OnOk result (Puts text.old text.new (slots_rows form verified.now.config)) }
 {
     'cars: for before in 0..verified.sizes().cars {
-        put_task_slots(text, verified, before + 1)?;
+        put_task_slots(alloc, text, form, verified, before + 1)?;
     }
-    put_task_slots(text, verified, 0)
+    put_task_slots(alloc, text, form, verified, 0)
 }
 
 // The slots of a task, if the group has it.
-fn put_task_slots(text: &mut String, verified: &Verified, task: u8) -> Result<(), AllocError>
+fn put_task_slots(
+    alloc: Global,
+    text: &mut String,
+    form: Form,
+    verified: &Verified,
+    task: u8,
+) -> Result<(), AllocError>
     requires { task ≤ (sizes_of verified.now.config).cars }
-    ensures { OnOk result (Puts text.old text.new (task_slots verified.now.config task)) }
+    ensures { OnOk result (Puts text.old text.new (task_slots form verified.now.config task)) }
 {
     let _config = verified.config();
     if !verified.has_task(task) {
         return Ok(());
     }
     let slots = verified.opening_variables(task).numbers().len();
-    put_slots_words(text, task, slots)
+    put_slots_row(alloc, text, form, task, slots)
 }
 
-#[tactic(auto, unfolding(crate::specs::Limits::slots_words))]
-fn put_slots_words(text: &mut String, task: u8, slots: usize) -> Result<(), AllocError>
-    ensures { OnOk result (Puts text.old text.new (slots_words task slots)) }
+fn put_slots_row(
+    alloc: Global,
+    text: &mut String,
+    form: Form,
+    task: u8,
+    slots: usize,
+) -> Result<(), AllocError>
+    ensures { OnOk result (Puts text.old text.new (slots_row form task slots)) }
 {
-    put_words(text, "slots", slots, MOST_SLOTS)?;
-    text.push_str(" in ")?;
-    put_task(text, task)?;
-    text.push_str("\n")
+    let mut name = String::new(alloc);
+    put_task(&mut name, task)?;
+    put_limit_in(alloc, text, form, "slots", slots, MOST_SLOTS, &name)
 }
 
 // The name of a task: 0 is GROUP, k is CARk.

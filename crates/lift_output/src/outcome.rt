@@ -1,6 +1,7 @@
 // What a request prints over a verified configuration.
 
 ghost use Rattle.std.specs.Prelude.{◌≡◌, ◌≢◌, ◌≤◌, ◌+◌, ◌++◌, All, Option, None, option_map, length, Ok, Err, IfOk, IfErr, OnOk, map, string_bytes};
+ghost use Rattle.base_json.specs.Forms.{form_of};
 ghost use Rattle.lift_spec.specs.Image.{sizes_of};
 ghost use Rattle.lift_spec.specs.World.{opening};
 ghost use Rattle.lift_state.specs.Beginnings.{BeginsTrace};
@@ -26,8 +27,9 @@ use crate::limits::put_limits;
 use crate::scan::scan_outcome;
 use crate::span::span_of;
 use crate::telling::Telling;
+use base_json::form::Form;
 use il_machine::Verified;
-use il_reports::{ranges_text, warnings_text, xref_text};
+use il_reports::{ranges_in, warnings_text, xref_in};
 use lift_desk::DeskClosed;
 use lift_draw::{Stop, drawing};
 use lift_host::calls::{CallsFault, CallsFile, read_calls};
@@ -37,7 +39,7 @@ use lift_host::request::{
     Checked, Following, Name, Named, Request, Rounds, Showing, Shown, Simulating, Traced, Words,
 };
 use lift_host::status::{Fault, LineFault};
-use lift_journeys::lines::lines_text;
+use lift_journeys::lines::lines_in;
 use lift_journeys::log::Log;
 use lift_journeys::summary::summary_text;
 use lift_messages::output;
@@ -51,7 +53,7 @@ use lift_state::begin::{Beginning, begin};
 use lift_watch::calls::call_log;
 use lift_watch::changes::shown_text;
 use lift_watch::denials::Denials;
-use lift_watch::following::{denied_along, rows_along};
+use lift_watch::following::{denied_in, rows_along};
 use lift_watch::watch::Watch;
 use lift_watch::words::meant;
 use lift_workers::RunFault;
@@ -64,7 +66,7 @@ use std::sync::Wait;
 use std::thread::Threads;
 
 /// What a request that isn't `run` prints over the verified configuration of a text, `source`, with what was read of its trace or its file behind
-/// `--calls`, or why it prints nothing. A trace of another text is refused, 85, where it has a state (own rule). `--json` changes nothing here.
+/// `--calls`, or why it prints nothing. A trace of another text is refused, 85, where it has a state (own rule). With `--json` each row is an object.
 pub fn outcome(
     alloc: Global,
     request: Request<'_>,
@@ -170,13 +172,15 @@ fn check_shown(
     bytes: usize,
 ) -> Result<String, AllocError>
     ensures { IfOk result (λ text. string_bytes text
-        ≡ check_shown asked.entry.paths asked.entry.limits verified.now bytes) }
+        ≡ check_shown (form_of asked.entry.json) asked.entry.paths asked.entry.limits verified.now
+        bytes) }
 {
-    let mut text = check_text(alloc, verified, asked.paths)?;
+    let form = Form::of(asked.json);
+    let mut text = check_text(alloc, form, verified, asked.paths)?;
     if !asked.limits {
         return Ok(text);
     }
-    put_limits(alloc, &mut text, verified, bytes)?;
+    put_limits(alloc, &mut text, form, verified, bytes)?;
     Ok(text)
 }
 
@@ -188,13 +192,14 @@ fn shown(
     asked: Shown<'_>,
     source: &[u8],
 ) -> Result<Output, Fault>
-    ensures is { IsShowOutcome command asked.entry.text source.now verified result }
+    ensures is { IsShowOutcome command asked.entry source.now verified result }
     ensures warned { HasWarnings None result }
     ensures unwritten { result ≢ Err Fault.CannotWrite }
 {
+    let form = Form::of(asked.json);
     let text = match command {
-        Showing::Ranges => ranges_text(alloc, verified.names(), asked.text, source),
-        Showing::Xref => xref_text(alloc, verified.config()),
+        Showing::Ranges => ranges_in(alloc, verified.names(), form, asked.text, source),
+        Showing::Xref => xref_in(alloc, form, verified.config()),
     };
     verified.release();
     Ok(Output::Text(text?))
@@ -385,7 +390,7 @@ fn denied(
     match drive_of(alloc, asked, verified.sizes(), calls) {
         Ok(driven) => {
             let drive = driven.drive();
-            let mut denials = Denials::new(alloc, asked.flag);
+            let mut denials = Denials::in_form(alloc, Form::of(asked.json), asked.flag);
             simulate_before(alloc, verified, drive, asked.rounds, &mut denials)?;
             Ok(Output::Text(denials.text))
         }
@@ -616,8 +621,8 @@ fn told_of(
     match telling {
         Telling::Image => image_after(alloc, world, events, lines),
         Telling::Picture(span) => picture_of(alloc, world, events, lines, span),
-        Telling::Calls(summary) => calls_of(alloc, world, events, lines, summary),
-        Telling::Denials(all) => denials_along(alloc, world, events, lines, all),
+        Telling::Calls(form, summary) => calls_of(alloc, world, events, lines, form, summary),
+        Telling::Denials(form, all) => denials_along(alloc, world, events, lines, form, all),
         Telling::Values(names, changes) => {
             values_along(alloc, world, events, lines, names, changes)
         }
@@ -669,14 +674,15 @@ fn denials_along(
     world: &mut World,
     events: &[TraceEvent],
     lines: u32,
+    form: Form,
     all: bool,
 ) -> Result<Output, Fault>
     requires few { lines + length events.now ≤ greatest_trace }
-    ensures is { AreFollowed (Telling.Denials all) world.old.program world.old.world events.now
+    ensures is { AreFollowed (Telling.Denials form all) world.old.program world.old.world events.now
         lines result }
     ensures warned { HasWarnings None result }
 {
-    match denied_along(alloc, world, events, all) {
+    match denied_in(alloc, world, events, form, all) {
         Ok(text) => Ok(Output::Text(text)),
         Err(along::Stop::Refused(refused)) => Err(fault_of_event(refused, lines)),
         Err(along::Stop::Memory) => Err(Fault::NoMemory),
@@ -727,35 +733,36 @@ fn values_of(
     }
 }
 
-// The calls of events: a line of each, or a summary.
+// The calls of events: a row of each in a form, or a summary.
 fn calls_of(
     alloc: Global,
     world: &mut World,
     events: &[TraceEvent],
     lines: u32,
+    form: Form,
     summary: bool,
 ) -> Result<Output, Fault>
     requires few { lines + length events.now ≤ greatest_trace }
-    ensures is { AreFollowed (Telling.Calls summary) world.old.program world.old.world events.now
+    ensures is { AreFollowed (Telling.Calls form summary) world.old.program world.old.world events.now
         lines result }
     ensures warned { HasWarnings None result }
 {
     match call_log(alloc, world, events) {
-        Ok(log) => Ok(Output::Text(calls_text(alloc, &log, summary)?)),
+        Ok(log) => Ok(Output::Text(calls_text(alloc, form, &log, summary)?)),
         Err(along::Stop::Refused(refused)) => Err(fault_of_event(refused, lines)),
         Err(along::Stop::Memory) => Err(Fault::NoMemory),
     }
 }
 
 // What is printed of what is known of calls.
-fn calls_text(alloc: Global, log: &Log, summary: bool) -> Result<String, AllocError>
-    ensures { IfOk result (λ text. IsCallsText summary log.now (string_bytes text)) }
+fn calls_text(alloc: Global, form: Form, log: &Log, summary: bool) -> Result<String, AllocError>
+    ensures { IfOk result (λ text. IsCallsText form summary log.now (string_bytes text)) }
 {
     let journeys = log.journeys.as_slice();
     if summary {
         summary_text(alloc, log.pressed, journeys)
     } else {
-        lines_text(alloc, journeys)
+        lines_in(alloc, form, journeys)
     }
 }
 

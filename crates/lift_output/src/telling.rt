@@ -3,6 +3,7 @@
 ghost use Rattle.std.specs.Prelude.{◌≡◌};
 ghost use Rattle.lift_output.specs.Tellings.{telling_of};
 
+use base_json::form::Form;
 use lift_host::request::{Following, Traced, Words};
 
 /// What a command tells of a trace.
@@ -12,10 +13,10 @@ pub enum Telling<'w> {
     Image,
     /// A picture of the rounds that a word says, or of all.
     Picture(Option<&'w str>),
-    /// Its calls: a line of each, or where `true` a summary.
-    Calls(bool),
-    /// What the interlock denied along it; where `true` also the stops at the ends of the shaft.
-    Denials(bool),
+    /// Its calls: a row of each in a form, or where `true` a summary.
+    Calls(Form, bool),
+    /// What the interlock denied along it, in a form; where `true` also the stops at the ends of the shaft.
+    Denials(Form, bool),
     /// The values of names behind each of its rounds; where `true` without the rounds that repeat those of the round before.
     Values(Words<'w>, bool),
 }
@@ -28,8 +29,8 @@ impl<'w> Telling<'w> {
         match command {
             Following::Replay => Some(Telling::Image),
             Following::Draw => Some(Telling::Picture(traced.span)),
-            Following::Calls => Some(Telling::Calls(traced.flag)),
-            Following::Denials => Some(Telling::Denials(traced.flag)),
+            Following::Calls => Some(Telling::Calls(Form::of(traced.json), traced.flag)),
+            Following::Denials => Some(Telling::Denials(Form::of(traced.json), traced.flag)),
             Following::Watch => Some(Telling::Values(traced.names, traced.flag)),
             Following::Scan => None,
         }

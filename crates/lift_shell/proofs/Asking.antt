@@ -11,6 +11,7 @@ use Rattle.lift_host.specs.declared.request.Request.TheVariants as request
 use Rattle.lift_host.specs.declared.request.Simulating.TheVariants as simulating
 use Rattle.lift_host.specs.Requests.{Asks, with_flags}
 use Rattle.lift_shell.specs.Runs.{AskForRun, IsAnswerOf, IsFileAnswer, IsForRun, asked, runs}
+use Rattle.lift_shell.specs.declared.commands.OtherFault.{OtherFault}
 use Rattle.lift_messages.specs.Outputs.{Outcome}
 
 -- a request that is `run` with its flag is `run`
@@ -27,8 +28,8 @@ pub asks_for_run : (plain : Plain) → {request : Request} → IsForRun plain re
 asks_for_run plain is = runs_plain (map string_bytes plain.words.items) plain.flags is.asked is.asks (ap runs (sym is.flagged) ∙ is.is_run)
 
 -- the answer of a request is that of its words
-pub answer_of : (reads : List ℕ → ℕ → List ℕ → Type 0) (fails : List ℕ → ℕ → ReadFault → Type 0) (gives : Request → List ℕ → Reading → Outcome → Type 0) (reasons : List ℕ → ℕ → Place → List ℕ → Type 0) (always : Bool) (plain : Plain) (outcome : Outcome) (below : List ℕ)
+pub answer_of : (reads : List ℕ → ℕ → List ℕ → Type 0) (fails : List ℕ → ℕ → ReadFault → Type 0) (gives : Request → List ℕ → Reading → Outcome → Type 0) (reasons : List ℕ → ℕ → Place → List ℕ → Type 0) (others : List ℕ → ℕ → Place → List OtherFault → Type 0) (always : Bool) (plain : Plain) (outcome : Outcome) (below : List ℕ)
     → (of : Request) → Asks (map string_bytes plain.words.items) of → (flagged : Request) → flagged ≡ with_flags plain.flags of → (wanted : Bool) → wanted ≡ (always || plain.explains)
-    → IsFileAnswer reads fails gives reasons wanted flagged outcome below → IsAnswerOf reads fails gives reasons always plain outcome below
-answer_of reads fails gives reasons always plain outcome below of asks flagged is_flagged wanted is_wanted is =
-    asked of asks (subst (λ r. IsFileAnswer reads fails gives reasons (always || plain.explains) r outcome below) is_flagged (subst (λ w. IsFileAnswer reads fails gives reasons w flagged outcome below) is_wanted is))
+    → IsFileAnswer reads fails gives reasons others wanted flagged outcome below → IsAnswerOf reads fails gives reasons others always plain outcome below
+answer_of reads fails gives reasons others always plain outcome below of asks flagged is_flagged wanted is_wanted is =
+    asked of asks (subst (λ r. IsFileAnswer reads fails gives reasons others (always || plain.explains) r outcome below) is_flagged (subst (λ w. IsFileAnswer reads fails gives reasons others w flagged outcome below) is_wanted is))

@@ -1,3 +1,4 @@
 pub mod Cutting
 pub mod Ending
 pub mod Asking
+pub mod AlsoTold

@@ -27,6 +27,8 @@ use Rattle.lift_host.specs.Writes.{AppendsFront, Writes}
 use Rattle.lift_messages.specs.Notices.{word_notice, file_notice, plain_notice}
 use Rattle.lift_messages.specs.Places.{IsShownBelow, IsTextShownBelow}
 use Rattle.lift_shell.specs.Cuts.{completed}
+use Rattle.lift_shell.specs.declared.commands.OtherFault.{OtherFault}
+use Rattle.lift_shell.specs.Also.{AreAlsoTold}
 
 -- the bytes of a file that are read: one more than a text may have
 abbrev pub most_bytes : ℕ
@@ -136,30 +138,59 @@ is_of_text (fault.CannotRead cause) = false
 is_of_text fault.CannotWrite = false
 is_of_text fault.NoMemory = false
 
--- whether something is wanted below a fault: where faults are to be explained, and with `--json` below each refusal of FILE
+-- whether a request asks for the first fault of each unit
+abbrev pub asks_all : Request → Bool
+asks_all (request.Check checked) = checked.all
+asks_all (request.Show command shown) = false
+asks_all (request.Rounds command rounds) = false
+asks_all (request.Trace command traced) = false
+
+-- whether something is wanted below a fault: where faults are to be explained, and with `--json` and with `--all` below each refusal of FILE
 abbrev pub wants : Bool → Request → Fault → Bool
-wants wanted request f = wanted || (asks_json request && is_of_text f)
+wants wanted request f = wanted || ((asks_json request || asks_all request) && is_of_text f)
+
+-- whether faults of FILE are explained: where faults are to be, and with `--json`
+abbrev pub explains_text : Bool → Request → Bool
+explains_text wanted request = wanted || asks_json request
 
 -- below a refusal of FILE: JSON, where that is asked for
 abbrev pub IsTextBelow : Bool → List ℕ → List ℕ → ℕ → Place → List ℕ → List ℕ → Type 0
 IsTextBelow true name text number place reason below = IsRefusalLine name text number place reason below
 IsTextBelow false name text number place reason below = IsTextShownBelow name text number place reason below
 
--- What stands below a fault: of a refusal its place, what the number means, its line as it was read, and of a text what is told of it; of the others the word or the file and what
--- is wrong with it.
-abbrev pub IsFaultBelow : (List ℕ → ℕ → Place → List ℕ → Type 0) → Request → List ℕ → Reading → Fault → List ℕ → Type 0
-IsFaultBelow reasons request text trace (fault.Misuse said) below = below ≡ []
-IsFaultBelow reasons request text trace (fault.RefusedText number place) below = (reason : List ℕ) × reasons text number place reason × IsTextBelow (asks_json request) (name_of request) text number place reason below
-IsFaultBelow reasons request text trace (fault.Refused number line) below = IsShownBelow (other_source request text trace).0 (other_source request text trace).1 number line below
-IsFaultBelow reasons request text trace (fault.BadPress word) below = (late : Bool) × (IsTrue late ↔ IsLateName request (string_bytes word)) × (below ≡ word_notice (string_bytes word) (press_sentence late))
-IsFaultBelow reasons request text trace fault.TooManyPresses below = below ≡ plain_notice too_many_sentence
-IsFaultBelow reasons request text trace (fault.BadFire word) below = below ≡ word_notice (string_bytes word) fire_sentence
-IsFaultBelow reasons request text trace (fault.BadSpan word) below = below ≡ word_notice (string_bytes word) span_sentence
-IsFaultBelow reasons request text trace (fault.BadScan why word) below = below ≡ word_notice (string_bytes word) (scan_sentence why)
-IsFaultBelow reasons request text trace (fault.BadName name says) below = below ≡ word_notice (string_bytes name) (string_bytes says)
-IsFaultBelow reasons request text trace (fault.CannotRead cause) below = below ≡ file_notice (other_name request) (cause_sentence cause)
-IsFaultBelow reasons request text trace fault.CannotWrite below = below ≡ []
-IsFaultBelow reasons request text trace fault.NoMemory below = below ≡ []
+-- what is told of a fault of FILE, where faults are explained
+abbrev pub IsTextTold : (List ℕ → ℕ → Place → List ℕ → Type 0) → Bool → Request → List ℕ → ℕ → Place → List ℕ → Type 0
+IsTextTold reasons false request text number place told = told ≡ []
+IsTextTold reasons true request text number place told = (reason : List ℕ) × reasons text number place reason × IsTextBelow (asks_json request) (name_of request) text number place reason told
+
+-- the first faults of the other units, where those are asked for, each with what is told of it
+abbrev pub AreOthersTold : (List ℕ → ℕ → Place → List OtherFault → Type 0) → (ℕ → Place → List ℕ → Type 0) → Bool → List ℕ → ℕ → Place → List ℕ → Type 0
+AreOthersTold others IsTold false text number place told = told ≡ []
+AreOthersTold others IsTold true text number place told = (faults : List OtherFault) × others text number place faults × AreAlsoTold IsTold faults told
+
+-- below a refusal of FILE what is told of it, and then the first faults of the other units
+pub record IsRefusedBelow (reasons : List ℕ → ℕ → Place → List ℕ → Type 0) (others : List ℕ → ℕ → Place → List OtherFault → Type 0) (explained : Bool) (request : Request) (text : List ℕ) (number : ℕ) (place : Place) (below : List ℕ) : Type 0 where
+  pub own : List ℕ
+  pub also : List ℕ
+  pub told : IsTextTold reasons explained request text number place own
+  pub others_told : AreOthersTold others (IsTextTold reasons explained request text) (asks_all request) text number place also
+  pub are : below ≡ own ++ also
+
+-- What stands below a fault: of a refusal its place, what the number means, its line as it was read, and of a text what is told of it and of its other units; of the others the word or
+-- the file and what is wrong with it.
+abbrev pub IsFaultBelow : (List ℕ → ℕ → Place → List ℕ → Type 0) → (List ℕ → ℕ → Place → List OtherFault → Type 0) → Bool → Request → List ℕ → Reading → Fault → List ℕ → Type 0
+IsFaultBelow reasons others wanted request text trace (fault.Misuse said) below = below ≡ []
+IsFaultBelow reasons others wanted request text trace (fault.RefusedText number place) below = IsRefusedBelow reasons others (explains_text wanted request) request text number place below
+IsFaultBelow reasons others wanted request text trace (fault.Refused number line) below = IsShownBelow (other_source request text trace).0 (other_source request text trace).1 number line below
+IsFaultBelow reasons others wanted request text trace (fault.BadPress word) below = (late : Bool) × (IsTrue late ↔ IsLateName request (string_bytes word)) × (below ≡ word_notice (string_bytes word) (press_sentence late))
+IsFaultBelow reasons others wanted request text trace fault.TooManyPresses below = below ≡ plain_notice too_many_sentence
+IsFaultBelow reasons others wanted request text trace (fault.BadFire word) below = below ≡ word_notice (string_bytes word) fire_sentence
+IsFaultBelow reasons others wanted request text trace (fault.BadSpan word) below = below ≡ word_notice (string_bytes word) span_sentence
+IsFaultBelow reasons others wanted request text trace (fault.BadScan why word) below = below ≡ word_notice (string_bytes word) (scan_sentence why)
+IsFaultBelow reasons others wanted request text trace (fault.BadName name says) below = below ≡ word_notice (string_bytes name) (string_bytes says)
+IsFaultBelow reasons others wanted request text trace (fault.CannotRead cause) below = below ≡ file_notice (other_name request) (cause_sentence cause)
+IsFaultBelow reasons others wanted request text trace fault.CannotWrite below = below ≡ []
+IsFaultBelow reasons others wanted request text trace fault.NoMemory below = below ≡ []
 
 -- A fault with what stands below it: this, where it is wanted, and else nothing. Memory for it may be missing, and then that is told alone.
 pub data IsExplained (wanted : Bool) (Below : List ℕ → Type 0) (f told : Fault) (below : List ℕ) : Type 0 where
@@ -212,19 +243,19 @@ IsOtherRead reads fails (request.Trace command traced) (Failed why) = IsTraceFau
 
 -- A request has the outcome that its command gives of the text of its file and of its other file, each read once; what stands below its fault is
 -- of these readings. The file may have no text.
-pub data IsFileAnswer (reads : List ℕ → ℕ → List ℕ → Type 0) (fails : List ℕ → ℕ → ReadFault → Type 0) (gives : Request → List ℕ → Reading → Outcome → Type 0) (reasons : List ℕ → ℕ → Place → List ℕ → Type 0) (wanted : Bool) (request : Request) (outcome : Outcome) (below : List ℕ) : Type 0 where
-  unread : (why : ReadFault) → fails (name_of request) most_bytes why → IsOutcomeExplained (λ _. wanted) (λ _. IsUnreadBelow (name_of request) why) (Err (fault_of_reading why)) outcome below → IsFileAnswer reads fails gives reasons wanted request outcome below
+pub data IsFileAnswer (reads : List ℕ → ℕ → List ℕ → Type 0) (fails : List ℕ → ℕ → ReadFault → Type 0) (gives : Request → List ℕ → Reading → Outcome → Type 0) (reasons : List ℕ → ℕ → Place → List ℕ → Type 0) (others : List ℕ → ℕ → Place → List OtherFault → Type 0) (wanted : Bool) (request : Request) (outcome : Outcome) (below : List ℕ) : Type 0 where
+  unread : (why : ReadFault) → fails (name_of request) most_bytes why → IsOutcomeExplained (λ _. wanted) (λ _. IsUnreadBelow (name_of request) why) (Err (fault_of_reading why)) outcome below → IsFileAnswer reads fails gives reasons others wanted request outcome below
   read : (text : List ℕ) → reads (name_of request) most_bytes text → (trace : Reading) → IsOtherRead reads fails request trace → (given : Outcome) → gives request text trace given
-      → IsOutcomeExplained (wants wanted request) (IsFaultBelow reasons request text trace) given outcome below → IsFileAnswer reads fails gives reasons wanted request outcome below
+      → IsOutcomeExplained (wants wanted request) (IsFaultBelow reasons others wanted request text trace) given outcome below → IsFileAnswer reads fails gives reasons others wanted request outcome below
 
 -- Words have the answer of their request, where they ask for one.
-pub data IsAnswer (reads : List ℕ → ℕ → List ℕ → Type 0) (fails : List ℕ → ℕ → ReadFault → Type 0) (gives : Request → List ℕ → Reading → Outcome → Type 0) (reasons : List ℕ → ℕ → Place → List ℕ → Type 0) (wanted : Bool) (words : List (List ℕ)) (flags : Flags) (outcome : Outcome) (below : List ℕ) : Type 0 where
-  unasked : ((request : Request) → Asks words request → ⊥) → IsWordsOutcome words outcome → below ≡ [] → IsAnswer reads fails gives reasons wanted words flags outcome below
-  asked : (request : Request) → Asks words request → IsFileAnswer reads fails gives reasons wanted (with_flags flags request) outcome below → IsAnswer reads fails gives reasons wanted words flags outcome below
+pub data IsAnswer (reads : List ℕ → ℕ → List ℕ → Type 0) (fails : List ℕ → ℕ → ReadFault → Type 0) (gives : Request → List ℕ → Reading → Outcome → Type 0) (reasons : List ℕ → ℕ → Place → List ℕ → Type 0) (others : List ℕ → ℕ → Place → List OtherFault → Type 0) (wanted : Bool) (words : List (List ℕ)) (flags : Flags) (outcome : Outcome) (below : List ℕ) : Type 0 where
+  unasked : ((request : Request) → Asks words request → ⊥) → IsWordsOutcome words outcome → below ≡ [] → IsAnswer reads fails gives reasons others wanted words flags outcome below
+  asked : (request : Request) → Asks words request → IsFileAnswer reads fails gives reasons others wanted (with_flags flags request) outcome below → IsAnswer reads fails gives reasons others wanted words flags outcome below
 
 -- Words as they are read have that answer, explained where `--explain` stood among them, or always.
-abbrev pub IsAnswerOf : (List ℕ → ℕ → List ℕ → Type 0) → (List ℕ → ℕ → ReadFault → Type 0) → (Request → List ℕ → Reading → Outcome → Type 0) → (List ℕ → ℕ → Place → List ℕ → Type 0) → Bool → Plain → Outcome → List ℕ → Type 0
-IsAnswerOf reads fails gives reasons always plain = IsAnswer reads fails gives reasons (always || plain.explains) (map string_bytes plain.words.items) plain.flags
+abbrev pub IsAnswerOf : (List ℕ → ℕ → List ℕ → Type 0) → (List ℕ → ℕ → ReadFault → Type 0) → (Request → List ℕ → Reading → Outcome → Type 0) → (List ℕ → ℕ → Place → List ℕ → Type 0) → (List ℕ → ℕ → Place → List OtherFault → Type 0) → Bool → Plain → Outcome → List ℕ → Type 0
+IsAnswerOf reads fails gives reasons others always plain = IsAnswer reads fails gives reasons others (always || plain.explains) (map string_bytes plain.words.items) plain.flags
 
 -- an output of these answers was written
 abbrev pub HasWritten : (Outcome → List ℕ → Type 0) → (List ℕ → Type 0) → Type 0

@@ -7,6 +7,7 @@ ghost use Rattle.lift_host.specs.declared.files.Reading.{Reading};
 ghost use Rattle.lift_host.specs.declared.request.Request.{Request};
 ghost use Rattle.lift_host.specs.declared.status.Fault.TheVariants.{CannotWrite};
 ghost use Rattle.lift_shell.specs.Runs.{runs};
+ghost use Rattle.lift_shell.specs.declared.commands.OtherFault.{OtherFault as OtherFaultOf};
 ghost use Rattle.lift_messages.specs.Outputs.{Outcome};
 
 use il_spec::tree::Place;
@@ -18,6 +19,15 @@ use std::alloc::{AllocError, Global};
 use std::sync::Wait;
 use std::thread::Threads;
 
+/// A fault of a text beside the one that it is refused for: the first one of another unit.
+#[derive(Clone, Copy)]
+pub struct OtherFault {
+    /// Its number.
+    pub number: u16,
+    /// Where it is.
+    pub place: Place,
+}
+
 /// The commands of a program, each over the text of its file; some follow a trace, and simulations may have a file with their presses. Commands read and write nothing
 /// themselves.
 pub trait Commands {
@@ -26,6 +36,9 @@ pub trait Commands {
 
     // What may be told of the refusal of a text with a number at a place.
     ghost reasons: { Self → List ℕ → ℕ → PlaceOf → List ℕ → Type 0 };
+
+    // What may be the first faults of the other units of a text that is refused with a number at a place.
+    ghost others: { Self → List ℕ → ℕ → PlaceOf → List OtherFaultOf → Type 0 };
 
     /// What a request prints that isn't `run`, or why it prints nothing; of a request that names no other file `trace` is empty.
     fn outcome(
@@ -62,6 +75,16 @@ pub trait Commands {
         place: Place,
     ) -> Result<Vec<u8>, AllocError>
         ensures { IfOk result (λ lines. reasons self.now text.now number place lines.items) };
+
+    /// The first faults of the other units of a text that is refused with a number at a place, in the order of the units.
+    fn others(
+        &self,
+        alloc: Global,
+        text: &[u8],
+        number: u16,
+        place: Place,
+    ) -> Result<Vec<OtherFault>, AllocError>
+        ensures { IfOk result (λ faults. others self.now text.now number place faults.items) };
 }
 
 /// Whether a request is `run`.

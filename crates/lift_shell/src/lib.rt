@@ -6,3 +6,4 @@ mod cut;
 pub mod entry;
 pub mod explained;
 pub mod run;
+mod told;

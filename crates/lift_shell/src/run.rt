@@ -3,24 +3,23 @@
 ghost use Rattle.std.specs.Prelude.{◌≡◌, ◌≢◌, ◌||◌, ◌↔◌, ℕ, List, [], Bool, Err, IfSome, IsNone, IfOk, IfErr, IsTrue, true, false, map, option_map, string_bytes};
 ghost use Rattle.lift_host.specs.Messages.{fault_of_reading};
 ghost use Rattle.lift_host.specs.Requests.{name_of};
-ghost use Rattle.lift_shell.specs.Runs.{AskForRun, IsForRun, IsAnswerOf, IsFileAnswer, IsCallsRead, IsWordsOutcome, IsOtherRead, IsTraceText, IsTraceFault, IsExplained, IsOutcomeExplained, IsFaultBelow, IsTextBelow, IsUnreadBelow, asks_json, is_of_text, wants, IsLateName, HasPrinted, written, most_bytes, most_calls_bytes, most_trace_bytes, runs, other_source, other_of, other_name, press_sentence};
+ghost use Rattle.lift_shell.specs.Runs.{AskForRun, IsForRun, IsAnswerOf, IsFileAnswer, IsCallsRead, IsWordsOutcome, IsOtherRead, IsTraceText, IsTraceFault, IsExplained, IsOutcomeExplained, IsFaultBelow, IsUnreadBelow, asks_json, is_of_text, wants, IsLateName, HasPrinted, written, most_bytes, most_calls_bytes, most_trace_bytes, runs, other_source, other_of, other_name, press_sentence};
 ghost use Rattle.lift_messages.specs.Notices.{word_notice};
 ghost use Rattle.lift_messages.specs.Places.{IsShownBelow};
 
 use crate::commands::{Commands, runs};
 use crate::cut::complete;
 use crate::explained::Explained;
-use il_spec::tree::Place;
+use crate::told::{asks_all, asks_json, explains_text, refused_below};
 use lift_help::command::{Answer, answer_of};
 use lift_host::calls::GREATEST_FILE;
 use lift_host::files::{ReadFault, Reading, TextFiles};
 use lift_host::request::{Plain, Request, Rounds, Simulating, Traced, asked, is_number};
 use lift_host::sink::Sink;
 use lift_host::status::{Fault, Status};
-use lift_json::refusal::refusal_line;
 use lift_messages::notice::{file_notice, plain_notice, word_notice};
 use lift_messages::output::Output;
-use lift_messages::place::{below, text_below};
+use lift_messages::place::below;
 use lift_messages::show::show;
 use lift_trace::read::GREATEST_TRACE;
 use std::alloc::{AllocError, Global};
@@ -44,7 +43,7 @@ pub fn run<R: Threads + Wait + Sync, F: TextFiles, C: Commands, O: Sink, E: Sink
 ) -> Status
     requires { O.has_failed out.old ≡ false }
     ensures { HasPrinted (IsAnswerOf (F.gives files.now) (F.fails files.now)
-        (C.gives commands.now) (C.reasons commands.now) explains words.now)
+        (C.gives commands.now) (C.reasons commands.now) (C.others commands.now) explains words.now)
         (written O.Sink out.old out.new) (written E.Sink err.old err.new) result }
 {
     let answer = answer(rt, alloc, words, files, commands, explains);
@@ -64,7 +63,7 @@ pub fn run_alone<F: TextFiles, C: Commands, O: Sink, E: Sink>(
     requires { O.has_failed out.old ≡ false }
     ensures printed { IfSome result (HasPrinted
         (IsAnswerOf (F.gives files.now) (F.fails files.now) (C.gives commands.now)
-        (C.reasons commands.now) explains words.now)
+        (C.reasons commands.now) (C.others commands.now) explains words.now)
         (written O.Sink out.old out.new) (written E.Sink err.old err.new)) }
     ensures run { IsNone result → AskForRun (map string_bytes words.now.words.items) }
     ensures unwritten { IsNone result → (out.new ≡ out.old) × (err.new ≡ err.old) }
@@ -92,7 +91,7 @@ fn answer<R: Threads + Wait + Sync, F: TextFiles, C: Commands>(
     explains: bool,
 ) -> Answered
     ensures is { IsAnswerOf (F.gives files.now) (F.fails files.now) (C.gives commands.now)
-        (C.reasons commands.now) explains words.now result.outcome result.below.items }
+        (C.reasons commands.now) (C.others commands.now) explains words.now result.outcome result.below.items }
     ensures unwritten { result.outcome ≢ Err Fault.CannotWrite }
 {
     match answer_alone(alloc, words, files, commands, explains) {
@@ -113,7 +112,7 @@ fn answer_alone<'w, F: TextFiles, C: Commands>(
     explains: bool,
 ) -> Result<Answered, Request<'w>>
     ensures is { IfOk result (λ answer. IsAnswerOf (F.gives files.now) (F.fails files.now)
-        (C.gives commands.now) (C.reasons commands.now) explains words.now answer.outcome
+        (C.gives commands.now) (C.reasons commands.now) (C.others commands.now) explains words.now answer.outcome
         answer.below.items) }
     ensures unwritten { IfOk result (λ answer. answer.outcome ≢ Err Fault.CannotWrite) }
     ensures run { IfErr result (IsForRun words.now) }
@@ -163,7 +162,7 @@ fn file_answer<F: TextFiles, C: Commands>(
 ) -> Answered
     requires { runs request ≡ false }
     ensures is { IsFileAnswer (F.gives files.now) (F.fails files.now) (C.gives commands.now)
-        (C.reasons commands.now) wanted request.entry result.outcome result.below.items }
+        (C.reasons commands.now) (C.others commands.now) wanted request.entry result.outcome result.below.items }
     ensures unwritten { result.outcome ≢ Err Fault.CannotWrite }
 {
     match read_texts(alloc, request, files) {
@@ -186,7 +185,7 @@ fn run_answer<R: Threads + Wait + Sync, F: TextFiles, C: Commands>(
 ) -> Answered
     requires { runs request ≡ true }
     ensures is { IsFileAnswer (F.gives files.now) (F.fails files.now) (C.gives commands.now)
-        (C.reasons commands.now) wanted request.entry result.outcome result.below.items }
+        (C.reasons commands.now) (C.others commands.now) wanted request.entry result.outcome result.below.items }
     ensures unwritten { result.outcome ≢ Err Fault.CannotWrite }
 {
     match read_texts(alloc, request, files) {
@@ -232,7 +231,8 @@ fn with_below<C: Commands>(
     wanted: bool,
 ) -> Answered
     ensures is { IsOutcomeExplained (wants wanted request.entry)
-        (IsFaultBelow (C.reasons commands.now) request.entry texts.now.text.items
+        (IsFaultBelow (C.reasons commands.now) (C.others commands.now) wanted request.entry
+        texts.now.text.items
         texts.now.trace) outcome result.outcome
         result.below.items }
     ensures unwritten { outcome ≢ Err Fault.CannotWrite → result.outcome ≢ Err Fault.CannotWrite }
@@ -326,13 +326,14 @@ fn fault_explained<C: Commands>(
     wanted: bool,
 ) -> Explained
     ensures { IsExplained (wants wanted request.entry fault)
-        (IsFaultBelow (C.reasons commands.now) request.entry texts.now.text.items
+        (IsFaultBelow (C.reasons commands.now) (C.others commands.now) wanted request.entry
+        texts.now.text.items
         texts.now.trace fault) fault result.fault result.below.items }
 {
     if !wants(wanted, request, &fault) {
         return Explained::alone(alloc, fault);
     }
-    match fault_below(alloc, request, texts, commands, &fault) {
+    match fault_below(alloc, request, texts, commands, &fault, wanted) {
         Ok(below) => Explained { fault, below },
         Err(_) => Explained::alone(alloc, Fault::NoMemory),
     }
@@ -345,19 +346,21 @@ fn fault_below<C: Commands>(
     texts: &Texts,
     commands: &C,
     fault: &Fault,
+    wanted: bool,
 ) -> Result<Vec<u8>, AllocError>
-    ensures { IfOk result (λ below. IsFaultBelow (C.reasons commands.now) request.entry
-        texts.now.text.items texts.now.trace fault.now below.items) }
+    ensures { IfOk result (λ below. IsFaultBelow (C.reasons commands.now) (C.others commands.now)
+        wanted request.entry texts.now.text.items texts.now.trace fault.now below.items) }
 {
     match fault {
         Fault::Misuse(_) => Ok(Vec::new(alloc)),
-        Fault::RefusedText { number, place } => reasoned_below(
+        Fault::RefusedText { number, place } => refused_below(
             alloc,
             request,
             &texts.text,
             commands,
             *number,
             *place,
+            explains_text(wanted, request),
         ),
         Fault::Refused { number, line } => refusal_below(
             alloc,
@@ -390,45 +393,11 @@ const NO_PRESS: &str =
 
 const LATE_NAME: &str = "the names of `watch` stand before the presses";
 
-// The place of a refusal of FILE in what was read, what its number means, and what is told of it.
-fn reasoned_below<C: Commands>(
-    alloc: Global,
-    request: Request<'_>,
-    text: &[u8],
-    commands: &C,
-    number: u16,
-    place: Place,
-) -> Result<Vec<u8>, AllocError>
-    ensures { IfOk result (λ below. (reason : List ℕ)
-        × C.reasons commands.now text.now number place reason
-        × IsTextBelow (asks_json request.entry) (name_of request.entry) text.now number place
-        reason below.items) }
-{
-    let reason = commands.reason(alloc, text, number, place)?;
-    if asks_json(request) {
-        refusal_line(alloc, request.file(), text, number, place, &reason)
-    } else {
-        text_below(alloc, request.file(), text, number, place, &reason)
-    }
-}
-
-// Whether something is wanted below a fault: where faults are to be explained, and with `--json` below each refusal of FILE.
+// Whether something is wanted below a fault: where faults are to be explained, and with `--json` and with `--all` below each refusal of FILE.
 fn wants(wanted: bool, request: Request<'_>, fault: &Fault) -> bool
     ensures { result ≡ wants wanted request.entry fault.now }
 {
-    wanted || (asks_json(request) && is_of_text(fault))
-}
-
-// Whether a request asks for JSON.
-fn asks_json(request: Request<'_>) -> bool
-    ensures { result ≡ asks_json request.entry }
-{
-    match request {
-        Request::Check(checked) => checked.json,
-        Request::Show(_, shown) => shown.json,
-        Request::Rounds(_, rounds) => rounds.json,
-        Request::Trace(_, traced) => traced.json,
-    }
+    wanted || ((asks_json(request) || asks_all(request)) && is_of_text(fault))
 }
 
 // Whether a fault is the refusal of FILE.

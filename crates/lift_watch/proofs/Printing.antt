@@ -2,6 +2,7 @@
 use Rattle.std.proofs.Common.{◌≡◌, ℕ, ◌+◌, ◌≤◌, List, [], ◌∷◌, ◌++◌, take, length, Bool, refl, ap, ap₂, ◌∙◌, sym, subst, arith}
 use Rattle.std.proofs.lemmas.List.{append_assoc, append-nil, take_all}
 use Rattle.std.specs.Prelude.{Some, slice_get}
+use Rattle.base_json.specs.declared.form.Form.{Form}
 use Rattle.il_spec.specs.declared.tree.Config.{Config}
 use Rattle.lift_runs.specs.Along.{Step, AreStepsOf, Lead, TakesWith}
 use Rattle.lift_runs.proofs.Stepping.{step_more}
@@ -12,7 +13,7 @@ use Rattle.lift_spec.specs.World.{World}
 use Rattle.lift_watch.specs.declared.asked.Asked.{Asked}
 use Rattle.lift_watch.specs.declared.names.Watched.{Watched}
 use Rattle.lift_watch.specs.Asked.{nothing_asked, asked_at}
-use Rattle.lift_watch.specs.Following.{round_behind, denied_at, denied_along, row_of, row_before, rows_along, IsDeniedAlong, AreRowsAlong}
+use Rattle.lift_watch.specs.Following.{round_behind, denied_at, denied_along, row_of, row_before, rows_along, IsDeniedIn, AreRowsAlong}
 
 -- ROUNDS
 
@@ -39,40 +40,40 @@ and_then steps e reply v = steps ++ record { event = e; reply = reply; after = v
 
 -- DENIALS
 
-denied_more : (all : Bool) (steps : List Step) (s : Step) (round : ℕ) → denied_along all (steps ++ s ∷ []) round ≡ denied_along all steps round ++ denied_at all s.event s.reply (round_behind s.event (round_along steps round))
-denied_more all [] s round = append-nil (denied_at all s.event s.reply (round_behind s.event round))
-denied_more all (x ∷ steps) s round =
+denied_more : (form : Form) (all : Bool) (steps : List Step) (s : Step) (round : ℕ) → denied_along form all (steps ++ s ∷ []) round ≡ denied_along form all steps round ++ denied_at form all s.event s.reply (round_behind s.event (round_along steps round))
+denied_more form all [] s round = append-nil (denied_at form all s.event s.reply (round_behind s.event round))
+denied_more form all (x ∷ steps) s round =
     let next = round_behind x.event round in
-    ap (λ (l : List ℕ). denied_at all x.event x.reply next ++ l) (denied_more all steps s next)
-    ∙ sym (append_assoc (denied_at all x.event x.reply next) (denied_along all steps next) (denied_at all s.event s.reply (round_behind s.event (round_along steps next))))
+    ap (λ (l : List ℕ). denied_at form all x.event x.reply next ++ l) (denied_more form all steps s next)
+    ∙ sym (append_assoc (denied_at form all x.event x.reply next) (denied_along form all steps next) (denied_at form all s.event s.reply (round_behind s.event (round_along steps next))))
 
 -- what is printed of the events so far, and their last round
-pub record IsDeniedTo (all : Bool) (c : Config) (w : World) (events : List TraceEvent) (v : World) (text : List ℕ) (round : ℕ) : Type 0 where
+pub record IsDeniedTo (form : Form) (all : Bool) (c : Config) (w : World) (events : List TraceEvent) (v : World) (text : List ℕ) (round : ℕ) : Type 0 where
   pub steps : List Step
   pub are : AreStepsOf c w events v steps
-  pub is : text ≡ denied_along all steps 0
+  pub is : text ≡ denied_along form all steps 0
   pub at : round ≡ round_along steps 0
 
 -- none yet
-pub denied_none : (all : Bool) (c : Config) (w : World) (text : List ℕ) → text ≡ [] → IsDeniedTo all c w [] w text 0
-denied_none all c w text is = record { steps = []; are = record { of = refl; lead = refl }; is = is; at = refl }
+pub denied_none : (form : Form) (all : Bool) (c : Config) (w : World) (text : List ℕ) → text ≡ [] → IsDeniedTo form all c w [] w text 0
+denied_none form all c w text is = record { steps = []; are = record { of = refl; lead = refl }; is = is; at = refl }
 
 -- one event more
-pub denied_next : (all : Bool) (c : Config) (w m v : World) (events : List TraceEvent) (i : ℕ) (text now : List ℕ) (round next : ℕ) (e : TraceEvent) (reply : Reply) → slice_get events i ≡ Some e → IsDeniedTo all c w (take i events) m text round
-    → TakesWith c m e reply v → next ≡ round_behind e round → now ≡ text ++ denied_at all e reply next → IsDeniedTo all c w (take (i + 1) events) v now next
-denied_next all c w m v events i text now round next e reply there to last behind is =
+pub denied_next : (form : Form) (all : Bool) (c : Config) (w m v : World) (events : List TraceEvent) (i : ℕ) (text now : List ℕ) (round next : ℕ) (e : TraceEvent) (reply : Reply) → slice_get events i ≡ Some e → IsDeniedTo form all c w (take i events) m text round
+    → TakesWith c m e reply v → next ≡ round_behind e round → now ≡ text ++ denied_at form all e reply next → IsDeniedTo form all c w (take (i + 1) events) v now next
+denied_next form all c w m v events i text now round next e reply there to last behind is =
     let s : Step = record { event = e; reply = reply; after = v } in
     let same : next ≡ round_behind e (round_along to.steps 0) = behind ∙ ap (round_behind e) to.at in
     record {
       steps = and_then to.steps e reply v;
       are = step_more c w m v events i to.steps e reply there to.are last;
-      is = is ∙ ap₂ (λ (l r : List ℕ). l ++ r) to.is (ap (denied_at all e reply) same) ∙ sym (denied_more all to.steps s 0);
+      is = is ∙ ap₂ (λ (l r : List ℕ). l ++ r) to.is (ap (denied_at form all e reply) same) ∙ sym (denied_more form all to.steps s 0);
       at = same ∙ sym (round_more to.steps s 0);
     }
 
 -- all of them
-pub denied_all : (all : Bool) (c : Config) (w v : World) (events : List TraceEvent) (n : ℕ) (text : List ℕ) (round : ℕ) → length events ≤ n → IsDeniedTo all c w (take n events) v text round → IsDeniedAlong all c w events v text
-denied_all all c w v events n text round e to = record { steps = to.steps; are = subst (λ (l : List TraceEvent). AreStepsOf c w l v to.steps) (take_all n events e) to.are; is = to.is }
+pub denied_all : (form : Form) (all : Bool) (c : Config) (w v : World) (events : List TraceEvent) (n : ℕ) (text : List ℕ) (round : ℕ) → length events ≤ n → IsDeniedTo form all c w (take n events) v text round → IsDeniedIn form all c w events v text
+denied_all form all c w v events n text round e to = record { steps = to.steps; are = subst (λ (l : List TraceEvent). AreStepsOf c w l v to.steps) (take_all n events e) to.are; is = to.is }
 
 -- ROWS
 

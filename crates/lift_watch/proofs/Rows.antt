@@ -1,5 +1,10 @@
 -- Rows of a small trace, computed: two refreshes, with a press before the first and a start behind it.
 use Rattle.std.proofs.Common.{◌≡◌, ℕ, List, [], ◌∷◌, ◌++◌, Bool, None, refl}
+use Rattle.std.specs.Prelude.{codes, decimal}
+use Rattle.base_json.specs.declared.form.Form.{Form}
+use Rattle.base_json.specs.declared.form.Form.TheVariants.{Json}
+use Rattle.base_json.specs.Objects.{line_of}
+use Rattle.json.specs.Token.{begin_object, end_object, key, string, number}
 use Rattle.lift_runs.specs.Along.{Step}
 use Rattle.lift_runs.specs.Shown.{Commit}
 use Rattle.lift_spec.specs.declared.calls.Answer.TheVariants.{Stale}
@@ -14,11 +19,11 @@ use Rattle.lift_spec.specs.World.{World}
 use Rattle.lift_watch.specs.declared.asked.Asked.{Asked}
 use Rattle.lift_watch.specs.declared.names.Watched.{Watched}
 use Rattle.lift_watch.specs.Asked.{nothing_asked, asked_behind, serve_in, serve_at, assign_of}
-use Rattle.lift_watch.specs.Denials.{refresh_text, denials_text, answers_text}
+use Rattle.lift_watch.specs.Denials.{refresh_rows, denials_rows, answers_rows, event_members, answer_members}
 use Rattle.lift_watch.specs.Following.{denied_along, rows_along}
 use Rattle.lift_watch.specs.Values.{row_text}
 
-module _ (call : Call) (fields later : Fields) (a b c : Report) (w m n o p q : World) (watched : List Watched) (all : Bool) where
+module _ (call : Call) (fields later : Fields) (a b c : Report) (w m n o p q : World) (watched : List Watched) (form : Form) (all : Bool) where
   abbrev steps : List Step
   steps =
       record { event = traced.Press call; reply = New; after = m } ∷ record { event = traced.Commit 0; reply = Committed a; after = n } ∷ record { event = traced.Refresh fields; reply = Refreshed b; after = o }
@@ -30,8 +35,13 @@ module _ (call : Call) (fields later : Fields) (a b c : Report) (w m n o p q : W
   rows : rows_along watched steps 0 nothing_asked w ≡ row_text watched 1 asked p ++ row_text watched 2 asked q
   rows = refl
 
-  denied : denied_along all steps 0 ≡ (denials_text 0 a.denials ++ answers_text 0 0 a.answers) ++ (refresh_text all 1 b.denials ++ ((denials_text 1 c.denials ++ answers_text 1 1 c.answers) ++ (refresh_text all 2 a.denials ++ [])))
+  denied : denied_along form all steps 0 ≡ (denials_rows form 0 a.denials ++ answers_rows form 0 0 a.answers) ++ (refresh_rows form all 1 b.denials ++ ((denials_rows form 1 c.denials ++ answers_rows form 1 1 c.answers) ++ (refresh_rows form all 2 a.denials ++ [])))
   denied = refl
+
+-- A serve of GROUP that was not done, as an object.
+stale : answers_rows Json 3 0 (record { slot = 1; ticket = None; car = 1; answer = Stale } ∷ []) ≡ line_of (begin_object ∷ key (codes "round") ∷ number (decimal 3) ∷ key (codes "by") ∷ string (codes "commit") ∷ key (codes "task") ∷ string (codes "GROUP") ∷ key (codes "slot") ∷ number (decimal 1) ∷ key (codes "answer") ∷ string (codes "stale") ∷ end_object ∷ []) ++ []
+unfolding event_members answer_members
+stale = refl
 
 -- What is asked for behind commits of a small group, computed.
 module _ (outputs : List CarOutputs) where

@@ -1,5 +1,6 @@
 -- What `denials` and `watch` print along a trace (own rules).
 use Rattle.std.specs.Prelude.{◌≡◌, ℕ, zero, suc, ◌+◌, Bool, List, [], ◌∷◌, ◌++◌}
+use Rattle.base_json.specs.declared.form.Form.{Form}
 use Rattle.il_spec.specs.declared.tree.Config.{Config}
 use Rattle.lift_journeys.specs.Logs.{answers_of}
 use Rattle.lift_runs.specs.Along.{Step, AreStepsOf}
@@ -11,7 +12,7 @@ use Rattle.lift_spec.specs.World.{World}
 use Rattle.lift_watch.specs.declared.asked.Asked.{Asked}
 use Rattle.lift_watch.specs.declared.names.Watched.{Watched}
 use Rattle.lift_watch.specs.Asked.{nothing_asked, asked_at}
-use Rattle.lift_watch.specs.Denials.{refresh_text, denials_text, answers_text}
+use Rattle.lift_watch.specs.Denials.{refresh_rows, denials_rows, answers_rows}
 use Rattle.lift_watch.specs.Values.{row_text}
 
 -- the round behind an event: a refresh begins one
@@ -31,23 +32,23 @@ denials_in _ = []
 -- DENIALS
 
 -- what is printed of an event, in its round
-abbrev pub denied_at : Bool → TraceEvent → Reply → ℕ → List ℕ
-denied_at all (traced.Start t) reply round = []
-denied_at all (traced.Commit t) reply round = denials_text round (denials_in reply) ++ answers_text round t (answers_of reply)
-denied_at all (traced.Press call) reply round = []
-denied_at all (traced.Gather floor) reply round = []
-denied_at all (traced.Refresh fields) reply round = refresh_text all round (denials_in reply)
+abbrev pub denied_at : Form → Bool → TraceEvent → Reply → ℕ → List ℕ
+denied_at form all (traced.Start t) reply round = []
+denied_at form all (traced.Commit t) reply round = denials_rows form round (denials_in reply) ++ answers_rows form round t (answers_of reply)
+denied_at form all (traced.Press call) reply round = []
+denied_at form all (traced.Gather floor) reply round = []
+denied_at form all (traced.Refresh fields) reply round = refresh_rows form all round (denials_in reply)
 
 -- what is printed of steps, behind so many rounds
-abbrev pub denied_along : Bool → List Step → ℕ → List ℕ
-denied_along all [] round = []
-denied_along all (s ∷ steps) round = denied_at all s.event s.reply (round_behind s.event round) ++ denied_along all steps (round_behind s.event round)
+abbrev pub denied_along : Form → Bool → List Step → ℕ → List ℕ
+denied_along form all [] round = []
+denied_along form all (s ∷ steps) round = denied_at form all s.event s.reply (round_behind s.event round) ++ denied_along form all steps (round_behind s.event round)
 
--- The text is what is printed of a trace's events, which the world takes one behind the other.
-pub record IsDeniedAlong (all : Bool) (c : Config) (w : World) (events : List TraceEvent) (v : World) (text : List ℕ) : Type 0 where
+-- The text is what is printed of a trace's events in a form, which the world takes one behind the other.
+pub record IsDeniedIn (form : Form) (all : Bool) (c : Config) (w : World) (events : List TraceEvent) (v : World) (text : List ℕ) : Type 0 where
   pub steps : List Step
   pub are : AreStepsOf c w events v steps
-  pub is : text ≡ denied_along all steps 0
+  pub is : text ≡ denied_along form all steps 0
 
 -- VALUES
 

@@ -5,13 +5,14 @@ ghost use Rattle.base_texts.specs.Puts.{Puts};
 ghost use Rattle.lift_runs.specs.Along.{IsStopped};
 ghost use Rattle.lift_spec.specs.Replies.{reply_with};
 ghost use Rattle.lift_watch.specs.Asked.{asked_at, asked_by};
-ghost use Rattle.lift_watch.specs.Following.{round_behind, denials_in, denied_at, row_of, row_before, IsDeniedAlong, AreRowsAlong};
+ghost use Rattle.lift_watch.specs.Following.{round_behind, denials_in, denied_at, row_of, row_before, IsDeniedIn, AreRowsAlong};
 
 use crate::asked::Asked;
 use crate::calls::answers_of;
 use crate::denials::{put_answers, put_denials, put_refresh};
 use crate::names::Watched;
 use crate::watch::put_row;
+use base_json::form::Form;
 use lift_runs::along::{Stop, reply_to};
 use lift_runs::replay::Refused;
 use lift_spec::event::Reply;
@@ -21,15 +22,16 @@ use lift_world::World;
 use std::alloc::{AllocError, Global};
 
 /// What the interlock denied along a trace's events, which the world takes one behind the other, up to the first that is refused; with
-/// the stops at the ends of the shaft, where all are asked for.
-pub fn denied_along(
+/// the stops at the ends of the shaft, where all are asked for. In a form.
+pub fn denied_in(
     alloc: Global,
     world: &mut World,
     events: &[TraceEvent],
+    form: Form,
     all: bool,
 ) -> Result<String, Stop>
     requires few { length events.now < 2 ^ 31 }
-    ensures text { IfOk result (λ text. IsDeniedAlong all world.old.program.config world.old.world
+    ensures text { IfOk result (λ text. IsDeniedIn form all world.old.program.config world.old.world
         events.now world.new.world (string_bytes text)) }
     ensures stopped { IfErr result (IsStopped world.old.program.config world.old.world events.now) }
     ensures same { world.new.program ≡ world.old.program }
@@ -41,7 +43,7 @@ pub fn denied_along(
         match reply_to(world, event, &mut report) {
             Ok(reply) => {
                 round = round_behind(event, round);
-                put_denied(&mut text, all, event, reply, &report, round)?;
+                put_denied(alloc, &mut text, form, all, event, reply, &report, round)?;
             }
             Err(fault) => return Err(Stop::Refused(Refused { index, fault })),
         }
@@ -104,7 +106,9 @@ fn denials_in(reply: Reply, report: &Report) -> &[Denial]
 
 // What is printed of an event, in its round.
 fn put_denied(
+    alloc: Global,
     text: &mut String,
+    form: Form,
     all: bool,
     event: &TraceEvent,
     reply: Reply,
@@ -112,13 +116,15 @@ fn put_denied(
     round: u32,
 ) -> Result<(), AllocError>
     ensures { OnOk result (Puts text.old text.new
-        (denied_at all event.now (reply_with reply report.now) round)) }
+        (denied_at form all event.now (reply_with reply report.now) round)) }
 {
     match event {
-        TraceEvent::Refresh(_) => put_refresh(text, all, round, denials_in(reply, report)),
+        TraceEvent::Refresh(_) => {
+            put_refresh(alloc, text, form, all, round, denials_in(reply, report))
+        }
         TraceEvent::Commit(task) => {
-            put_denials(text, round, denials_in(reply, report))?;
-            put_answers(text, round, *task, answers_of(reply, report))
+            put_denials(alloc, text, form, round, denials_in(reply, report))?;
+            put_answers(alloc, text, form, round, *task, answers_of(reply, report))
         }
         _ => Ok(()),
     }

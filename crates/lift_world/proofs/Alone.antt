@@ -9,7 +9,7 @@ use Rattle.lift_spec.specs.World.{World, Halt, ChangesScanOnly, happens, run, an
 use Rattle.lift_spec.proofs.Laws.{instruction_leaves}
 use Rattle.lift_world.specs.Running.{instructions, up_to_end}
 
-stays_alone : (t : ℕ) (w : World) → ChangesScanOnly t w w
+pub stays_alone : (t : ℕ) (w : World) → ChangesScanOnly t w w
 stays_alone t w = record { group = refl; desk = refl; hand = refl; others = λ other apart. refl }
 
 then_alone : (t : ℕ) (w m v : World) → ChangesScanOnly t w m → ChangesScanOnly t m v → ChangesScanOnly t w v

@@ -6,12 +6,14 @@ use Rattle.il_run.specs.State.{Values}
 use Rattle.il_run.specs.Scan.{restricted}
 use Rattle.il_layout.specs.Layout.{Rows}
 use Rattle.il_machine.specs.Scanning.{variables_in}
+use Rattle.il_machine.specs.Sharing.{globals_in}
 use Rattle.lift_spec.specs.declared.image.Image.{Image}
 use Rattle.lift_spec.specs.declared.image.Fields.{Fields}
 use Rattle.lift_spec.specs.declared.image.CarOutputs.{CarOutputs}
 use Rattle.lift_spec.specs.declared.image.Wishes.{Wishes}
 use Rattle.lift_spec.specs.declared.calls.Call.{Call}
 use Rattle.lift_spec.specs.declared.report.Answered.{Answered}
+use Rattle.lift_spec.specs.declared.report.EnteredCall.{EnteredCall}
 use Rattle.lift_spec.specs.declared.report.Report.{Report}
 use Rattle.lift_spec.specs.Calls.{Calls, Entered, enter_all}
 use Rattle.lift_spec.specs.Settle.{Settled, AllSettled, settled_car, settled_all, with_outputs, denials_of}
@@ -28,6 +30,20 @@ pub refresh_group : (c : Config) (i : Image) (k : Calls) (g : Values) (memories 
     → refreshed_group (group_by c i k g memories) fields hand ≡ (group_by c (record { fields = fields; outputs = settled.outputs }) entered.calls g memories, record { outputs = settled.outputs; denials = settled.denials; answers = []; entered = entered.done })
 unfolding refreshed_group
 refresh_group c i k g memories fields hand settled entered settles enters = ap₂ (refreshed_as (group_by c i k g memories) fields) (sym settles) enters
+
+-- and by the parts that it leaves
+pub refreshes : (c : Config) (k : Shared) (fields : Fields) (hand : List Call) (image : Image) (calls : Calls) (left : List Call) (report : Report) (old done : List EnteredCall) → image ≡ record { fields = fields; outputs = (settled_all k.image.outputs fields).outputs }
+    → report ≡ record { outputs = (settled_all k.image.outputs fields).outputs; denials = (settled_all k.image.outputs fields).denials; answers = []; entered = old }
+    → enter_all k.calls [] hand ≡ record { calls = calls; hand = left; done = done }
+    → refreshed_group (group_in c k) fields hand ≡ (group_in c (record k { image = image; calls = calls }), record report { entered = done })
+refreshes c k fields hand image calls left report old done image_is report_is enters =
+    refresh_group c k.image k.calls (globals_in c k.globals) k.memories.items fields hand (settled_all k.image.outputs fields) (record { calls = calls; hand = left; done = done }) refl enters
+    ∙ ap₂ (λ (i : Image) (r : Report). (group_in c (record k { image = i; calls = calls }), record r { entered = done })) (sym image_is) (sym report_is)
+
+pub refreshes_alone : (c : Config) (k : Shared) (fields : Fields) (image : Image) (report : Report) (old none : List EnteredCall) → image ≡ record { fields = fields; outputs = (settled_all k.image.outputs fields).outputs }
+    → report ≡ record { outputs = (settled_all k.image.outputs fields).outputs; denials = (settled_all k.image.outputs fields).denials; answers = []; entered = old }
+    → none ≡ [] → refreshed_group (group_in c k) fields [] ≡ (group_in c (record k { image = image }), record report { entered = none })
+refreshes_alone c k fields image report old none image_is report_is blank = refreshes c k fields [] image k.calls [] report old none image_is report_is (ap (λ done. record { calls = k.calls; hand = []; done = done }) (sym blank))
 
 module _ (c : Config) (i : Image) (k : Calls) (g : Values) (memories : List (Option TaskMemory)) (s : TaskMemory) (tickets : List (Option ℕ)) (values : Values) (v : Rows) (calls : Calls) (after : Values) (answers : List Answered) where
   -- the tasks once one is between scans

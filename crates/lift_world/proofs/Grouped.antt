@@ -1,5 +1,5 @@
 -- What the tasks share keeps its ranges, and is the group of the definitions.
-use Rattle.std.proofs.Common.{◌≡◌, ℕ, suc, ◌+◌, inl, inr, true, List, [], ◌∷◌, map, length, All, Option, Some, None, Bor, refl, sym, ap, ◌∙◌, subst}
+use Rattle.std.proofs.Common.{◌≡◌, ℕ, suc, ◌+◌, inl, inr, List, [], ◌∷◌, map, length, All, Option, Some, None, Bor, refl, sym, ap, ◌∙◌, subst}
 use Rattle.std.specs.Prelude.{slice_get, is_some, option_copied}
 use Rattle.std.proofs.lemmas.List.{length-map}
 use Rattle.il_spec.specs.declared.tree.Config.{Config}
@@ -30,8 +30,8 @@ use Rattle.lift_run_laws.proofs.Tasks.{is_sized}
 use Rattle.lift_world.specs.declared.shared.Shared.{Shared}
 use Rattle.lift_world.specs.declared.shared.TaskMemory.{TaskMemory}
 use Rattle.lift_world.specs.Running.{memory_at, open_by, task_in, task_by, tasks_in, group_in, with_memory, SharedFits, HasOpenScan, Commits, HoldsShared}
-use Rattle.lift_world.specs.Groups.{GroupOf, ScansWhole, holds_tickets, is_open_in}
-use Rattle.lift_world.proofs.Views.{length_set, after_set, some_of, task_here, task_put}
+use Rattle.lift_world.specs.Groups.{GroupOf, holds_tickets, is_open_in}
+use Rattle.lift_world.proofs.Views.{length_set, after_set, task_here, task_put}
 use Rattle.lift_world.proofs.Keeping.{memories_put}
 use Rattle.lift_world.proofs.Opens.{all_idle, tasks_many}
 
@@ -72,6 +72,13 @@ copied_some (Some b) x e = ap is_some e
 
 pub memory_some : (c : Config) (k : Shared) (t : ℕ) (o : Option (Bor TaskMemory)) → option_copied o ≡ memory_at k t → is_some o ≡ is_some (task_at (group_in c k) t)
 memory_some c k t o e = copied_some o (memory_at k t) e ∙ sym (task_some c k t)
+
+-- what a look at a memory says
+pub copied_is : (o : Option (Bor TaskMemory)) (x : Option TaskMemory) (b : Bor TaskMemory) → option_copied o ≡ x → o ≡ Some b → x ≡ Some b.now
+copied_is o x b e is = sym e ∙ ap option_copied is
+
+pub copied_none : (o : Option (Bor TaskMemory)) (x : Option TaskMemory) → option_copied o ≡ x → o ≡ None → x ≡ None
+copied_none o x e is = sym e ∙ ap option_copied is
 
 -- a core, by its parts
 module _ (k : Config) (shared : Shared) (g : GroupOf) (view_is : ◌≡◌ {A = GroupOf} (record { config = k; group = group_in k shared }) g) where
@@ -191,20 +198,6 @@ module _ (c : Config) (k after : Shared) (holds : HoldsShared c k) (t : ℕ) (sc
 
   pub open_holds : (o : HasOpenScan c k t) → ((u : ProgramUnit) → IsTaskOf c t u → ScanHolds c t u 0 scan) → HoldsShared c after
   open_holds o known = committed_holds c k after holds t o.memory o.there o.tickets o.each scan known report (commits.group o.memory o.tickets o.there o.saw) commits.closed commits.fits
-
--- A WHOLE SCAN
-
-module _ (c : Config) (k after : Shared) (holds : HoldsShared c k) (t : ℕ) (last : Standing) (report : Report) (scan : (s : TaskMemory) → memory_at k t ≡ Some s → ScansWhole c t (group_in c k) (task_in c t s) last (group_in c after) report) where
-  pub group_scanned : (x : TaskState) → task_at (group_in c k) t ≡ Some x → ScansWhole c t (group_in c k) x last (group_in c after) report
-  group_scanned x e =
-      let s = memory_there c k t x e in
-      subst (λ y. ScansWhole c t (group_in c k) y last (group_in c after) report) s.2 (scan s.0 s.1)
-
-  pub scanned_holds : is_some (memory_at k t) ≡ true → (v : Rows) × (after.memories.items ≡ with_memory k t v None) → SharedFits c after → ((u : ProgramUnit) → IsTaskOf last.config last.task u → ScanHolds last.config last.task u 0 last.state) → HoldsShared c after
-  scanned_holds there closed fits known =
-      let s = some_of (memory_at k t) there in
-      let whole = scan s.0 s.1 in
-      committed_holds c k after holds t s.0 s.1 (map ticket_of k.calls.slots) (length-map k.calls.slots ticket_of ∙ holds.ranges.slots) last.state (known_of c t last whole.of known) report whole.commits closed fits
 
 -- REFRESH
 

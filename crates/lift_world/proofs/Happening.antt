@@ -18,15 +18,16 @@ use Rattle.lift_spec.specs.declared.event.Reply.{Reply as Answer}
 use Rattle.lift_spec.specs.declared.event.Reply.TheVariants as answer
 use Rattle.lift_spec.specs.Replies.{Reply, Started, More, End, Committed, Refreshed, Refused, reply_with}
 use Rattle.lift_spec.specs.Calls.{enter_all, IsCall}
-use Rattle.lift_spec.specs.Image.{sizes_of, is_floor, fields_in_range, FieldsInRange}
+use Rattle.lift_spec.specs.Image.{sizes_of, is_floor, FieldsInRange}
 use Rattle.lift_spec.specs.Snapshot.{scan_begins}
 use Rattle.lift_spec.specs.World.{Group, TaskState, flat, task_at, happens, run, reply_to, beginning_of, started_group, committed_group, closed_tasks, refreshed_group}
-use Rattle.lift_spec.proofs.Laws.{fields_in_range_means}
+use Rattle.lift_spec.proofs.Laws.{range_test}
 use Rattle.lift_run_laws.specs.Runs.{IsReached}
-use Rattle.lift_world.specs.declared.controller.Controller.{Controller}
+use Rattle.lift_world.specs.declared.world.World.TheInside.{Inside}
 use Rattle.lift_world.specs.Running.{instructions, up_to_end}
-use Rattle.lift_world.specs.Groups.{holds_tickets, is_open_in, world_by, StoresFit, KeepVariables}
-use Rattle.lift_world.specs.Worlds.{world_in, IsController, Steps, RunsOut}
+use Rattle.lift_world.specs.Groups.{GroupOf, holds_tickets, is_open_in, world_by, StoresFit, KeepVariables}
+use Rattle.lift_world.specs.Kept.{world_in, IsWorld}
+use Rattle.lift_world.specs.Worlds.{Steps, RunsOut}
 use Rattle.lift_world.proofs.Views.{set_same, flat_some, some_of, within, here}
 use Rattle.lift_world.proofs.Keeping.{stores_step, stores_task, variables_step, variables_begun, variables_left}
 use Rattle.il_machine.proofs.Sizes.{sizes_fit}
@@ -63,23 +64,40 @@ same_so a b e = grind (arith, nat_tests)
 pub other_so : (a b : ℕ) → a ≢ b → (a == b) ≡ false
 other_so a b e = grind (arith, nat_tests)
 
+-- WHAT AN EVENT LEAVES
+
+-- a world keeps what it has to where its stores fit and a history leads to it
+pub keeps : (w v : Inside) → IsWorld w → v.verified ≡ w.verified → v.core.config ≡ w.core.config → StoresFit w.verified.config v.core.group.tasks v.stores.items → KeepVariables v.core.group.tasks v.stores.items → IsReached w.verified.config (world_in v) → IsWorld v
+keeps w v is same core stores variables reached = record {
+  runnable = rw same is.runnable;
+  costs = rw same is.costs;
+  same = core ∙ is.same ∙ ap (λ (p : Program). p.config) (sym same);
+  stores = subst (λ (p : Program). StoresFit p.config v.core.group.tasks v.stores.items) (sym same) stores;
+  variables = variables;
+  reached = subst (λ (p : Program). IsReached p.config (world_in v)) (sym same) reached;
+}
+
+pub keeps_world : (w v : Inside) (e : Event) (reply : Reply) → IsWorld w → v.verified ≡ w.verified → v.core.config ≡ w.core.config → StoresFit w.verified.config v.core.group.tasks v.stores.items → KeepVariables v.core.group.tasks v.stores.items
+    → happens w.verified.config (world_in w) e ≡ Ok (world_in v, reply) → IsWorld v
+keeps_world w v e reply is same core stores variables happened = keeps w v is same core stores variables (one_event w.verified.config (world_in w) (world_in v) e reply is.reached happened)
+
 -- A TASK THAT IS THERE
 
 -- a task with its store
-pub record There (w : Controller) (t : ℕ) : Type 0 where
+pub record There (w : Inside) (t : ℕ) : Type 0 where
   pub task : TaskState
   pub there : task_at w.core.group t ≡ Some task
   pub store : Standing
   pub kept : flat (slice_get w.stores.items t) ≡ Some store
   pub of : IsOf w.verified.config t store
 
-pub found : (w : Controller) → IsController w → (t : ℕ) (b : Bool) → b ≡ is_some (task_at w.core.group t) → b ≡ true → There w t
+pub found : (w : Inside) → IsWorld w → (t : ℕ) (b : Bool) → b ≡ is_some (task_at w.core.group t) → b ≡ true → There w t
 found w is t b e there =
     let task = some_of (task_at w.core.group t) (sym e ∙ there) in
     let store = some_of (flat (slice_get w.stores.items t)) (is.stores.there t ∙ sym e ∙ there) in
     record { task = task.0; there = task.1; store = store.0; kept = store.1; of = is.stores.each t store.0 store.1 }
 
-module _ (w : Controller) (is : IsController w) (t : ℕ) where
+module _ (w : Inside) (is : IsWorld w) (t : ℕ) where
   abbrev c : Config
   c = w.verified.config
 
@@ -239,44 +257,31 @@ module _ (w : Controller) (is : IsController w) (t : ℕ) where
     )
 
     -- and the world that it leaves
-    pub finish_world : (r : Result ℕ EventFault) (before after : Option Standing) (v : Controller) (i : ℕ) → i ≡ t → is_some x.task.tickets ≡ true → before ≡ Some x.store
+    pub finish_world : (r : Result ℕ EventFault) (before after : Option Standing) (v : Inside) (i : ℕ) → i ≡ t → is_some x.task.tickets ≡ true → before ≡ Some x.store
         → IfOk r (λ n. (s : Standing) → before ≡ Some s → RunsOut c t s after n)
         → IfErr r (λ fault. (fault ≡ NoOpenScan) × (after ≡ before) × ((s : Standing) → before ≡ Some s → s.state.frames ≡ []))
-        → v.verified ≡ w.verified → v.core ≡ w.core → v.desk ≡ w.desk → v.hand ≡ w.hand → v.stores.items ≡ slice_set w.stores.items i after → IsController v
+        → v.verified ≡ w.verified → v.core ≡ w.core → v.desk ≡ w.desk → v.hand ≡ w.hand → v.stores.items ≡ slice_set w.stores.items i after → IsWorld v
     finish_world (Ok n) before after v i at so lent steps ended verified core desk hand put =
         let out = steps x.store lent in
-        record {
-          runnable = rw verified is.runnable;
-          costs = rw verified is.costs;
-          same = rw (verified, core) is.same;
-          stores = rw (verified, core, put) (finished_stores after n i at out);
-          variables = rw (core, put) (open_variables so after i at);
-          reached = rw (verified, core, desk, hand, put) (many_events c (world_in w) _ (instructions t n) [] (up_to_end n) is.reached (finished after n i at so out));
-        }
+        keeps w v is verified (ap (λ (k : GroupOf). k.config) core) (rw (core, put) (finished_stores after n i at out)) (rw (core, put) (open_variables so after i at))
+        (rw (core, desk, hand, put) (many_events c (world_in w) _ (instructions t n) [] (up_to_end n) is.reached (finished after n i at so out)))
     finish_world (Err e) before after v i at so lent steps ended verified core desk hand put =
         let same : slice_set w.stores.items i after ≡ w.stores.items = rw (at, ended.1, lent) (set_same w.stores.items t (Some x.store) (flat_some _ x.store x.kept)) in
-        record {
-          runnable = rw verified is.runnable;
-          costs = rw verified is.costs;
-          same = rw (verified, core) is.same;
-          stores = rw (verified, core, put, same) is.stores;
-          variables = rw (core, put) (open_variables so after i at);
-          reached = rw (verified, core, desk, hand, put, same) is.reached;
-        }
+        keeps w v is verified (ap (λ (k : GroupOf). k.config) core) (rw (core, put, same) is.stores) (rw (core, put) (open_variables so after i at)) (rw (core, desk, hand, put, same) is.reached)
 
 -- REFRESH
 
-module _ (w : Controller) (is : IsController w) (fields : Fields) (inside : fields_in_range (sizes_of w.verified.config) fields ≡ true) where
+module _ (w : Inside) (is : IsWorld w) (fields : Fields) (inside : FieldsInRange (sizes_of w.verified.config) fields) where
   -- the conditions of a group's refresh
   pub refresh_fields : FieldsInRange (sizes_of w.core.config) fields
-  refresh_fields = subst (λ (c : Config). FieldsInRange (sizes_of c) fields) (sym is.same) (fields_in_range_means (sizes_of w.verified.config) fields inside)
+  refresh_fields = subst (λ (c : Config). FieldsInRange (sizes_of c) fields) (sym is.same) inside
 
   pub refresh_calls : All (IsCall (sizes_of w.core.config)) w.hand
   refresh_calls = subst (λ (c : Config). All (IsCall (sizes_of c)) w.hand) (sym is.same) (reached_well w.verified.config is.runnable (world_in w) is.reached).hand.each
 
   module _ (after : Group) (hand : List Call) (report : Report) (group : refreshed_group w.core.group fields w.hand ≡ (after, report)) where
     pub refreshed_world : hand ≡ (enter_all w.core.group.calls [] w.hand).hand → happens w.verified.config (world_in w) (Refresh fields) ≡ Ok (world_by after w.stores.items w.desk hand, Refreshed report)
-    refreshed_world left = refresh_is w.verified.config w.core.group w.stores.items w.desk w.hand fields after hand report inside group left
+    refreshed_world left = refresh_is w.verified.config w.core.group w.stores.items w.desk w.hand fields after hand report ((range_test (sizes_of w.verified.config) fields).1 inside) group left
 
     same_tasks : after.tasks ≡ w.core.group.tasks
     same_tasks = ap (λ (r : Group × Report). r.0.tasks) (sym group) ∙ refresh_keeps w.core.group fields w.hand
@@ -286,16 +291,3 @@ module _ (w : Controller) (is : IsController w) (fields : Fields) (inside : fiel
 
     pub refreshed_variables : KeepVariables after.tasks w.stores.items
     refreshed_variables = subst (λ ts. KeepVariables ts w.stores.items) (sym same_tasks) is.variables
-
--- WHAT AN EVENT LEAVES
-
-pub keeps_world : (w v : Controller) (e : Event) (reply : Reply) → IsController w → v.verified ≡ w.verified → v.core.config ≡ w.core.config → StoresFit w.verified.config v.core.group.tasks v.stores.items → KeepVariables v.core.group.tasks v.stores.items
-    → happens w.verified.config (world_in w) e ≡ Ok (world_in v, reply) → IsController v
-keeps_world w v e reply is same core stores variables happened = record {
-  runnable = rw same is.runnable;
-  costs = rw same is.costs;
-  same = core ∙ is.same ∙ ap (λ (p : Program). p.config) (sym same);
-  stores = subst (λ (p : Program). StoresFit p.config v.core.group.tasks v.stores.items) (sym same) stores;
-  variables = variables;
-  reached = subst (λ (p : Program). IsReached p.config (world_in v)) (sym same) (one_event w.verified.config (world_in w) (world_in v) e reply is.reached happened);
-}

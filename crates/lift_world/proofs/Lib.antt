@@ -5,6 +5,7 @@ pub mod Events
 pub mod Sharing
 pub mod Opens
 pub mod Grouped
+pub mod Here
 pub mod Committing
 pub mod Keeping
 pub mod Finishing

@@ -3,21 +3,20 @@ use Rattle.std.proofs.Common.{◌≡◌, ℕ, zero, suc, ◌+◌, ◌⊎◌, inl
 use Rattle.std.specs.Prelude.{slice_get, is_some, replicate}
 use Rattle.il_spec.specs.declared.tree.Config.{Config}
 use Rattle.il_spec.specs.declared.tree.Unit.{Unit as Organized}
-use Rattle.il_table.specs.NameMap.{empty}
 use Rattle.il_run.specs.State.{Values}
 use Rattle.il_run.specs.Scan.{opening_variables}
 use Rattle.il_layout.specs.Layout.{Rows}
 use Rattle.il_machine.specs.Scanning.{HasTask, variables_in}
-use Rattle.il_machine.specs.Standing.{Standing, IsOf, StillHas, opening_variables_by}
+use Rattle.il_machine.specs.Standing.{Standing}
 use Rattle.lift_spec.specs.Image.{sizes_of}
 use Rattle.lift_spec.specs.Snapshot.{program_of, has_task}
 use Rattle.lift_spec.specs.World.{Group, TaskState, flat, task_at, opening, opening_group, opening_task, opening_tasks_from}
 use Rattle.std.proofs.lemmas.List.{length-append}
-use Rattle.std.proofs.lemmas.Bool.{cases_eq, cases_lt}
+use Rattle.std.proofs.lemmas.Bool.{cases_eq}
 use Rattle.lift_world.specs.declared.shared.TaskMemory.{TaskMemory}
 use Rattle.lift_world.specs.Running.{task_in, task_by, tasks_in}
-use Rattle.lift_world.specs.Groups.{scan_by, scans_by, world_by, StoresFit, KeepVariables}
-use Rattle.lift_world.proofs.Views.{flat_of, beyond, within}
+use Rattle.lift_world.specs.Groups.{scan_by, scans_by, world_by}
+use Rattle.lift_world.proofs.Views.{flat_of}
 
 -- a task that is there has a program
 there_is : {X : Type 0} (o : Option X) → is_some o ≡ true → (x : X) × (o ≡ Some x)
@@ -158,33 +157,3 @@ task_opening c g t group few =
     let below : t < suc (sizes_of c).cars = omega (arith, few) in
     let here : 0 + t ≡ t = omega arith in
     ap (λ (x : Group). is_some (task_at x t)) group ∙ ap is_some (opening_get c 0 (suc (sizes_of c).cars) t below) ∙ ap (λ m. is_some (opening_task c (program_of c m))) here ∙ opens_there c (program_of c t)
-
-pub stores_open : (c : Config) (g : Group) (stores : List (Option Standing)) → g ≡ opening_group c → length stores ≡ suc (sizes_of c).cars
-    → ((t : ℕ) → t ≤ (sizes_of c).cars → is_some (flat (slice_get stores t)) ≡ is_some (program_of c t)) → ((t : ℕ) (s : Standing) → flat (slice_get stores t) ≡ Some s → IsOf c t s) → StoresFit c g.tasks stores
-stores_open c g stores group many found each = record {
-  as_many = many ∙ sym (tasks_many c g group);
-  there = λ t.
-      elim (cases_lt (sizes_of c).cars t) [
-        | inr few ↦ found t few ∙ sym (task_opening c g t group few)
-        | inl past ↦ ap is_some (beyond stores t (omega (arith, past, many))) ∙ ap is_some (sym (beyond g.tasks t (let n = tasks_many c g group in omega (arith, past, n))))
-      ];
-  each = each;
-}
-
--- the variables of a task that opens
-opens_with : (c : Config) (o : Option Organized) (task : TaskState) → opening_task c o ≡ Some task → opening_variables_by c o ≡ task.variables
-opens_with c None task e = let bad : ◌≡◌ {A = Option TaskState} None (Some task) = e in cc
-opens_with c (Some u) task e = ap (λ o. variables_of o) e
-  where
-    variables_of : Option TaskState → Values
-    variables_of None = empty
-    variables_of (Some t) = t.variables
-
--- each task has its variables in its store
-pub variables_open : (c : Config) (g : Group) (stores : List (Option Standing)) → g ≡ opening_group c → ((t : ℕ) (s : Standing) → flat (slice_get stores t) ≡ Some s → StillHas (opening_variables_by c (program_of c t)) s.state) → KeepVariables g.tasks stores
-variables_open c g stores group each t x s at stands idle =
-    let below : t < suc (sizes_of c).cars = (let low = within g.tasks t x at in let many = tasks_many c g group in omega (arith, low, many)) in
-    let here : 0 + t ≡ t = omega arith in
-    let opens : opening_task c (program_of c t) ≡ Some x =
-    ap (λ m. opening_task c (program_of c m)) (sym here) ∙ sym (opening_get c 0 (suc (sizes_of c).cars) t below) ∙ ap (λ (y : Group). flat (slice_get y.tasks t)) (sym group) ∙ at in
-    subst (λ v. StillHas v s.state) (opens_with c (program_of c t) x opens) (each t s stands)

@@ -15,7 +15,7 @@ use Rattle.il_machine.proofs.Scans.{sound_of}
 use Rattle.lift_spec.specs.declared.image.Sizes.{Sizes}
 use Rattle.lift_spec.specs.Image.{sizes_of}
 use Rattle.lift_spec.specs.Snapshot.{program_of}
-use Rattle.lift_spec.specs.World.{World, Group, TaskState, flat, task_at, scan_at, opening_group}
+use Rattle.lift_spec.specs.World.{World, Group, TaskState, flat, task_at, scan_at, opening, opening_group}
 use Rattle.lift_run_laws.specs.Holding.{IsSetOf, SeatHolds, RestsWell, at_rest}
 use Rattle.lift_run_laws.specs.Runs.{IsReached}
 use Rattle.lift_run_laws.specs.Tasks.{IsTaskOf}
@@ -39,6 +39,11 @@ opening_seated c g is = record {
   there = λ t few. task_opening c g t is few;
   closed = λ t x at. all_idle c 0 (suc (sizes_of c).cars) t x (ap (λ (y : Group). task_at y t) (sym is) ∙ at);
 }
+
+-- its world is the opening world
+pub opening_rests : (c d : Config) (g : Group) → d ≡ c → g ≡ opening_group c → resting d g ≡ opening c
+unfolding opening
+opening_rests c d g same is = ap₂ resting same is
 
 -- so is one with the same tasks
 pub seated_same : (c : Config) (g after : Group) → after.tasks ≡ g.tasks → IsSeated c g → IsSeated c after

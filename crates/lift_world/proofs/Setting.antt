@@ -14,6 +14,8 @@ use Rattle.il_machine.specs.Setting.{SetsRows, SetsGlobals}
 use Rattle.il_machine.specs.Sharing.{globals_in, FitsGlobals}
 use Rattle.lift_spec.specs.declared.calls.Slot.{Slot}
 use Rattle.lift_spec.specs.declared.calls.Slot.TheVariants.{Free, Waiting, Told}
+use Rattle.lift_spec.specs.declared.image.CarOutputs.{CarOutputs}
+use Rattle.lift_spec.specs.declared.image.Fields.{Fields}
 use Rattle.lift_spec.specs.declared.image.Image.{Image}
 use Rattle.lift_spec.specs.declared.image.Sizes.{Sizes}
 use Rattle.lift_spec.specs.Calls.{Calls, SlotInRange, ticket_of, with_slot, greatest_ticket}
@@ -87,6 +89,10 @@ pub each_later : (sizes : Sizes) (last later : ℕ) (slots : List Slot) → last
 each_later sizes last later slots low each = All-weaker (SlotInRange sizes last) (SlotInRange sizes later) (later_slot sizes last later low) slots each
 
 -- IMAGE, CALLS AND GLOBALS
+
+-- an image of these fields and outputs
+abbrev pub image_of : Fields → List CarOutputs → Image
+image_of fields outputs = record { fields = fields; outputs = outputs }
 
 module _ (c : Config) (k after : Shared) (holds : HoldsShared c k) (memories : after.memories ≡ k.memories) where
   fits_so : FitsGlobals c after.globals → SharedFits c after

@@ -5,9 +5,9 @@ use Rattle.std.specs.Option.{option_copied}
 use Rattle.il_spec.specs.declared.tree.Config.{Config}
 use Rattle.il_machine.specs.Standing.{Standing, IsOf}
 use Rattle.lift_spec.specs.World.{TaskState, flat, task_at, scan_at}
-use Rattle.lift_world.specs.declared.controller.Controller.{Controller}
+use Rattle.lift_world.specs.declared.world.World.TheInside.{Inside}
 use Rattle.lift_world.specs.Groups.{holds_tickets, is_open_in, scan_by}
-use Rattle.lift_world.specs.Worlds.{world_in, IsController}
+use Rattle.lift_world.specs.Kept.{world_in, IsWorld}
 use Rattle.lift_world.proofs.Views.{scan_here}
 use Rattle.lift_world.proofs.Happening.{There, found}
 
@@ -34,7 +34,7 @@ pub lent_of_it : (c : Config) (t : ℕ) (r : Option (Bor Standing)) (s : Standin
 lent_of_it c t None s is of = cc
 lent_of_it c t (Some b) s is of = let same : s ≡ b.now = cc in subst (IsOf c t) same of
 
-module _ (w : Controller) (is : IsController w) (t : ℕ) (b : Bool) (open_is : b ≡ is_open_in w.core.group t) where
+module _ (w : Inside) (is : IsWorld w) (t : ℕ) (b : Bool) (open_is : b ≡ is_open_in w.core.group t) where
   pub scan_shut : b ≡ false → scan_at (world_in w) t ≡ None
   scan_shut closed = scan_here w.core.group.tasks w.stores.items t is.stores.as_many ∙ shut (task_at w.core.group t) (flat (slice_get w.stores.items t)) (sym open_is ∙ closed)
 

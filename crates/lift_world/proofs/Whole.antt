@@ -3,7 +3,7 @@ use Rattle.std.proofs.Common.{◌≡◌, ℕ, Bool, true, false, List, [], map, 
 use Rattle.std.specs.Prelude.{slice_get, slice_set, slice_index_or, is_some}
 use Rattle.il_spec.specs.declared.tree.Config.{Config}
 use Rattle.il_run.specs.State.{State}
-use Rattle.il_machine.specs.Scanning.{Program, HasTask}
+use Rattle.il_machine.specs.Scanning.{HasTask}
 use Rattle.il_machine.specs.Standing.{Standing, StillHas}
 use Rattle.lift_spec.specs.declared.event.Event.TheVariants.{Start, Commit}
 use Rattle.lift_spec.specs.declared.report.Report.{Report}
@@ -12,25 +12,26 @@ use Rattle.lift_spec.specs.Replies.{Started, Committed}
 use Rattle.lift_spec.specs.Snapshot.{scan_begins}
 use Rattle.lift_spec.specs.World.{Group, TaskState, flat, task_at, scan_at, beginning_of, started_group, committed_group, closed_tasks}
 use Rattle.lift_run_laws.specs.Runs.{IsReached}
-use Rattle.lift_world.specs.declared.controller.Controller.{Controller}
+use Rattle.lift_world.specs.declared.world.World.TheInside.{Inside}
 use Rattle.lift_world.specs.Running.{instructions, up_to_end}
 use Rattle.lift_world.specs.Groups.{ScansWhole, world_by, StoresFit, KeepVariables}
-use Rattle.lift_world.specs.Worlds.{world_in, IsController, IsWholeScan}
+use Rattle.lift_world.specs.Kept.{world_in, IsWorld}
+use Rattle.lift_world.specs.Worlds.{IsWholeScan}
 use Rattle.lift_world.proofs.Views.{set_again, set_there, within}
 use Rattle.lift_world.proofs.Keeping.{stores_step, stores_task, variables_step, variables_begun, variables_left}
 use Rattle.lift_world.proofs.Sound.{reached_well, one_event, many_events}
 use Rattle.lift_world.proofs.Events.{open_scan, start_is, commit_is, commit_closes, ended_so}
 use Rattle.lift_world.proofs.Finishing.{finishes}
-use Rattle.lift_world.proofs.Happening.{There, found, lent_is, lent_variables}
+use Rattle.lift_world.proofs.Happening.{There, found, keeps, lent_is, lent_variables}
 use Rattle.lift_world.proofs.Straight.{committed_again}
 
 -- a task of the group is there
-pub the_task : (w : Controller) → IsController w → (t : ℕ) → HasTask w.verified.config t → There w t
+pub the_task : (w : Inside) → IsWorld w → (t : ℕ) → HasTask w.verified.config t → There w t
 the_task w is t has =
     let task = (reached_well w.verified.config is.runnable (world_in w) is.reached).tasks t has.0 has.1 in
     found w is t true (sym (ap is_some task.1)) refl
 
-module _ (w : Controller) (is : IsController w) (t : ℕ) (has : HasTask w.verified.config t) (closed : scan_at (world_in w) t ≡ None) where
+module _ (w : Inside) (is : IsWorld w) (t : ℕ) (has : HasTask w.verified.config t) (closed : scan_at (world_in w) t ≡ None) where
   abbrev c : Config
   c = w.verified.config
 
@@ -138,12 +139,6 @@ module _ (w : Controller) (is : IsController w) (t : ℕ) (has : HasTask w.verif
         one_event c scans.ended _ (Commit t) (Committed report) ended scans.commit
 
     -- and that is a group's
-    pub leaves : (v : Controller) → v.verified ≡ w.verified → v.core.config ≡ w.core.config → v.core.group ≡ after → v.desk ≡ w.desk → v.hand ≡ w.hand → v.stores.items ≡ slice_set stores i (Some last) → IsController v
-    leaves v verified config group_now desk hand put = record {
-      runnable = rw verified is.runnable;
-      costs = rw verified is.costs;
-      same = config ∙ is.same ∙ ap (λ (p : Program). p.config) (sym verified);
-      stores = rw (verified, group_now, put, put_once) fit_after;
-      variables = rw (group_now, put, put_once) keep_after;
-      reached = rw (verified, group_now, desk, hand, put) reached_after;
-    }
+    pub leaves : (v : Inside) → v.verified ≡ w.verified → v.core.config ≡ w.core.config → v.core.group ≡ after → v.desk ≡ w.desk → v.hand ≡ w.hand → v.stores.items ≡ slice_set stores i (Some last) → IsWorld v
+    leaves v verified config group_now desk hand put =
+        keeps w v is verified config (rw (group_now, put, put_once) fit_after) (rw (group_now, put, put_once) keep_after) (rw (group_now, desk, hand, put) reached_after)

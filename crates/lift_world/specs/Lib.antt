@@ -2,5 +2,5 @@ pub mod Seen
 pub mod Running
 pub mod Groups
 pub mod Worlds
-pub mod Scanned
+pub mod Kept
 pub mod Setting

@@ -104,9 +104,6 @@ abbrev pub open_by : Option TaskMemory → Bool
 open_by None = false
 open_by (Some s) = is_some s.tickets
 
-abbrev pub is_open : Shared → ℕ → Bool
-is_open k t = open_by (memory_at k t)
-
 -- a task with its variables by name
 abbrev pub task_in : Config → ℕ → TaskMemory → TaskState
 task_in c t s = record { variables = variables_in c t s.variables; tickets = s.tickets }

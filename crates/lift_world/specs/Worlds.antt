@@ -1,13 +1,12 @@
--- A group that was verified, and its world (own rules).
-use Rattle.std.specs.Prelude.{◌≡◌, ◌≢◌, ℕ, ◌≤◌, [], map, Option, Some, Ok, refl}
+-- A verified configuration with its world, and what events do to it (own rules).
+use Rattle.std.specs.Prelude.{◌≡◌, ◌≢◌, ℕ, ◌≤◌, [], Option, Some, Ok, refl}
 use Rattle.std.specs.Coded.{Coded, code_by, coded×}
 use Rattle.il_spec.specs.declared.tree.Config.{Config}
 use Rattle.il_spec.specs.declared.tree.Unit.{Unit as Organized}
-use Rattle.il_verify.specs.Costs.{cost_of}
 use Rattle.il_run.specs.Scan.{Reaches}
 use Rattle.il_run.specs.Step.{step, Next}
 use Rattle.il_machine.specs.Listing.{TaskLine, task_line}
-use Rattle.il_machine.specs.Scanning.{Program, verified_code, IsRunnable}
+use Rattle.il_machine.specs.Scanning.{Program, verified_code}
 use Rattle.il_machine.specs.Standing.{Standing, IsOf}
 use Rattle.lift_spec.specs.Replies.{Reply, Started, Committed}
 use Rattle.lift_spec.specs.World.{World, happens, run}
@@ -18,9 +17,6 @@ use Rattle.lift_spec.specs.WorldCodes.{world_code}
 use Rattle.lift_spec.specs.declared.event.Reply.{Reply as Answer}
 use Rattle.lift_spec.specs.declared.event.Reply.TheVariants as answer
 use Rattle.lift_run_laws.specs.Tasks.{IsTaskOf, budget_of}
-use Rattle.lift_run_laws.specs.Runs.{IsReached}
-use Rattle.lift_world.specs.declared.controller.Controller.{Controller}
-use Rattle.lift_world.specs.Groups.{world_by, StoresFit, KeepVariables}
 use Rattle.lift_world.specs.Running.{instructions, up_to_end}
 
 -- a verified configuration, and its world
@@ -32,22 +28,9 @@ pub record WorldOf : Type 0 where
 abbrev pub world_of_code : Coded WorldOf
 world_of_code = code_by (Program × World) (coded× verified_code world_code) (λ w. (w.program, w.world)) (λ c. record { program = c.0; world = c.1 }) (λ _. refl)
 
--- the world of a controller
-abbrev pub world_in : Controller → World
-world_in w = world_by w.core.group w.stores.items w.desk w.hand
-
--- an event leads from one controller's world to another's, and is answered so
-abbrev pub Happens : Controller → Event → Controller → Reply → Type 0
-Happens before event after reply = happens before.verified.config (world_in before) event ≡ Ok (world_in after, reply)
-
--- what holds of every controller: there is a store for each task, which keeps the task's variables between scans, and some history of events has led to its world from the opening
-pub record IsController (w : Controller) : Type 0 where
-  pub runnable : IsRunnable w.verified.config
-  pub costs : w.verified.costs ≡ map (cost_of w.verified.config) w.verified.config.units
-  pub same : w.core.config ≡ w.verified.config
-  pub stores : StoresFit w.verified.config w.core.group.tasks w.stores.items
-  pub variables : KeepVariables w.core.group.tasks w.stores.items
-  pub reached : IsReached w.verified.config (world_in w)
+-- an event leads from one world to another, and is answered so
+abbrev pub Happens : WorldOf → Event → WorldOf → Reply → Type 0
+Happens before event after reply = happens before.program.config before.world event ≡ Ok (after.world, reply)
 
 -- each task of the group is printed, with the budget that no scan of it exceeds
 abbrev pub PrintsEachBudget : Program → Type 0

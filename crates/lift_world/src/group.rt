@@ -6,13 +6,17 @@ ghost use Rattle.il_machine.specs.Standing.{IsOf, StillHas};
 ghost use Rattle.lift_spec.specs.Calls.{enter_all, IsCall, SlotInRange, greatest_ticket};
 ghost use Rattle.lift_spec.specs.Image.{sizes_of, FieldsInRange, Obeys};
 ghost use Rattle.lift_spec.specs.Snapshot.{scan_begins};
-ghost use Rattle.lift_spec.specs.World.{TaskState, task_at, opening_group, beginning_of, started_group, committed_group, refreshed_group, InRanges};
+ghost use Rattle.lift_spec.specs.World.{TaskState, task_at, opening_group, beginning_of, started_group, refreshed_group, InRanges};
 ghost use Rattle.lift_run_laws.specs.Holding.{RestsWell};
 ghost use Rattle.lift_world.specs.Groups.{is_open_in, CommitsOpen, ScansWhole};
 ghost use Rattle.lift_world.specs.Setting.{IsSeated, IsFreshAt, resting, rested, with_image, with_place, with_last, SetsGlobal, SetsVariable};
 
-use crate::shared::{Shared, Variables};
-use il_machine::{Store, Unset, Value, Verified};
+use crate::calling::{clear, enter_all};
+use crate::shared::{Shared, settle_cars};
+use crate::taking::{take_fields, take_outputs};
+use il_machine::{
+    Begin, Store, Unset, Value, Verified, finish, opening_image, set_global, variable,
+};
 use lift_calls::book::CallBook;
 use lift_spec::calls::Slot;
 use lift_spec::hand::Hand;
@@ -74,28 +78,28 @@ impl Core {
         ensures ranges { InRanges self.now.config self.now.group }
         ensures obeys { Obeys self.now.group.image }
     {
-        let _image = self.shared.image();
+        let _shared = &self.shared;
     }
 
     /// The image.
     pub fn image(&self) -> &Image
         ensures { result.now ≡ self.now.group.image }
     {
-        self.shared.image()
+        &self.shared.image
     }
 
     /// The call slots, slot 1 first.
     pub fn slots(&self) -> Bounded<Slot, SLOT_PLACES>
         ensures { result ≡ self.now.group.calls.slots }
     {
-        self.shared.slots()
+        self.shared.calls.slots()
     }
 
     /// The calls.
     pub fn calls(&self) -> &CallBook
         ensures { result.now ≡ self.now.group.calls }
     {
-        self.shared.calls()
+        &self.shared.calls
     }
 
     /// Whether the group has the task of a number.
@@ -109,7 +113,10 @@ impl Core {
     pub fn is_open(&self, task: u8) -> bool
         ensures { result ≡ is_open_in self.now.group task }
     {
-        self.shared.is_open(task)
+        match self.shared.memory(task) {
+            Some(memory) => memory.tickets.is_open(),
+            None => false,
+        }
     }
 
     /// The value of a variable of a task, as its last commit left it.
@@ -118,7 +125,10 @@ impl Core {
         ensures { result
             ≡ option_and_then (λ t. values.get t.variables path.now) (task_at self.now.group task) }
     {
-        self.shared.variable(verified, task, path)
+        match self.shared.memory(task) {
+            Some(memory) => variable(&memory.variables, verified, task, path),
+            None => None,
+        }
     }
 
     /// The value of a global, as the last commit left it.
@@ -126,7 +136,7 @@ impl Core {
         requires { self.now.config ≡ verified.now.config }
         ensures { result ≡ values.get self.now.group.globals path.now }
     {
-        self.shared.global(verified, path)
+        verified.global(&self.shared.globals, path)
     }
 
     /// Another image, with its fields in their ranges, that obeys the interlock. No allocation.
@@ -136,7 +146,8 @@ impl Core {
         ensures config { self.new.config ≡ self.old.config }
         ensures group { self.new.group ≡ with_image self.old.group image.now }
     {
-        self.shared.set_image(image);
+        take_fields(&mut self.shared.image.fields, &image.fields);
+        take_outputs(&mut self.shared.image.outputs, &image.outputs);
     }
 
     /// Another slot of a number, which counts from 1, in its range and under no ticket of another slot. No allocation.
@@ -148,7 +159,7 @@ impl Core {
         ensures config { self.new.config ≡ self.old.config }
         ensures group { self.new.group ≡ with_place self.old.group slot place }
     {
-        self.shared.set_slot(slot, place);
+        self.shared.calls.put(slot, place);
     }
 
     /// Another last ticket, no lower. No allocation.
@@ -158,7 +169,7 @@ impl Core {
         ensures config { self.new.config ≡ self.old.config }
         ensures group { self.new.group ≡ with_last self.old.group last }
     {
-        self.shared.set_last_ticket(last);
+        self.shared.calls.give(last);
     }
 
     /// Gives a global another value of its declared set, by its path. Otherwise nothing changes. No allocation.
@@ -168,7 +179,7 @@ impl Core {
         ensures set { SetsGlobal verified.now.config self.old.group path.now value result
             self.new.group }
     {
-        self.shared.set_global(verified, path, value)
+        set_global(&mut self.shared.globals, verified, path, value)
     }
 
     /// Gives a variable of a task another value of its declared set, by its path. Otherwise nothing changes. No allocation.
@@ -195,7 +206,8 @@ impl Core {
         ensures group { self.new.group ≡ rested self.old.group }
     {
         let _config = verified.config();
-        self.shared.rest(verified.sizes());
+        let opening = opening_image(verified.sizes());
+        take_outputs(&mut self.shared.image.outputs, &opening.outputs);
     }
 
     /// A group whose tasks are between scans makes a world that rests.
@@ -203,19 +215,31 @@ impl Core {
         requires { IsSeated self.now.config self.now.group }
         ensures { RestsWell self.now.config (resting self.now.config self.now.group) }
     {
-        let _image = self.shared.image();
+        let _shared = &self.shared;
     }
 
-    /// A scan of the task begins in this store, which has the task's variables then. The task holds no tickets of it.
+    /// A scan of the task begins in this store, which takes the task's variables. The task holds no tickets of it.
     pub(crate) fn fill(&self, verified: &Verified, task: u8, store: &mut Store)
         requires program { self.now.config ≡ verified.now.config }
         requires there { IsSome (task_at self.now.group task) }
         requires of { IsOf verified.now.config task store.old }
-        ensures of { IsOf verified.now.config task store.new }
+        ensures begins { (x : TaskState) → task_at self.now.group task ≡ Some x
+            → store.new.state
+            ≡ scan_begins verified.now.config task (beginning_of self.now.group x) }
         ensures kept { (x : TaskState) → task_at self.now.group task ≡ Some x
             → StillHas x.variables store.new.state }
+        ensures of { IsOf verified.now.config task store.new }
     {
-        self.shared.fill(verified, task, store);
+        let Some(memory) = &self.shared.memories[usize::from(task)] else {
+            unreachable!()
+        };
+        let begin = Begin {
+            variables: &memory.variables,
+            globals: &self.shared.globals,
+            image: &self.shared.image,
+            calls: &self.shared.calls,
+        };
+        store.restart(verified, task, &begin);
     }
 
     /// A task's scan begins, in this store, and the task holds the tickets that it sees. No allocation.
@@ -231,7 +255,8 @@ impl Core {
             ≡ scan_begins verified.now.config task (beginning_of self.old.group x) }
         ensures of { IsOf verified.now.config task store.new }
     {
-        self.start_with(verified, task, store, Variables::Copied);
+        self.fill(verified, task, store);
+        self.shared.open(task);
     }
 
     /// The same in a store that still has the task's variables.
@@ -249,25 +274,17 @@ impl Core {
             ≡ scan_begins verified.now.config task (beginning_of self.old.group x) }
         ensures of { IsOf verified.now.config task store.new }
     {
-        self.start_with(verified, task, store, Variables::Stay);
-    }
-
-    // A task's scan begins, with the variables that its store still has, or with those that it takes.
-    fn start_with(&mut self, verified: &Verified, task: u8, store: &mut Store, variables: Variables)
-        requires program { self.old.config ≡ verified.now.config }
-        requires there { IsSome (task_at self.old.group task) }
-        requires of { IsOf verified.now.config task store.old }
-        requires kept { variables ≡ Variables.Stay → (x : TaskState)
-            → task_at self.old.group task ≡ Some x → StillHas x.variables store.old.state }
-        ensures config { self.new.config ≡ self.old.config }
-        ensures group { (x : TaskState) → task_at self.old.group task ≡ Some x
-            → self.new.group ≡ started_group self.old.group task x }
-        ensures begins { (x : TaskState) → task_at self.old.group task ≡ Some x
-            → store.new.state
-            ≡ scan_begins verified.now.config task (beginning_of self.old.group x) }
-        ensures of { IsOf verified.now.config task store.new }
-    {
-        self.shared.start(verified, task, store, variables);
+        let Some(memory) = &self.shared.memories[usize::from(task)] else {
+            unreachable!()
+        };
+        let begin = Begin {
+            variables: &memory.variables,
+            globals: &self.shared.globals,
+            image: &self.shared.image,
+            calls: &self.shared.calls,
+        };
+        store.restart_in_place(verified, task, &begin);
+        self.shared.open(task);
     }
 
     /// A task's scan hands over its variables and the globals that its program writes. A car's outputs are settled, and it may serve a
@@ -286,7 +303,7 @@ impl Core {
     }
 
     /// A whole scan of a task, in a store that still has its variables: its start, its instructions to the end, and its commit, under the
-    /// tickets that the slots have all along. The task is between scans behind it. No allocation.
+    /// tickets that the slots have all along. The task is between scans after it. No allocation.
     #[inline(always)]
     pub fn scan_whole(
         &mut self,
@@ -305,7 +322,18 @@ impl Core {
             → ScansWhole verified.now.config task self.old.group x store.new self.new.group
             report.new }
     {
-        self.shared.scan_whole(verified, task, store, report);
+        let Some(memory) = &self.shared.memories[usize::from(task)] else {
+            unreachable!()
+        };
+        let begin = Begin {
+            variables: &memory.variables,
+            globals: &self.shared.globals,
+            image: &self.shared.image,
+            calls: &self.shared.calls,
+        };
+        store.restart_in_place(verified, task, &begin);
+        finish(verified, task, store);
+        self.shared.commit_now(verified, task, store, report);
         store.holds();
     }
 
@@ -319,7 +347,8 @@ impl Core {
         ensures hand { hand.new ≡ (enter_all self.old.group.calls [] hand.old).hand }
     {
         hand.in_order();
-        self.shared.refresh(fields, hand, report);
+        settle_cars(&mut self.shared.image, fields, report);
+        enter_all(&mut self.shared.calls, hand, &mut report.entered);
     }
 
     /// The same where no call is in the hand.
@@ -329,6 +358,7 @@ impl Core {
         ensures group { refreshed_group self.old.group fields.now []
             ≡ (self.new.group, report.new) }
     {
-        self.shared.refresh_alone(fields, report);
+        settle_cars(&mut self.shared.image, fields, report);
+        clear(&mut report.entered);
     }
 }

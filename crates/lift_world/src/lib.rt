@@ -2,16 +2,15 @@
 #![tactic(auto)]
 
 mod calling;
-mod controller;
 mod group;
 mod held;
 mod replies;
 mod shared;
+mod stores;
 mod taking;
 mod tickets;
 mod world;
 
-pub use controller::{Opened, opening};
 pub use group::Core;
 pub use il_machine::{Unset, Verified};
 pub use il_spec::fault::Refusal;
@@ -21,4 +20,5 @@ pub use lift_spec::hand::Hand;
 pub use lift_spec::report::{Denial, Report, Rule};
 pub use lift_spec::{Bounded, CarFields, CarOutputs, Fields, Image, Motor, Sizes};
 pub use replies::Replies;
+pub use stores::{Opened, opening};
 pub use world::World;

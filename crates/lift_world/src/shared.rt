@@ -1,53 +1,42 @@
-// What the tasks share, and the work of the events on it.
+// What the tasks share, by its rows, and what a commit does to them.
 
-ghost use Rattle.std.specs.Prelude.{◌≡◌, ◌≢◌, ℕ, suc, ◌≤◌, [], All, List, Option, length, map, replicate, slice_get, Some, None, IfOk, IsSome, option_and_then, option_copied};
-ghost use Rattle.il_spec.specs.declared.tree.Config.{Config as ConfigOf};
-ghost use Rattle.il_table.specs.NameMap as values;
-ghost use Rattle.il_run.specs.Ranges.{HoldGlobals};
+ghost use Rattle.std.specs.Prelude.{◌≡◌, ℕ, suc, ◌≤◌, [], List, Option, length, map, slice_get, Some, None, IfOk, IsSome, option_copied};
 ghost use Rattle.lift_world.specs.declared.shared.TaskMemory.{TaskMemory as MemoryOf};
-ghost use Rattle.il_layout.specs.Layout.{Rows as RowsOf};
-ghost use Rattle.il_machine.specs.Scanning.{FitsOwn, variables_in};
-ghost use Rattle.il_machine.specs.Standing.{IsOf, StillHas, IsBeginning, beginning_in, beginning_with};
-ghost use Rattle.lift_spec.specs.Image.{sizes_of, FieldsInRange, opening_outputs};
-ghost use Rattle.lift_spec.specs.Calls.{ticket_of, enter_all, SlotInRange, with_slot, greatest_ticket};
+ghost use Rattle.il_machine.specs.Scanning.{FitsOwn};
+ghost use Rattle.il_machine.specs.Standing.{IsOf};
+ghost use Rattle.lift_spec.specs.Image.{sizes_of};
+ghost use Rattle.lift_spec.specs.Calls.{ticket_of};
 ghost use Rattle.lift_spec.specs.Settle.{settled_car, settled_all, with_outputs};
-ghost use Rattle.lift_spec.specs.Snapshot.{scan_begins, program_of, wishes_of, written_globals};
-ghost use Rattle.lift_spec.specs.World.{InRanges, flat, opening_task, opening_tasks_from, opening_group, beginning_of, refreshed_group};
-ghost use Rattle.lift_world.specs.Running.{memory_at, task_in, task_by, tasks_in, group_in, is_open, FitDeclared, SharedFits, with_memory, HasOpenScan, Commits, CommitsUnder, ClosesWith, ClosesAmong, TellsTo, CommitsTold, settled_report, wished_ticket};
-ghost use Rattle.lift_world.specs.Scanned.{ScansMemory};
+ghost use Rattle.lift_spec.specs.Snapshot.{program_of, wishes_of, written_globals};
+ghost use Rattle.lift_spec.specs.World.{InRanges, flat, opening_task, opening_tasks_from, opening_group};
+ghost use Rattle.lift_world.specs.Running.{memory_at, task_by, tasks_in, group_in, FitDeclared, SharedFits, with_memory, HasOpenScan, Commits, CommitsUnder, ClosesWith, ClosesAmong, TellsTo, CommitsTold, settled_report, wished_ticket};
 ghost use Rattle.lift_world.specs.Setting.{SetsMemory, SetsAmong};
-ghost use Rattle.il_machine.specs.Setting.{SetsGlobals};
-ghost use Rattle.il_machine.specs.Sharing.{globals_in, FitsGlobals};
+ghost use Rattle.il_machine.specs.Sharing.{globals_in};
 
-use crate::calling::{clear, enter_all, report_denials, serve, tell_all, tell_all_now, ticket_in};
+use crate::calling::{clear, report_denials, serve, tell_all, tell_all_now, ticket_in};
 use crate::taking::{take_fields, take_outputs};
 use crate::tickets::Tickets;
-use il_machine::{
-    Begin, FirstRows, Rows, Store, Unset, Value, Verified, finish, opening_image, set_global,
-    set_variable, variable,
-};
+use il_machine::{FirstRows, Rows, Store, Unset, Value, Verified, opening_image, set_variable};
 use lift_calls::book::CallBook;
 use lift_interlock::{replace, settle_car, settle_each};
-use lift_spec::calls::Slot;
-use lift_spec::hand::Hand;
 use lift_spec::image::Wishes;
 use lift_spec::report::{Answered, Report};
-use lift_spec::{Bounded, Fields, Image, MOST_CARS, Motor, SLOT_PLACES, Sizes};
+use lift_spec::{Bounded, Fields, Image, MOST_CARS, Motor, SLOT_PLACES};
 use std::alloc::{AllocError, Global};
 
 /// What a task keeps: its variables as its last commit left them, and the tickets of the call slots that its open scan saw, if it has one.
 #[derive(Drop)]
 pub struct TaskMemory {
-    variables: Rows,
-    tickets: Tickets,
+    pub variables: Rows,
+    pub tickets: Tickets,
 }
 
 /// What the tasks of a group share, and what each keeps: GROUP first, then CAR1 and so on; none where the group has no such task.
 pub struct Shared {
-    image: Image,
-    calls: CallBook,
-    globals: Rows,
-    memories: Vec<Option<TaskMemory>>,
+    pub image: Image,
+    pub calls: CallBook,
+    pub globals: Rows,
+    pub memories: Vec<Option<TaskMemory>>,
 }
 
 // Written by hand, since who drops a type whose drop is derived proves the drop of each type inside again.
@@ -60,13 +49,6 @@ impl Drop for Shared {
             memories: _memories,
         } = self;
     }
-}
-
-/// Whether a task's store still has its variables, or takes them.
-#[derive(Clone, Copy)]
-pub enum Variables {
-    Stay,
-    Copied,
 }
 
 // Rows of their own with these values.
@@ -139,109 +121,16 @@ fn set_memory(
     }
 }
 
-// A scan begins in a store, with the variables that it still has, or with those that it takes.
-#[inline(always)]
-fn restart(
-    store: &mut Store,
-    verified: &Verified,
-    task: u8,
-    begin: &Begin<'_>,
-    variables: Variables,
-)
-    requires of { IsOf verified.now.config task store.old }
-    requires begin { IsBeginning verified.now.config task begin.now }
-    requires kept { variables ≡ Variables.Stay
-        → StillHas (variables_in verified.now.config task begin.now.variables.now)
-        store.old.state }
-    ensures begins { store.new.state
-        ≡ scan_begins verified.now.config task (beginning_in verified.now.config task begin.now) }
-    ensures of { IsOf verified.now.config task store.new }
-{
-    match variables {
-        Variables::Stay => store.restart_in_place(verified, task, begin),
-        Variables::Copied => store.restart(verified, task, begin),
-    }
-}
-
-// A task's scan begins in a store, with the variables that it still has, or with those of the task.
-#[inline(always)]
-fn begin_task(
-    memory: &TaskMemory,
-    verified: &Verified,
-    task: u8,
-    globals: &Rows,
-    image: &Image,
-    calls: &CallBook,
-    store: &mut Store,
-    variables: Variables,
-)
-    requires variables { FitDeclared verified.now.config task memory.now.variables }
-    requires globals { FitsGlobals verified.now.config globals.now }
-    requires shared { HoldGlobals verified.now.config (globals_in verified.now.config globals.now) }
-    requires fields { FieldsInRange (sizes_of verified.now.config) image.now.fields }
-    requires outputs { length image.now.outputs ≡ (sizes_of verified.now.config).cars }
-    requires slots { length calls.now.slots ≡ (sizes_of verified.now.config).slots }
-    requires each { (last : ℕ)
-        × All (SlotInRange (sizes_of verified.now.config) last) calls.now.slots }
-    requires of { IsOf verified.now.config task store.old }
-    requires kept { variables ≡ Variables.Stay
-        → StillHas (variables_in verified.now.config task memory.now.variables) store.old.state }
-    ensures begins { store.new.state
-        ≡ scan_begins verified.now.config task
-        (beginning_with verified.now.config task memory.now.variables image.now calls.now.slots
-        globals.now) }
-    ensures of { IsOf verified.now.config task store.new }
-{
-    let begin = Begin {
-        variables: &memory.variables,
-        globals,
-        image,
-        calls,
-    };
-    restart(store, verified, task, &begin, variables);
-}
-
-// A task's scan begins, and the task holds the tickets of the slots.
-fn start_task(
-    memory: &mut Option<TaskMemory>,
-    verified: &Verified,
-    task: u8,
-    globals: &Rows,
-    image: &Image,
-    calls: &CallBook,
-    store: &mut Store,
-    variables: Variables,
-)
-    requires there { IsSome memory.old }
-    requires variables { (s : MemoryOf) → memory.old ≡ Some s
-        → FitDeclared verified.now.config task s.variables }
-    requires globals { FitsGlobals verified.now.config globals.now }
-    requires shared { HoldGlobals verified.now.config (globals_in verified.now.config globals.now) }
-    requires fields { FieldsInRange (sizes_of verified.now.config) image.now.fields }
-    requires outputs { length image.now.outputs ≡ (sizes_of verified.now.config).cars }
-    requires slots { length calls.now.slots ≡ (sizes_of verified.now.config).slots }
-    requires each { (last : ℕ)
-        × All (SlotInRange (sizes_of verified.now.config) last) calls.now.slots }
-    requires of { IsOf verified.now.config task store.old }
-    requires kept { variables ≡ Variables.Stay → (s : MemoryOf) → memory.old ≡ Some s
-        → StillHas (variables_in verified.now.config task s.variables) store.old.state }
-    ensures memory { (s : MemoryOf) → memory.old ≡ Some s
+// The task holds the tickets that the slots have, as its scan begins.
+fn open_task(memory: &mut Option<TaskMemory>, calls: &CallBook)
+    ensures { (s : MemoryOf) → memory.old ≡ Some s
         → memory.new
         ≡ Some (record {
           variables = s.variables;
           tickets = Some (map ticket_of calls.now.slots);
         }) }
-    ensures begins { (s : MemoryOf) → memory.old ≡ Some s
-        → store.new.state
-        ≡ scan_begins verified.now.config task
-        (beginning_with verified.now.config task s.variables image.now calls.now.slots
-        globals.now) }
-    ensures of { IsOf verified.now.config task store.new }
 {
     if let Some(memory) = memory {
-        begin_task(
-            memory, verified, task, globals, image, calls, store, variables,
-        );
         memory.tickets.open(calls);
     }
 }
@@ -316,8 +205,8 @@ fn tell_assigned(
     tell_all_now(calls, cars.as_slice(), answers);
 }
 
-// The image takes fields of as many cars, and the outputs of all are settled under them, and reported.
-fn settle_cars(image: &mut Image, fields: &Fields, report: &mut Report)
+/// The image takes fields of as many cars, and the outputs of all are settled under them, and reported.
+pub fn settle_cars(image: &mut Image, fields: &Fields, report: &mut Report)
     requires { length image.old.outputs ≡ length fields.now.cars }
     ensures image { image.new
         ≡ record {
@@ -357,130 +246,11 @@ impl Shared {
         })
     }
 
-    /// The image.
-    pub fn image(&self) -> &Image
-        ensures { result.now ≡ self.now.image }
-    {
-        &self.image
-    }
-
-    /// The call slots, slot 1 first.
-    pub fn slots(&self) -> Bounded<Slot, SLOT_PLACES>
-        ensures { result ≡ self.now.calls.slots }
-    {
-        self.calls.slots()
-    }
-
-    /// The calls.
-    pub fn calls(&self) -> &CallBook
-        ensures { result.now ≡ self.now.calls }
-    {
-        &self.calls
-    }
-
     /// The task of a number, if the group has it.
     pub fn memory(&self, task: u8) -> Option<&TaskMemory>
         ensures { option_copied result ≡ memory_at self.now task }
     {
         self.memories.as_slice().get(usize::from(task))?.as_ref()
-    }
-
-    /// The value of a variable of a task, as its last commit left it.
-    pub fn variable(&self, verified: &Verified, task: u8, path: &str) -> Option<Value>
-        requires { SharedFits verified.now.config self.now }
-        ensures { result
-            ≡ option_and_then
-            (λ s. values.get (variables_in verified.now.config task s.variables) path.now)
-            (memory_at self.now task) }
-    {
-        let memory = self.memory(task)?;
-        variable(&memory.variables, verified, task, path)
-    }
-
-    /// The value of a global, as the last commit left it.
-    pub fn global(&self, verified: &Verified, path: &str) -> Option<Value>
-        requires { SharedFits verified.now.config self.now }
-        ensures { result ≡ values.get (globals_in verified.now.config self.now.globals) path.now }
-    {
-        verified.global(&self.globals, path)
-    }
-
-    /// Whether a scan of a task is open.
-    pub fn is_open(&self, task: u8) -> bool
-        ensures { result ≡ is_open self.now task }
-    {
-        match self.memories.as_slice().get(usize::from(task)) {
-            Some(Some(memory)) => memory.tickets.is_open(),
-            _ => false,
-        }
-    }
-
-    /// Another image.
-    pub fn set_image(&mut self, image: &Image)
-        ensures image { self.new.image ≡ image.now }
-        ensures calls { self.new.calls ≡ self.old.calls }
-        ensures globals { self.new.globals ≡ self.old.globals }
-        ensures memories { self.new.memories ≡ self.old.memories }
-    {
-        take_fields(&mut self.image.fields, &image.fields);
-        take_outputs(&mut self.image.outputs, &image.outputs);
-    }
-
-    /// Every motor is still, and no door has an open command.
-    pub fn rest(&mut self, sizes: Sizes)
-        requires { sizes.cars ≤ MOST_CARS }
-        ensures image { self.new.image
-            ≡ record {
-              fields = self.old.image.fields;
-              outputs = replicate sizes.cars opening_outputs;
-            } }
-        ensures calls { self.new.calls ≡ self.old.calls }
-        ensures globals { self.new.globals ≡ self.old.globals }
-        ensures memories { self.new.memories ≡ self.old.memories }
-    {
-        let opening = opening_image(sizes);
-        take_outputs(&mut self.image.outputs, &opening.outputs);
-    }
-
-    /// Another slot of a number.
-    pub fn set_slot(&mut self, slot: u8, place: Slot)
-        requires { (1 ≤ slot) × (slot ≤ length self.old.calls.slots) }
-        ensures slots { self.new.calls.slots ≡ with_slot self.old.calls.slots slot place }
-        ensures last { self.new.calls.last_ticket ≡ self.old.calls.last_ticket }
-        ensures image { self.new.image ≡ self.old.image }
-        ensures globals { self.new.globals ≡ self.old.globals }
-        ensures memories { self.new.memories ≡ self.old.memories }
-    {
-        self.calls.put(slot, place);
-    }
-
-    /// Another last ticket.
-    pub fn set_last_ticket(&mut self, last: u64)
-        requires { last ≤ greatest_ticket }
-        ensures slots { self.new.calls.slots ≡ self.old.calls.slots }
-        ensures last { self.new.calls.last_ticket ≡ last }
-        ensures image { self.new.image ≡ self.old.image }
-        ensures globals { self.new.globals ≡ self.old.globals }
-        ensures memories { self.new.memories ≡ self.old.memories }
-    {
-        self.calls.give(last);
-    }
-
-    /// Gives a global another value of its declared set. Otherwise nothing changes.
-    pub fn set_global(&mut self, verified: &Verified, path: &str, value: Value) -> Result<(), Unset>
-        requires fits { FitsGlobals verified.now.config self.old.globals }
-        requires shared { HoldGlobals verified.now.config
-            (globals_in verified.now.config self.old.globals) }
-        ensures set { SetsGlobals verified.now.config self.old.globals path.now value result
-            self.new.globals }
-        ensures fits { FitsGlobals verified.now.config self.new.globals }
-        ensures shared { HoldGlobals verified.now.config
-            (globals_in verified.now.config self.new.globals) }
-        ensures image { self.new.image ≡ self.old.image }
-        ensures calls { self.new.calls ≡ self.old.calls }
-        ensures memories { self.new.memories ≡ self.old.memories }
-    {
-        set_global(&mut self.globals, verified, path, value)
     }
 
     /// Gives a variable of a task another value of its declared set. Otherwise nothing changes.
@@ -508,66 +278,17 @@ impl Shared {
         )
     }
 
-    /// A scan of the task begins in this store, with the task's variables. The task holds no tickets of it.
-    pub fn fill(&self, verified: &Verified, task: u8, store: &mut Store)
-        requires there { IsSome (memory_at self.now task) }
-        requires fits { SharedFits verified.now.config self.now }
-        requires ranges { InRanges verified.now.config (group_in verified.now.config self.now) }
-        requires of { IsOf verified.now.config task store.old }
-        ensures begins { (s : MemoryOf) → memory_at self.now task ≡ Some s
-            → store.new.state
-            ≡ scan_begins verified.now.config task
-            (beginning_of (group_in verified.now.config self.now)
-            (task_in verified.now.config task s)) }
-        ensures of { IsOf verified.now.config task store.new }
-    {
-        let Some(memory) = &self.memories[usize::from(task)] else {
-            unreachable!()
-        };
-        begin_task(
-            memory,
-            verified,
-            task,
-            &self.globals,
-            &self.image,
-            &self.calls,
-            store,
-            Variables::Copied,
-        );
-    }
-
-    /// A task's scan begins, and the task holds the tickets that it sees. No scan of it is open.
-    pub fn start(&mut self, verified: &Verified, task: u8, store: &mut Store, variables: Variables)
+    /// The task holds the tickets that the slots have, as its scan begins.
+    pub fn open(&mut self, task: u8)
         requires there { IsSome (memory_at self.old task) }
-        requires fits { SharedFits verified.now.config self.old }
-        requires ranges { InRanges verified.now.config (group_in verified.now.config self.old) }
-        requires of { IsOf verified.now.config task store.old }
-        requires kept { variables ≡ Variables.Stay → (s : MemoryOf) → memory_at self.old task
-            ≡ Some s
-            → StillHas (variables_in verified.now.config task s.variables) store.old.state }
-        ensures begins { (s : MemoryOf) → memory_at self.old task ≡ Some s
-            → store.new.state
-            ≡ scan_begins verified.now.config task
-            (beginning_of (group_in verified.now.config self.old)
-            (task_in verified.now.config task s)) }
         ensures shared { (self.new.image ≡ self.old.image) × (self.new.calls ≡ self.old.calls)
             × (self.new.globals ≡ self.old.globals) }
         ensures memories { (s : MemoryOf) → memory_at self.old task ≡ Some s
             → self.new.memories.items
             ≡ with_memory self.old task s.variables
             (Some (map ticket_of self.old.calls.slots)) }
-        ensures of { IsOf verified.now.config task store.new }
     {
-        start_task(
-            &mut self.memories[usize::from(task)],
-            verified,
-            task,
-            &self.globals,
-            &self.image,
-            &self.calls,
-            store,
-            variables,
-        );
+        open_task(&mut self.memories[usize::from(task)], &self.calls);
     }
 
     /// A task's scan, which has ended, hands over its variables and the globals that its program writes. A car's outputs are settled,
@@ -623,68 +344,9 @@ impl Shared {
         self.leave_group(verified, store, report);
     }
 
-    /// A whole scan of a task, in a store that still has its variables: its start, its instructions to the end, and its commit, under the
-    /// tickets that the slots have all along. It copies no tickets, and no scan of the task is open behind it.
+    /// The commit of a task's scan, which has ended, under the tickets that the slots have now.
     #[inline(always)]
-    pub fn scan_whole(
-        &mut self,
-        verified: &Verified,
-        task: u8,
-        store: &mut Store,
-        report: &mut Report,
-    )
-        requires there { IsSome (memory_at self.old task) }
-        requires fits { SharedFits verified.now.config self.old }
-        requires ranges { InRanges verified.now.config (group_in verified.now.config self.old) }
-        requires of { IsOf verified.now.config task store.old }
-        requires kept { (s : MemoryOf) → memory_at self.old task ≡ Some s
-            → StillHas (variables_in verified.now.config task s.variables) store.old.state }
-        ensures scan { (s : MemoryOf) → memory_at self.old task ≡ Some s
-            → ScansMemory verified.now.config task self.old s store.new self.new report.new }
-        ensures closed { (v : RowsOf) × (self.new.memories.items
-            ≡ with_memory self.old task v None) }
-        ensures fits { SharedFits verified.now.config self.new }
-    {
-        self.begin(verified, task, store);
-        finish(verified, task, store);
-        self.commit_now(verified, task, store, report);
-    }
-
-    // A task's scan begins, and the task holds no tickets of it.
-    #[inline(always)]
-    fn begin(&self, verified: &Verified, task: u8, store: &mut Store)
-        requires there { IsSome (memory_at self.now task) }
-        requires fits { SharedFits verified.now.config self.now }
-        requires ranges { InRanges verified.now.config (group_in verified.now.config self.now) }
-        requires of { IsOf verified.now.config task store.old }
-        requires kept { (s : MemoryOf) → memory_at self.now task ≡ Some s
-            → StillHas (variables_in verified.now.config task s.variables) store.old.state }
-        ensures begins { (s : MemoryOf) → memory_at self.now task ≡ Some s
-            → store.new.state
-            ≡ scan_begins verified.now.config task
-            (beginning_of (group_in verified.now.config self.now)
-            (task_in verified.now.config task s)) }
-        ensures going { store.new.state.frames ≢ [] }
-        ensures of { IsOf verified.now.config task store.new }
-    {
-        let Some(memory) = &self.memories[usize::from(task)] else {
-            unreachable!()
-        };
-        begin_task(
-            memory,
-            verified,
-            task,
-            &self.globals,
-            &self.image,
-            &self.calls,
-            store,
-            Variables::Stay,
-        );
-    }
-
-    // The commit of a task's scan, which has ended, under the tickets that the slots have now.
-    #[inline(always)]
-    fn commit_now(&mut self, verified: &Verified, task: u8, store: &Store, report: &mut Report)
+    pub fn commit_now(&mut self, verified: &Verified, task: u8, store: &Store, report: &mut Report)
         requires there { IsSome (memory_at self.old task) }
         requires fits { SharedFits verified.now.config self.old }
         requires ranges { InRanges verified.now.config (group_in verified.now.config self.old) }
@@ -793,32 +455,5 @@ impl Shared {
     {
         store.copy_globals(verified, &mut self.globals);
         close_task(&mut self.memories[usize::from(task)], verified, task, store);
-    }
-
-    /// The image takes fields of as many cars, the outputs are settled under them, and the calls of the hand enter.
-    pub fn refresh(&mut self, fields: &Fields, hand: &mut Hand, report: &mut Report)
-        requires cars { length self.old.image.outputs ≡ length fields.now.cars }
-        ensures group { (c : ConfigOf)
-            → refreshed_group (group_in c self.old) fields.now hand.old
-            ≡ (group_in c self.new, report.new) }
-        ensures hand { hand.new ≡ (enter_all self.old.calls [] hand.old).hand }
-        ensures memories { self.new.memories ≡ self.old.memories }
-        ensures globals { self.new.globals ≡ self.old.globals }
-    {
-        settle_cars(&mut self.image, fields, report);
-        enter_all(&mut self.calls, hand, &mut report.entered);
-    }
-
-    /// The image takes fields of as many cars, and the outputs are settled under them. No call is in the hand.
-    pub fn refresh_alone(&mut self, fields: &Fields, report: &mut Report)
-        requires cars { length self.old.image.outputs ≡ length fields.now.cars }
-        ensures group { (c : ConfigOf)
-            → refreshed_group (group_in c self.old) fields.now []
-            ≡ (group_in c self.new, report.new) }
-        ensures memories { self.new.memories ≡ self.old.memories }
-        ensures globals { self.new.globals ≡ self.old.globals }
-    {
-        settle_cars(&mut self.image, fields, report);
-        clear(&mut report.entered);
     }
 }

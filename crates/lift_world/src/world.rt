@@ -1,7 +1,7 @@
-// The world.
+// The world of a lift group, and what each event does to it.
 
 ghost use Rattle.il_spec.specs.declared.fault.Refusal.TheVariants.{Memory};
-ghost use Rattle.std.specs.Prelude.{◌≡◌, ℕ, ◌+◌, ◌≤◌, [], ◌∷◌, length, option_and_then, option_map, IfOk, IfErr, IfSome, Ok, Some, None};
+ghost use Rattle.std.specs.Prelude.{◌≡◌, ℕ, ◌+◌, ◌≤◌, List, [], ◌∷◌, length, option_and_then, option_map, IfOk, IfErr, IfSome, Ok, Some, None};
 ghost use Rattle.il_spec.specs.declared.tree.Unit.{Unit as Organized};
 ghost use Rattle.il_table.specs.NameMap as values;
 ghost use Rattle.il_machine.specs.Listing.{TaskLine, task_line};
@@ -10,53 +10,69 @@ ghost use Rattle.il_machine.specs.Standing.{IsOf};
 ghost use Rattle.lift_spec.specs.Calls.{slot_at};
 ghost use Rattle.lift_spec.specs.Image.{sizes_of, FieldsInRange, Obeys};
 ghost use Rattle.lift_spec.specs.Replies.{reply_with, Refreshed, Refused};
-ghost use Rattle.lift_spec.specs.declared.event.Event.TheVariants.{Instruction, Refresh};
+ghost use Rattle.lift_spec.specs.declared.event.Event.{Event as EventOf};
+ghost use Rattle.lift_spec.specs.declared.event.Event.TheVariants.{Start, Instruction, Commit, Refresh, Press, Gather};
+ghost use Rattle.lift_spec.specs.declared.report.Report.{Report as ReportOf};
 ghost use Rattle.lift_spec.specs.Snapshot.{program_of};
 ghost use Rattle.lift_spec.specs.World as model;
 ghost use Rattle.lift_run_laws.specs.Tasks.{budget_of};
 ghost use Rattle.lift_run_laws.specs.Runs.{IsReached};
 ghost use Rattle.lift_run_laws.specs.Histories.{CallGoesWell};
-ghost use Rattle.lift_world.specs.Running.{reports_by, reporting, instructions, up_to_end, scan_events};
-ghost use Rattle.lift_world.specs.Worlds.{PrintsEachBudget, IsWholeScan};
+ghost use Rattle.lift_world.specs.Running.{reports_by, may_report, reporting, instructions, up_to_end, scan_events};
+ghost use Rattle.lift_world.specs.Worlds.{Happens, PrintsEachBudget, IsWholeScan};
 ghost use Rattle.lift_run_laws.specs.Holding.{at_rest};
 ghost use Rattle.lift_world.specs.Setting.{IsSeated, resting};
 
-use crate::controller::Controller;
 use crate::group::Core;
+use crate::held::{Held, refresh};
 use crate::replies::Replies;
+use crate::stores::{advance, begin, resumed, run_out};
 use il_machine::{Store, Value, Verified};
 use il_spec::fault::Refusal;
-use lift_spec::calls::Slot;
+use il_spec::pair::both;
+use lift_spec::calls::{Call, Slot};
 use lift_spec::event::{Event, EventFault, Reply};
 use lift_spec::hand::Hand;
 use lift_spec::report::Report;
-use lift_spec::{Bounded, Fields, Image, SLOT_PLACES, Sizes};
+use lift_spec::{Bounded, Fields, Image, SLOT_PLACES, Sizes, in_range, is_floor};
 use std::alloc::Global;
 use std::marker::Model;
 
-/// The world of a lift group: its verified configuration, image, call slots, variables and scans, its desk and its hand. Some
-/// history of events has led to it from the opening world.
+/// The world of a lift group: its verified configuration, what the tasks share, a store for each task's scan, the calls on the desk
+/// and those in the hand. Some history of events has led to it from the opening world.
 pub struct World {
-    group: Controller,
+    verified: Verified,
+    core: Core,
+    stores: Vec<Option<Store>>,
+    desk: Hand,
+    hand: Held,
 }
 
 // Written by hand, since who drops a type whose drop is derived proves the drop of each type inside again.
 impl Drop for World {
     fn drop(self) {
-        let World { group: _group } = self;
+        let World {
+            verified: _verified,
+            core: _core,
+            stores: _stores,
+            desk: _desk,
+            hand: _hand,
+        } = self;
     }
 }
 
 impl Model for World {
-    ghost use Rattle.lift_world.specs.Worlds.{WorldOf, world_of_code, world_in, IsController};
+    ghost use Rattle.lift_world.specs.Worlds.{WorldOf, world_of_code};
 
     ghost Value = { WorldOf };
 
     ghost coded = { world_of_code };
 
-    ghost view = { λ w. record { program = w.group.verified; world = world_in w.group } };
+    ghost use Rattle.lift_world.specs.Kept.{world_in, IsWorld};
 
-    ghost invariant = { λ w. IsController w.group };
+    ghost view = { λ w. record { program = w.verified; world = world_in w } };
+
+    ghost invariant = { IsWorld };
 }
 
 impl World {
@@ -66,8 +82,9 @@ impl World {
         ensures opening { IfOk result (λ w. w.world ≡ model.opening verified.config) }
         ensures memory { IfErr result (λ e. e ≡ Memory) }
     {
-        let group = Controller::new(alloc, verified)?;
-        Ok(World { group })
+        let core = Core::new(alloc, &verified);
+        let (verified, core) = both(verified, core)?;
+        World::resume(alloc, verified, core)
     }
 
     /// The world of a group between scans. No call is on the desk or in the hand.
@@ -78,8 +95,17 @@ impl World {
         ensures world { IfOk result (λ w. w.world ≡ resting verified.config core.group) }
         ensures memory { IfErr result (λ e. e ≡ Memory) }
     {
-        let group = Controller::resume(alloc, verified, core)?;
-        Ok(World { group })
+        let _config = verified.config();
+        core.rests();
+        let opened = resumed(alloc, &verified, core);
+        let (verified, opened) = both(verified, opened)?;
+        Ok(World {
+            verified,
+            core: opened.core,
+            stores: opened.stores,
+            desk: Hand::new(),
+            hand: Held::new(),
+        })
     }
 
     /// Every motor is still, and no door has an open command, as after a stop.
@@ -88,11 +114,140 @@ impl World {
         ensures world { self.new.world ≡ at_rest self.old.world }
         ensures same { self.new.program ≡ self.old.program }
     {
-        self.group.rest();
+        self.core.rest(&self.verified);
     }
 
     /// Gives the world up. Who calls it has no drop of one to prove.
     pub fn release(self) {}
+
+    // What holds of every world: some history has led to it, whatever comes next goes well, and each task is printed with its budget.
+    #[inline(always)]
+    fn holds(&self)
+        ensures reached { IsReached self.now.program.config self.now.world }
+        ensures well { (events : List EventOf)
+            → CallGoesWell self.now.program.config self.now.world events }
+        ensures printed { (task : ℕ) (line : TaskLine) (u : Organized)
+            → task_line self.now.program task ≡ Some line
+            → program_of self.now.program.config task ≡ Some u
+            → line.budget ≡ budget_of self.now.program.config task }
+        ensures each { PrintsEachBudget self.now.program }
+    {
+        let _verified = &self.verified;
+    }
+
+    // Start: the task's scan begins.
+    fn start(&mut self, task: u8) -> Reply
+        ensures model { (r : ReportOf)
+            → Happens self.old (Start task) self.new (reply_with result r) }
+        ensures plain { reports_by result ≡ 0 }
+        ensures same { self.new.program ≡ self.old.program }
+    {
+        if !self.core.has_task(task) {
+            return Reply::Refused(EventFault::NoSuchActor);
+        }
+        if self.core.is_open(task) {
+            return Reply::Refused(EventFault::AlreadyOpen);
+        }
+        begin(
+            &mut self.core,
+            &self.verified,
+            task,
+            &mut self.stores[usize::from(task)],
+        );
+        Reply::Started
+    }
+
+    // Instruction: one step of the task's open scan.
+    fn instruction(&mut self, task: u8) -> Reply
+        ensures model { (r : ReportOf)
+            → Happens self.old (Instruction task) self.new (reply_with result r) }
+        ensures plain { reports_by result ≡ 0 }
+        ensures same { self.new.program ≡ self.old.program }
+    {
+        if !self.core.has_task(task) {
+            return Reply::Refused(EventFault::NoSuchActor);
+        }
+        if !self.core.is_open(task) {
+            return Reply::Refused(EventFault::NoOpenScan);
+        }
+        advance(&self.verified, task, &mut self.stores[usize::from(task)])
+    }
+
+    // Commit: the task's scan, which has ended, hands over what it left.
+    #[inline(always)]
+    fn commit(&mut self, task: u8, report: &mut Report) -> Reply
+        ensures model { Happens self.old (Commit task) self.new (reply_with result report.new) }
+        ensures kept { reports_by result ≡ 0 → report.new ≡ report.old }
+        ensures one { reports_by result ≤ 1 }
+        ensures same { self.new.program ≡ self.old.program }
+    {
+        if !self.core.has_task(task) {
+            return Reply::Refused(EventFault::NoSuchActor);
+        }
+        if !self.core.is_open(task) {
+            return Reply::Refused(EventFault::NoOpenScan);
+        }
+        let Some(store) = &self.stores[usize::from(task)] else {
+            unreachable!()
+        };
+        if !store.has_ended(&self.verified) {
+            return Reply::Refused(EventFault::NotAtEnd);
+        }
+        self.core.commit(&self.verified, task, store, report);
+        Reply::Committed
+    }
+
+    // Refresh: the fields are taken where they lie in their ranges.
+    fn refresh_if_in_range(&mut self, fields: &Fields, report: &mut Report) -> Reply
+        ensures model { Happens self.old (Refresh fields.now) self.new
+            (reply_with result report.new) }
+        ensures kept { reports_by result ≡ 0 → report.new ≡ report.old }
+        ensures one { reports_by result ≤ 1 }
+        ensures same { self.new.program ≡ self.old.program }
+    {
+        if !in_range(fields, self.verified.sizes()) {
+            return Reply::Refused(EventFault::FieldOutOfRange);
+        }
+        self.refresh(fields, report);
+        Reply::Refreshed
+    }
+
+    // Press: the call is put on the desk.
+    fn press(&mut self, call: Call) -> Reply
+        ensures model { (r : ReportOf)
+            → Happens self.old (Press call) self.new (reply_with result r) }
+        ensures plain { reports_by result ≡ 0 }
+        ensures same { self.new.program ≡ self.old.program }
+    {
+        let sizes = self.verified.sizes();
+        if !is_floor(call.from, sizes) || !is_floor(call.to, sizes) {
+            return Reply::Refused(EventFault::NoSuchActor);
+        }
+        if call.from == call.to {
+            return Reply::Refused(EventFault::SameFloor);
+        }
+        if self.desk.has(call) {
+            return Reply::Already;
+        }
+        self.desk.insert(call);
+        Reply::New
+    }
+
+    // Gather: the calls from a floor go from the desk to the hand, where the hand has none from there.
+    fn gather(&mut self, floor: u8) -> Reply
+        ensures model { (r : ReportOf)
+            → Happens self.old (Gather floor) self.new (reply_with result r) }
+        ensures plain { reports_by result ≡ 0 }
+        ensures same { self.new.program ≡ self.old.program }
+    {
+        if !is_floor(floor, self.verified.sizes()) {
+            return Reply::Refused(EventFault::NoSuchActor);
+        }
+        if self.hand.has_from(floor) {
+            return Reply::Held;
+        }
+        Reply::Gathered(self.hand.take_from(floor, &mut self.desk))
+    }
 
     /// One event. The report is written by a commit and by a refresh that are done, and by nothing else. An event that is refused
     /// changes nothing.
@@ -101,6 +256,7 @@ impl World {
         ensures model { model.happens self.old.program.config self.old.world event.now
             ≡ Ok (self.new.world, reply_with result report.new) }
         ensures kept { reports_by result ≡ 0 → report.new ≡ report.old }
+        ensures reports { reports_by result ≤ may_report event.now }
         ensures same { self.new.program ≡ self.old.program }
         // an Instruction leaves the group and all other scans as they were
         ensures scan_only { (task : ℕ) → event.now ≡ Instruction task
@@ -109,10 +265,18 @@ impl World {
         ensures reached { IsReached self.old.program.config self.old.world }
         ensures printed { PrintsEachBudget self.old.program }
     {
-        self.group.happen(event, report)
+        self.holds();
+        match event {
+            Event::Start(task) => self.start(*task),
+            Event::Instruction(task) => self.instruction(*task),
+            Event::Commit(task) => self.commit(*task, report),
+            Event::Refresh(fields) => self.refresh_if_in_range(fields, report),
+            Event::Press(call) => self.press(*call),
+            Event::Gather(floor) => self.gather(*floor),
+        }
     }
 
-    /// A run over a list of events, with a reply for each, behind those that are there. What room is left is left for a further run.
+    /// A run over a list of events, with a reply for each, after those that are there. What room is left is left for a further run.
     pub fn run(&mut self, events: &[Event], replies: &mut Replies)
         requires room { length replies.old.items + length events.now ≤ replies.old.room }
         requires report_room { replies.old.reports + reporting events.now
@@ -141,7 +305,12 @@ impl World {
             → line.budget ≡ budget_of self.old.program.config task }
         ensures each { PrintsEachBudget self.old.program }
     {
-        self.group.run(events, replies);
+        self.holds();
+        let mut report = Report::new();
+        'events: for event in events {
+            let reply = self.apply(event, &mut report);
+            replies.push(reply, &mut report);
+        }
     }
 
     /// The open scan of a task runs to its end. The answer is the number of its instructions since now, or why there is no scan to run;
@@ -160,7 +329,14 @@ impl World {
         ensures reached { IsReached self.old.program.config self.old.world }
         ensures printed { PrintsEachBudget self.old.program }
     {
-        self.group.finish(task)
+        self.holds();
+        if !self.core.has_task(task) {
+            return Err(EventFault::NoSuchActor);
+        }
+        if !self.core.is_open(task) {
+            return Err(EventFault::NoOpenScan);
+        }
+        run_out(&self.verified, task, &mut self.stores[usize::from(task)])
     }
 
     /// A whole scan of a task that has none open: its start, its instructions to the end, and its commit, which writes the report.
@@ -176,7 +352,11 @@ impl World {
         ensures reached { IsReached self.old.program.config self.old.world }
         ensures printed { PrintsEachBudget self.old.program }
     {
-        self.group.scan_whole(task, report);
+        self.holds();
+        let Some(scan) = &mut self.stores[usize::from(task)] else {
+            unreachable!()
+        };
+        self.core.scan_whole(&self.verified, task, scan, report);
     }
 
     /// A refresh with fields in range: the image takes them, and the calls of the hand enter. It writes the report.
@@ -191,7 +371,8 @@ impl World {
         ensures reached { IsReached self.old.program.config self.old.world }
         ensures printed { PrintsEachBudget self.old.program }
     {
-        self.group.refresh_in_range(fields, report);
+        self.holds();
+        refresh(&mut self.core, fields, &mut self.hand, report);
     }
 
     /// The image. It lies in its ranges and obeys the interlock.
@@ -202,56 +383,58 @@ impl World {
         ensures obeys { Obeys self.now.world.group.image }
         ensures reached { IsReached self.now.program.config self.now.world }
     {
-        self.group.image()
+        self.holds();
+        self.core.holds();
+        self.core.image()
     }
 
     /// A call slot, by its number from 1 on.
     pub fn slot(&self, number: u8) -> Option<Slot>
         ensures { result ≡ slot_at self.now.world.group.calls.slots number }
     {
-        self.group.core.calls().slot(number)
+        self.core.calls().slot(number)
     }
 
     /// The call slots, slot 1 first.
     pub fn slots(&self) -> Bounded<Slot, SLOT_PLACES>
         ensures { result ≡ self.now.world.group.calls.slots }
     {
-        self.group.core.slots()
+        self.core.slots()
     }
 
     /// The last ticket that was given, 0 before the first.
     pub fn last_ticket(&self) -> u64
         ensures { result ≡ self.now.world.group.calls.last_ticket }
     {
-        self.group.core.calls().last_ticket()
+        self.core.calls().last_ticket()
     }
 
     /// The calls on the desk.
     pub fn desk(&self) -> &Hand
         ensures { result.now ≡ self.now.world.desk }
     {
-        &self.group.desk
+        &self.desk
     }
 
     /// The calls in the hand.
     pub fn hand(&self) -> &Hand
         ensures { result.now ≡ self.now.world.hand }
     {
-        self.group.hand.calls()
+        self.hand.calls()
     }
 
     /// The program.
     pub fn verified(&self) -> &Verified
         ensures { result.now ≡ self.now.program }
     {
-        &self.group.verified
+        &self.verified
     }
 
     /// How many cars, floors and slots the group has.
     pub fn sizes(&self) -> Sizes
         ensures { result ≡ sizes_of self.now.program.config }
     {
-        self.group.verified.sizes()
+        self.verified.sizes()
     }
 
     /// Where the open scan of a task stands, if it has one.
@@ -260,14 +443,17 @@ impl World {
             ≡ model.scan_at self.now.world task }
         ensures of { IfSome result (λ s. IsOf self.now.program.config task s.now) }
     {
-        self.group.scan(task)
+        if !self.core.is_open(task) {
+            return None;
+        }
+        self.stores[usize::from(task)].as_ref()
     }
 
     /// The value of a global, by its path, as the last commit left it.
     pub fn global(&self, path: &str) -> Option<Value>
         ensures { result ≡ values.get self.now.world.group.globals path.now }
     {
-        self.group.global(path)
+        self.core.global(&self.verified, path)
     }
 
     /// The value of a variable of a task, as its last commit left it.
@@ -276,6 +462,6 @@ impl World {
             ≡ option_and_then (λ t. values.get t.variables path.now)
             (model.task_at self.now.world.group task) }
     {
-        self.group.variable(task, path)
+        self.core.variable(&self.verified, task, path)
     }
 }

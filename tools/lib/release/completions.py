@@ -48,6 +48,7 @@ COMMANDS = (
             Option("--warn", "", "Also tells, on standard error, what an accepted FILE declares or stores in vain"),
             Option("--limits", "", "Also shows how much of each limit FILE uses"),
             Option("--paths", "", "Shows lines of a path that follow one another as a range, as 144-247; not with --json"),
+            Option("--all", "", "Also tells the first fault of each other unit of a refused FILE"),
             JSON,
         ),
     ),

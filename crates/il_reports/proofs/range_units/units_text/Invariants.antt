@@ -4,4 +4,4 @@ use Rattle.il_reports.proofs.range_units.units_text.Given as goal
 
 -- the units so far
 abbrev pub invariant-units : goal.invariant-units
-invariant-units l = AreUnitsShown (option_map (λ s. s.now) l.source) l.names (take l.at l.names.units) (string_bytes l.lines)
+invariant-units l = AreUnitsShown l.form (option_map (λ s. s.now) l.source) l.names (take l.at l.names.units) (string_bytes l.lines)

@@ -2,8 +2,8 @@ use Rattle.std.proofs.Common.{subst, sym}
 use Rattle.il_rules.specs.Faults.{HasNoFault, BreaksDeclarations, Broken, Typing}
 use Rattle.lift_command.proofs.liftplc.known.Goals as goal
 
-pub ranges_text-requires-clause-declared : goal.ranges_text-requires-clause-declared
-ranges_text-requires-clause-declared c = subst (λ d. HasNoFault (BreaksDeclarations d)) (sym c.names.ensures) c.in-Ok.ensures.found.1.declared
+pub ranges_in-requires-clause-declared : goal.ranges_in-requires-clause-declared
+ranges_in-requires-clause-declared c = subst (λ d. HasNoFault (BreaksDeclarations d)) (sym c.names-names.ensures) c.in-Ok.ensures.found.1.declared
 
-pub ranges_text-requires-clause-typed : goal.ranges_text-requires-clause-typed
-ranges_text-requires-clause-typed c = subst (λ d. HasNoFault (Broken Typing d)) (sym c.names.ensures) c.in-Ok.ensures.found.1.typed
+pub ranges_in-requires-clause-typed : goal.ranges_in-requires-clause-typed
+ranges_in-requires-clause-typed c = subst (λ d. HasNoFault (Broken Typing d)) (sym c.names-names.ensures) c.in-Ok.ensures.found.1.typed

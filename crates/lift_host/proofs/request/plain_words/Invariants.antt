@@ -5,4 +5,4 @@ use Rattle.lift_host.proofs.request.plain_words.Given as goal
 
 -- the words so far, and those in place of the words that are left
 abbrev pub invariant-words : goal.invariant-words
-invariant-words l = map string_bytes l.plain.items ++ flat_map (plain_word (option_map (λ flag. flag.now) l.own) (option_map (λ flag. flag.now) l.second) (option_map (λ flag. flag.now) l.json)) (map string_bytes (drop l.word-index l.words)) ≡ flat_map (plain_word (option_map (λ flag. flag.now) l.own) (option_map (λ flag. flag.now) l.second) (option_map (λ flag. flag.now) l.json)) (map string_bytes l.words)
+invariant-words l = map string_bytes l.plain.items ++ flat_map (plain_word (option_map (λ flag. flag.now) l.own) (option_map (λ flag. flag.now) l.second) (option_map (λ flag. flag.now) l.third) (option_map (λ flag. flag.now) l.json)) (map string_bytes (drop l.word-index l.words)) ≡ flat_map (plain_word (option_map (λ flag. flag.now) l.own) (option_map (λ flag. flag.now) l.second) (option_map (λ flag. flag.now) l.third) (option_map (λ flag. flag.now) l.json)) (map string_bytes l.words)

@@ -2,7 +2,7 @@ use Rattle.il_spec.specs.declared.tree.Config.{Config}
 use Rattle.lift_load.specs.Loading.{IsExplained}
 use Rattle.lift_load.proofs.Explaining.{handed_as, handed_report, handed_grammar, no_fault_of_spelled}
 use Rattle.lift_load.proofs.Accepting.{handed_on}
-use Rattle.lift_load.proofs.Phases.{found_by, runs_by, refused_by, named_by, explained_by}
+use Rattle.lift_load.proofs.Phases.{found_by, runs_by, works_by, refused_by, named_by, explained_by}
 use Rattle.lift_load.proofs.OneFault.{one_by}
 use Rattle.lift_load.proofs.loader.load.Goals as goal
 
@@ -33,6 +33,9 @@ returns-clause-found c = found_by c.args.text.now c.in_ok-config.config c.in_ok-
 
 pub returns-clause-runs : goal.returns-clause-runs
 returns-clause-runs c = runs_by c.in_ok-config.config c.verified.result c.in_ok-config.ensures.written c.in_ok-config.ensures.nested c.verified.ensures.same c.verified.ensures.unbroken c.verified.ensures.annotated
+
+pub returns-clause-works : goal.returns-clause-works
+returns-clause-works c = works_by c.in_ok-config.config c.verified.result c.in_ok-config.ensures.written c.in_ok-config.ensures.nested c.verified.ensures.same c.verified.ensures.unbroken c.verified.ensures.annotated
 
 pub returns-clause-refused : goal.returns-clause-refused
 returns-clause-refused c = refused_by c.args.text.now c.in_ok-config.config c.in_ok-config.ensures.only c.verified.result c.verified.ensures.refused

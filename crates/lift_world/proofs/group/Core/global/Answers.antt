@@ -1,14 +1,13 @@
 use Rattle.std.proofs.Common.{ap, sym, ◌∙◌, subst}
 use Rattle.il_spec.specs.declared.tree.Config.{Config}
 use Rattle.il_table.specs.NameMap.{get}
-use Rattle.il_machine.specs.Sharing.{globals_in}
-use Rattle.lift_world.specs.Running.{SharedFits}
+use Rattle.il_machine.specs.Sharing.{globals_in, FitsGlobals}
 use Rattle.lift_world.specs.Groups.{GroupOf}
 use Rattle.lift_world.proofs.Grouped.{config_here}
 use Rattle.lift_world.proofs.group.Core.global.Goals as goal
 
 pub global-requires : goal.global-requires
-global-requires c = subst (λ (k : Config). SharedFits k c.self.inside.shared) (config_here c.self.inside.program.value.config c.self.inside.shared c.args.self.now c.self.view_is _ c.requires) c.self.invariant.fits
+global-requires c = record { fits = subst (λ (k : Config). FitsGlobals k c.self.inside.shared.globals) (config_here c.self.inside.program.value.config c.self.inside.shared c.args.self.now c.self.view_is _ c.requires) c.self.invariant.fits.globals }
 
 pub returns : goal.returns
 returns c =

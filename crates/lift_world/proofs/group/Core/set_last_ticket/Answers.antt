@@ -1,4 +1,4 @@
-use Rattle.std.proofs.Common.{◌≤◌, ap, sym, ◌∙◌, subst}
+use Rattle.std.proofs.Common.{◌≤◌, refl, ap, sym, ◌∙◌, subst}
 use Rattle.lift_spec.specs.Image.{sizes_of}
 use Rattle.lift_world.specs.Groups.{GroupOf}
 use Rattle.lift_world.specs.Setting.{with_last}
@@ -10,11 +10,11 @@ invariant_of-self c =
     let config = c.self.inside.program.value.config in
     let calls = c.self.inside.shared.calls in
     let holds = c.self.invariant in
-    let e = c.set_last_ticket.ensures in
-    calls_hold config c.self.inside.shared c.set_last_ticket.new.self holds e.memories calls.slots c.args.last e.slots e.last e.image e.globals holds.ranges.slots
+    let e = c.give.ensures in
+    calls_hold config c.self.inside.shared _ holds refl calls.slots c.args.last e.slots e.ticket refl refl holds.ranges.slots
     (each_later (sizes_of config) calls.last_ticket c.args.last calls.slots (subst (λ (k : GroupOf). k.group.calls.last_ticket ≤ c.args.last) (sym c.self.view_is) c.requires.later) holds.ranges.each_slot) c.requires.greatest holds.tickets.distinct
 
 pub returns-clause-group : goal.returns-clause-group
 returns-clause-group c =
-    let e = c.set_last_ticket.ensures in
-    calls_group c.self.inside.program.value.config c.self.inside.shared c.set_last_ticket.new.self c.self.invariant e.memories c.self.inside.shared.calls.slots c.args.last e.slots e.last e.image e.globals ∙ ap (λ (k : GroupOf). with_last k.group c.args.last) c.self.view_is
+    let e = c.give.ensures in
+    calls_group c.self.inside.program.value.config c.self.inside.shared (record c.self.inside.shared { calls = c.give.new.self }) c.self.invariant refl c.self.inside.shared.calls.slots c.args.last e.slots e.ticket refl refl ∙ ap (λ (k : GroupOf). with_last k.group c.args.last) c.self.view_is

@@ -1,21 +1,22 @@
-use Rattle.std.proofs.Common.{ap, sym, ◌∙◌, subst}
+use Rattle.std.proofs.Common.{ap, sym, ◌∙◌}
 use Rattle.std.specs.Prelude.{option_and_then}
-use Rattle.il_spec.specs.declared.tree.Config.{Config}
 use Rattle.il_table.specs.NameMap.{get}
-use Rattle.lift_spec.specs.World.{TaskState, task_at}
-use Rattle.lift_world.specs.Running.{memory_at, group_in, SharedFits}
-use Rattle.lift_world.specs.Groups.{GroupOf}
-use Rattle.lift_world.proofs.Views.{variable_of}
-use Rattle.lift_world.proofs.Grouped.{task_is, config_here}
+use Rattle.lift_spec.specs.World.{TaskState}
+use Rattle.lift_world.proofs.Grouped.{copied_is, copied_none}
+use Rattle.lift_world.proofs.Here.{none_so, holds_here, task_here}
 use Rattle.lift_world.proofs.group.Core.variable.Goals as goal
 
 pub variable-requires : goal.variable-requires
-variable-requires c = subst (λ (k : Config). SharedFits k c.self.inside.shared) (config_here c.self.inside.program.value.config c.self.inside.shared c.args.self.now c.self.view_is _ c.requires) c.self.invariant.fits
+variable-requires c = record {
+  fits =
+      (let at = copied_is c.memory.result _ c.in-Some.memory c.memory.ensures c.in-Some.is in
+      ((holds_here c.self.inside.program.value.config c.self.inside.shared c.self.invariant c.args.self.now c.self.view_is c.args.verified.now.config c.requires).fits.memories c.args.task c.in-Some.memory.now at).0);
+}
 
-pub returns : goal.returns
-returns c =
-    let config = c.args.verified.now.config in
-    c.variable.ensures ∙ variable_of config c.args.task c.args.path.now (memory_at c.self.inside.shared c.args.task)
-    ∙ ap (λ o. option_and_then (λ (t : TaskState). get t.variables c.args.path.now) o) (sym (task_is config c.self.inside.shared c.args.task))
-    ∙ ap (λ k. option_and_then (λ (t : TaskState). get t.variables c.args.path.now) (task_at (group_in k c.self.inside.shared) c.args.task)) (sym (config_here c.self.inside.program.value.config c.self.inside.shared c.args.self.now c.self.view_is _ c.requires))
-    ∙ ap (λ (k : GroupOf). option_and_then (λ (t : TaskState). get t.variables c.args.path.now) (task_at k.group c.args.task)) c.self.view_is
+pub returns-in-Some : goal.returns-in-Some
+returns-in-Some c =
+    let at = copied_is c.memory.result _ c.in-Some.memory c.memory.ensures c.in-Some.is in
+    c.variable.ensures ∙ ap (option_and_then (λ (t : TaskState). get t.variables c.args.path.now)) (sym (task_here c.self.inside.program.value.config c.self.inside.shared c.self.invariant c.args.self.now c.self.view_is c.args.verified.now.config c.requires c.args.task c.in-Some.memory.now at))
+
+pub returns-in-None : goal.returns-in-None
+returns-in-None c = ap (option_and_then (λ (t : TaskState). get t.variables c.args.path.now)) (sym (none_so c.self.inside.program.value.config c.self.inside.shared c.self.invariant c.args.self.now c.self.view_is c.args.task (copied_none c.memory.result _ c.memory.ensures c.in-None.is)))

@@ -1,25 +1,86 @@
-use Rattle.std.proofs.Common.{subst}
-use Rattle.il_machine.specs.Scanning.{IsRunnable}
-use Rattle.lift_run_laws.specs.Runs.{IsReached}
+use Rattle.std.proofs.Common.{rules, ap, refl, true, false}
+use Rattle.std.specs.Prelude.{is_some}
 use Rattle.lift_world.specs.Running.{instructions}
-use Rattle.lift_spec.specs.World.{ChangesScanOnly}
-use Rattle.lift_world.specs.Worlds.{WorldOf, world_in, PrintsEachBudget}
-use Rattle.lift_world.proofs.Alone.{finish_alone}
-use Rattle.lift_world.proofs.Sound.{call_goes_well, prints_each}
+use Rattle.lift_world.specs.Kept.{world_in}
+use Rattle.lift_world.specs.Groups.{world_by}
+use Rattle.std.specs.Prelude.{slice_set}
+use Rattle.lift_world.proofs.Alone.{stays_alone, finish_alone}
+use Rattle.lift_world.proofs.Happening.{none_there, found, tickets_so, store_within, lent_is, lent_of, instruction_none, instruction_without, finish_model, finish_refused, finish_world}
 use Rattle.lift_world.proofs.world.World.finish.Goals as goal
 
-pub returns-clause-well : goal.returns-clause-well
-returns-clause-well c =
-    λ n. call_goes_well c.args.self.now.program.config (subst (λ (w : WorldOf). IsRunnable w.program.config) c.self.view_is c.self.invariant.runnable) c.args.self.now.world (instructions c.args.task n)
+pub returns-then-not-has_task-clause-refused : goal.returns-then-not-has_task-clause-refused
+returns-then-not-has_task-clause-refused c = (refl, rw (← c.self.view_is) (instruction_none c.self.inside c.self.invariant c.args.task (none_there _ _ c.has_task.ensures c.if-not-has_task.true)))
 
-pub returns-clause-reached : goal.returns-clause-reached
-returns-clause-reached c = subst (λ (w : WorldOf). IsReached w.program.config w.world) c.self.view_is c.self.invariant.reached
+pub returns-then-not-has_task-clause-scan_only : goal.returns-then-not-has_task-clause-scan_only
+returns-then-not-has_task-clause-scan_only c = stays_alone _ _
 
-pub returns-clause-printed : goal.returns-clause-printed
-returns-clause-printed c = subst (λ (w : WorldOf). PrintsEachBudget w.program) c.self.view_is (prints_each c.self.inside.group.verified c.self.invariant.runnable c.self.invariant.costs)
+pub returns-then-not-is_open-clause-refused : goal.returns-then-not-is_open-clause-refused
+returns-then-not-is_open-clause-refused c =
+    let w = c.self.inside in
+    let x = found w c.self.invariant c.args.task _ c.has_task.ensures c.if-not-has_task.false in
+    (refl, rw (← c.self.view_is) (instruction_without w c.self.invariant c.args.task x (tickets_so w c.self.invariant c.args.task x _ false c.is_open.ensures c.if-not-is_open.true)))
+
+pub returns-then-not-is_open-clause-scan_only : goal.returns-then-not-is_open-clause-scan_only
+returns-then-not-is_open-clause-scan_only c = stays_alone _ _
+
+pub index_mut-requires : goal.index_mut-requires
+index_mut-requires c =
+    let x = found c.self.inside c.self.invariant c.args.task _ c.has_task.ensures c.if-not-has_task.false in
+    let below = store_within c.self.inside c.self.invariant c.args.task x in
+    search (rules, below, c.from.ensures)
+
+pub run_out-requires-clause-kept : goal.run_out-requires-clause-kept
+run_out-requires-clause-kept c =
+    let x = found c.self.inside c.self.invariant c.args.task _ c.has_task.ensures c.if-not-has_task.false in
+    ap is_some (lent_is c.self.inside c.self.invariant c.args.task x _ _ c.from.ensures c.index_mut.ensures.value)
+
+pub run_out-requires-clause-of : goal.run_out-requires-clause-of
+run_out-requires-clause-of c =
+    let x = found c.self.inside c.self.invariant c.args.task _ c.has_task.ensures c.if-not-has_task.false in
+    lent_of c.self.inside c.self.invariant c.args.task x _ (lent_is c.self.inside c.self.invariant c.args.task x _ _ c.from.ensures c.index_mut.ensures.value)
+
+pub invariant_of-self : goal.invariant_of-self
+invariant_of-self c =
+    let w = c.self.inside in
+    let is = c.self.invariant in
+    let x = found w is c.args.task _ c.has_task.ensures c.if-not-has_task.false in
+    finish_world w is c.args.task x c.run_out.result c.index_mut.result.now c.run_out.new.store _ c.from.result c.from.ensures (tickets_so w is c.args.task x _ true c.is_open.ensures c.if-not-is_open.false) (lent_is w is c.args.task x _ _ c.from.ensures c.index_mut.ensures.value) c.run_out.ensures.steps
+    c.run_out.ensures.ended refl refl refl refl refl
+
+pub returns-clause-model : goal.returns-clause-model
+returns-clause-model c =
+    let w = c.self.inside in
+    let is = c.self.invariant in
+    let x = found w is c.args.task _ c.has_task.ensures c.if-not-has_task.false in
+    rw (← c.self.view_is)
+    (finish_model w is c.args.task x c.run_out.result c.run_out.new.store c.from.result c.from.ensures (tickets_so w is c.args.task x _ true c.is_open.ensures c.if-not-is_open.false) (lent_is w is c.args.task x _ _ c.from.ensures c.index_mut.ensures.value) c.run_out.ensures.steps)
+
+pub returns-clause-refused : goal.returns-clause-refused
+returns-clause-refused c =
+    let w = c.self.inside in
+    let is = c.self.invariant in
+    let x = found w is c.args.task _ c.has_task.ensures c.if-not-has_task.false in
+    rw (← c.self.view_is)
+    (finish_refused w is c.args.task x c.run_out.result c.index_mut.result.now c.run_out.new.store c.from.result c.from.ensures (tickets_so w is c.args.task x _ true c.is_open.ensures c.if-not-is_open.false) (lent_is w is c.args.task x _ _ c.from.ensures c.index_mut.ensures.value)
+    c.run_out.ensures.ended)
 
 pub returns-clause-scan_only : goal.returns-clause-scan_only
 returns-clause-scan_only c =
-    let group = c.self.inside.group in
-    subst (λ (w : WorldOf). ChangesScanOnly c.args.task w.world (world_in c.finish.new.self)) c.self.view_is
-    (finish_alone group.verified.config c.args.task (world_in group) (world_in c.finish.new.self) c.finish.result c.finish.ensures.model c.finish.ensures.refused)
+    let w = c.self.inside in
+    let is = c.self.invariant in
+    let x = found w is c.args.task _ c.has_task.ensures c.if-not-has_task.false in
+    let so = tickets_so w is c.args.task x _ true c.is_open.ensures c.if-not-is_open.false in
+    let lent = lent_is w is c.args.task x _ _ c.from.ensures c.index_mut.ensures.value in
+    rw (← c.self.view_is)
+    (finish_alone w.verified.config c.args.task (world_in w) (world_by w.core.group (slice_set w.stores.items c.from.result c.run_out.new.store) w.desk w.hand) c.run_out.result
+    (finish_model w is c.args.task x c.run_out.result c.run_out.new.store c.from.result c.from.ensures so lent c.run_out.ensures.steps)
+    (finish_refused w is c.args.task x c.run_out.result c.index_mut.result.now c.run_out.new.store c.from.result c.from.ensures so lent c.run_out.ensures.ended))
+
+pub returns-then-not-has_task-clause-well : goal.returns-then-not-has_task-clause-well
+returns-then-not-has_task-clause-well c = λ n. c.holds.ensures.well (instructions c.args.task n)
+
+pub returns-then-not-is_open-clause-well : goal.returns-then-not-is_open-clause-well
+returns-then-not-is_open-clause-well c = λ n. c.holds.ensures.well (instructions c.args.task n)
+
+pub returns-clause-well : goal.returns-clause-well
+returns-clause-well c = λ n. c.holds.ensures.well (instructions c.args.task n)

@@ -1,24 +1,34 @@
-use Rattle.std.proofs.Common.{◌≡◌, ℕ, Some, subst}
-use Rattle.il_spec.specs.declared.tree.Unit.{Unit as Organized}
-use Rattle.il_machine.specs.Listing.{TaskLine, task_line}
-use Rattle.il_machine.specs.Scanning.{IsRunnable}
-use Rattle.lift_spec.specs.Snapshot.{program_of}
-use Rattle.lift_run_laws.specs.Tasks.{budget_of}
-use Rattle.lift_run_laws.specs.Runs.{IsReached}
-use Rattle.lift_world.specs.Worlds.{WorldOf, PrintsEachBudget}
-use Rattle.lift_world.proofs.Sound.{call_goes_well, printed_is, prints_each}
+use Rattle.std.proofs.Common.{ap, ◌∙◌, arith}
+use Rattle.il_machine.specs.Scanning.{Program}
+use Rattle.lift_world.proofs.Runs.{one_more, one_longer, room_left, reports_left}
 use Rattle.lift_world.proofs.world.World.run.Goals as goal
 
+pub push-requires-clause-report_room : goal.push-requires-clause-report_room
+push-requires-clause-report_room c =
+    let left = reports_left _ _ _ c.events-test.true c.event-item.is in
+    let room = c.events.invariant.reports in
+    let few = c.apply-reply.ensures.reports in
+    omega (arith, left, room, few)
+
+pub events-preserved : goal.events-preserved
+events-preserved c =
+    let left = reports_left _ _ _ c.events-test.true c.event-item.is in
+    let room = c.events.invariant.reports in
+    let few = c.apply-reply.ensures.reports in
+    let now = c.push.ensures.reports in
+    let grows = c.push.ensures.report_room in
+    record {
+      same = c.apply-reply.ensures.same ∙ c.events.invariant.same;
+      room = room_left _ _ _ _ _ _ _ c.events-test.true c.push.ensures.items c.events.invariant.room c.push.ensures.room;
+      reports = omega (arith, left, room, few, now, grows);
+      count = one_longer _ _ _ _ _ c.push.ensures.items c.events.invariant.count;
+      grown = omega (arith, c.events.invariant.grown, c.push.ensures.room);
+      few = (let sofar = c.events.invariant.few in omega (arith, left, sofar, few, now));
+      reports_grown = omega (arith, c.events.invariant.reports_grown, grows);
+      rest =
+          c.events.invariant.rest
+          ∙ one_more _ _ _ _ _ _ _ _ _ _ (ap (λ (p : Program). p.config) c.events.invariant.same) c.events-test.true c.event-item.is c.apply-reply.ensures.model c.push.ensures.items;
+    }
+
 pub returns-clause-well : goal.returns-clause-well
-returns-clause-well c = call_goes_well c.args.self.now.program.config (subst (λ (w : WorldOf). IsRunnable w.program.config) c.self.view_is c.self.invariant.runnable) c.args.self.now.world c.args.events.now
-
-pub returns-clause-reached : goal.returns-clause-reached
-returns-clause-reached c = subst (λ (w : WorldOf). IsReached w.program.config w.world) c.self.view_is c.self.invariant.reached
-
-pub returns-clause-printed : goal.returns-clause-printed
-returns-clause-printed c =
-    subst (λ (w : WorldOf). (task : ℕ) (line : TaskLine) (u : Organized) → task_line w.program task ≡ Some line → program_of w.program.config task ≡ Some u → line.budget ≡ budget_of w.program.config task) c.self.view_is
-    (printed_is c.self.inside.group.verified c.self.invariant.runnable c.self.invariant.costs)
-
-pub returns-clause-each : goal.returns-clause-each
-returns-clause-each c = subst (λ (w : WorldOf). PrintsEachBudget w.program) c.self.view_is (prints_each c.self.inside.group.verified c.self.invariant.runnable c.self.invariant.costs)
+returns-clause-well c = c.holds.ensures.well c.args.events.now

@@ -1,27 +1,59 @@
-use Rattle.std.proofs.Common.{sym, ap, ◌∙◌, subst}
-use Rattle.il_machine.specs.Scanning.{IsRunnable, HasTask}
+use Rattle.std.proofs.Common.{rules, ◌≡◌, ◌∙◌, sym, ap, refl, true, false, subst}
+use Rattle.std.specs.Prelude.{is_some}
+use Rattle.il_machine.specs.Scanning.{HasTask}
 use Rattle.lift_spec.specs.World.{scan_at}
-use Rattle.lift_run_laws.specs.Runs.{IsReached}
 use Rattle.lift_world.specs.Running.{scan_events}
-use Rattle.lift_world.specs.Worlds.{WorldOf, world_in, PrintsEachBudget, IsWholeScan}
-use Rattle.lift_world.proofs.Sound.{call_goes_well, prints_each}
+use Rattle.lift_world.specs.Worlds.{WorldOf}
+use Rattle.lift_world.proofs.Happening.{store_within, lent_is, lent_of}
+use Rattle.lift_world.proofs.Whole.{the_task, kept_variables, scans, leaves}
 use Rattle.lift_world.proofs.world.World.scan_whole.Goals as goal
 
-pub scan_whole-requires-clause-there : goal.scan_whole-requires-clause-there
-scan_whole-requires-clause-there c = subst (λ (w : WorldOf). HasTask w.program.config c.args.task) (sym c.self.view_is) c.requires.there
+pub index_mut-requires : goal.index_mut-requires
+index_mut-requires c =
+    let x = the_task c.self.inside c.self.invariant c.args.task (subst (λ (w : WorldOf). HasTask w.program.config c.args.task) (sym c.self.view_is) c.requires.there) in
+    let below = store_within c.self.inside c.self.invariant c.args.task x in
+    search (rules, below, c.from.ensures)
 
-pub scan_whole-requires-clause-closed : goal.scan_whole-requires-clause-closed
-scan_whole-requires-clause-closed c = ap (λ (w : WorldOf). scan_at w.world c.args.task) c.self.view_is ∙ c.requires.closed
+pub unreachable-requires : goal.unreachable-requires
+unreachable-requires c =
+    let x = the_task c.self.inside c.self.invariant c.args.task (subst (λ (w : WorldOf). HasTask w.program.config c.args.task) (sym c.self.view_is) c.requires.there) in
+    let some = ap is_some (lent_is c.self.inside c.self.invariant c.args.task x _ _ c.from.ensures c.index_mut.ensures.value) in
+    let bad : false ≡ true = ap is_some (sym c.in_default.is) ∙ some in
+    cc
+
+pub scan_whole-requires-clause-program : goal.scan_whole-requires-clause-program
+scan_whole-requires-clause-program c = c.self.invariant.same
+
+pub scan_whole-requires-clause-there : goal.scan_whole-requires-clause-there
+scan_whole-requires-clause-there c = ap is_some (the_task c.self.inside c.self.invariant c.args.task (subst (λ (w : WorldOf). HasTask w.program.config c.args.task) (sym c.self.view_is) c.requires.there)).there
+
+pub scan_whole-requires-clause-of : goal.scan_whole-requires-clause-of
+scan_whole-requires-clause-of c =
+    let w = c.self.inside in
+    let is = c.self.invariant in
+    let x = the_task w is c.args.task (subst (λ (v : WorldOf). HasTask v.program.config c.args.task) (sym c.self.view_is) c.requires.there) in
+    lent_of w is c.args.task x _ (lent_is w is c.args.task x _ _ c.from.ensures c.index_mut.ensures.value) c.in-Some.scan c.in-Some.is
+
+pub scan_whole-requires-clause-kept : goal.scan_whole-requires-clause-kept
+scan_whole-requires-clause-kept c = λ y there.
+    let w = c.self.inside in
+    let has = subst (λ (v : WorldOf). HasTask v.program.config c.args.task) (sym c.self.view_is) c.requires.there in
+    let closed = ap (λ (v : WorldOf). scan_at v.world c.args.task) c.self.view_is ∙ c.requires.closed in
+    kept_variables w c.self.invariant c.args.task has closed _ _ c.from.ensures c.index_mut.ensures.value y c.in-Some.scan there c.in-Some.is
+
+pub invariant_of-self : goal.invariant_of-self
+invariant_of-self c =
+    let w = c.self.inside in
+    let has = subst (λ (v : WorldOf). HasTask v.program.config c.args.task) (sym c.self.view_is) c.requires.there in
+    let closed = ap (λ (v : WorldOf). scan_at v.world c.args.task) c.self.view_is ∙ c.requires.closed in
+    leaves w c.self.invariant c.args.task has closed c.from.result c.from.ensures c.scan_whole.new.store c.scan_whole.new.self.group c.scan_whole.new.report c.scan_whole.ensures.scan _ refl c.scan_whole.ensures.config refl refl refl refl
 
 pub returns-clause-scan : goal.returns-clause-scan
-returns-clause-scan c = subst (λ (w : WorldOf). IsWholeScan w.program.config c.args.task w.world (world_in c.scan_whole.new.self) c.scan_whole.new.report) c.self.view_is c.scan_whole.ensures.scan
+returns-clause-scan c =
+    let w = c.self.inside in
+    let has = subst (λ (v : WorldOf). HasTask v.program.config c.args.task) (sym c.self.view_is) c.requires.there in
+    let closed = ap (λ (v : WorldOf). scan_at v.world c.args.task) c.self.view_is ∙ c.requires.closed in
+    rw (← c.self.view_is) (scans w c.self.invariant c.args.task has closed c.from.result c.from.ensures c.scan_whole.new.store c.scan_whole.new.self.group c.scan_whole.new.report c.scan_whole.ensures.scan)
 
 pub returns-clause-well : goal.returns-clause-well
-returns-clause-well c =
-    λ n. call_goes_well c.args.self.now.program.config (subst (λ (w : WorldOf). IsRunnable w.program.config) c.self.view_is c.self.invariant.runnable) c.args.self.now.world (scan_events c.args.task n)
-
-pub returns-clause-reached : goal.returns-clause-reached
-returns-clause-reached c = subst (λ (w : WorldOf). IsReached w.program.config w.world) c.self.view_is c.self.invariant.reached
-
-pub returns-clause-printed : goal.returns-clause-printed
-returns-clause-printed c = subst (λ (w : WorldOf). PrintsEachBudget w.program) c.self.view_is (prints_each c.self.inside.group.verified c.self.invariant.runnable c.self.invariant.costs)
+returns-clause-well c = λ n. c.holds.ensures.well (scan_events c.args.task n)

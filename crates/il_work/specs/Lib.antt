@@ -1,0 +1,4 @@
+pub mod Sizes
+pub mod Weights
+pub mod Table
+pub mod Rounds
