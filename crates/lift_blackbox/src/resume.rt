@@ -11,8 +11,8 @@ use il_machine::Verified;
 use lift_host::status::{Fault, LineFault};
 use lift_runs::replay::Refused;
 use lift_serve::going::go_on;
-use lift_spec::trace::TraceEvent;
 use lift_state::begin::{Beginning, begin};
+use lift_trace::trace::Trace;
 use lift_world::World;
 use std::alloc::Global;
 
@@ -35,7 +35,7 @@ fn fault_of_event(refused: Refused, lines: u32) -> Fault
 }
 
 // In which line a trace is cut off whose state may not be whole: no line stands behind it.
-fn unfinished(lines: u32, events: &[TraceEvent], cut: Option<u32>) -> Option<u32>
+fn unfinished(lines: u32, events: &Trace<'_>, cut: Option<u32>) -> Option<u32>
     ensures { result ≡ unfinished lines events.now cut }
 {
     if lines > 1 && events.is_empty() {
@@ -56,17 +56,17 @@ fn truncated(line: u32) -> Fault
 }
 
 // Where a trace ends that was read.
-fn gone_on(beginning: Beginning) -> Result<Origin, Fault>
+fn gone_on(beginning: Beginning<'_>) -> Result<Origin, Fault>
     requires closed { IsClosed beginning.world.world }
-    requires few { beginning.lines + length beginning.events.items ≤ greatest_trace }
+    requires few { beginning.lines + length beginning.events ≤ greatest_trace }
     ensures goes_on { IfOk result (λ o. GoesOn beginning.world.program.config
-        beginning.world.world beginning.events.items o.world.world o.dropped) }
+        beginning.world.world beginning.events o.world.world o.dropped) }
     ensures same { IfOk result (λ o. o.world.program ≡ beginning.world.program) }
     ensures closed { IfOk result (λ o. IsClosed o.world.world) }
-    ensures whole { IfOk result (λ _. unfinished beginning.lines beginning.events.items
+    ensures whole { IfOk result (λ _. unfinished beginning.lines beginning.events
         beginning.cut ≡ None) }
     ensures broken { IfErr result (LeadsNowhere beginning.world.program.config
-        beginning.world.world beginning.events.items beginning.lines beginning.cut) }
+        beginning.world.world beginning.events beginning.lines beginning.cut) }
 {
     let Beginning {
         mut world,

@@ -14,7 +14,7 @@ use crate::span::{Span, Window};
 use crate::stop::Stop;
 use crate::story::Story;
 use crate::svg::put_seconds;
-use lift_spec::trace::TraceEvent;
+use lift_trace::trace::Trace;
 use lift_world::World;
 use std::alloc::{AllocError, Global};
 
@@ -140,7 +140,7 @@ fn picture(alloc: Global, story: &Story, span: Span) -> Result<String, AllocErro
 pub fn drawing(
     alloc: Global,
     world: &mut World,
-    events: &[TraceEvent],
+    events: &Trace<'_>,
     span: Span,
 ) -> Result<String, Stop>
     ensures taken { OnOk result (TakesAll world.old.program.config world.old.world events.now

@@ -9,6 +9,7 @@ use crate::story::Story;
 use lift_runs::replay::{Refused, take};
 use lift_spec::report::Report;
 use lift_spec::trace::TraceEvent;
+use lift_trace::trace::Trace;
 use lift_world::World;
 use std::alloc::AllocError;
 
@@ -30,18 +31,21 @@ fn note(
 }
 
 /// The events of a trace, one behind the other, up to the first that is refused, and what happens along them.
-pub fn follow(world: &mut World, events: &[TraceEvent], story: &mut Story) -> Result<(), Stop>
+pub fn follow(world: &mut World, events: &Trace<'_>, story: &mut Story) -> Result<(), Stop>
     ensures taken { OnOk result (TakesAll world.old.program.config world.old.world events.now
         world.new.world) }
     ensures stopped { IfErr result (IsStopped world.old.program.config world.old.world events.now) }
     ensures same { world.new.program ≡ world.old.program }
 {
     let mut report = Report::new();
-    'events: for (index, event) in events.iter().enumerate() {
-        if let Err(fault) = take(world, event, &mut report) {
+    let mut left = events.events();
+    let mut index = 0;
+    'events: while let Some(event) = left.next() {
+        if let Err(fault) = take(world, &event, &mut report) {
             return Err(Stop::Refused(Refused { index, fault }));
         }
-        note(world, event, &report, story)?;
+        note(world, &event, &report, story)?;
+        index += 1;
     }
     Ok(())
 }

@@ -566,9 +566,9 @@ pub fn ran<R: Threads + Wait + Sync>(
 }
 
 // A whole trace: the world from which its events lead, and how many lines stand before the first of them.
-pub(crate) struct Whole {
+pub(crate) struct Whole<'t> {
     pub world: World,
-    pub events: Vec<TraceEvent>,
+    pub events: Trace<'t>,
     pub lines: u32,
 }
 
@@ -580,9 +580,9 @@ pub(crate) fn whole_of(
     text: &[u8],
 ) -> Result<Whole, Fault>
     ensures begins { IfOk result (λ whole. BeginsTrace verified.config source.now text.now
-        whole.world.world whole.events.items whole.lines None) }
+        whole.world.world whole.events whole.lines None) }
     ensures same { IfOk result (λ whole. whole.world.program ≡ verified) }
-    ensures few { IfOk result (λ whole. whole.lines + length whole.events.items
+    ensures few { IfOk result (λ whole. whole.lines + length whole.events
         ≤ greatest_trace) }
     ensures err { IfErr result (IsTraceUnread verified source.now text.now) }
 {
@@ -610,7 +610,7 @@ fn told_of(
     alloc: Global,
     world: &mut World,
     telling: Telling<'_>,
-    events: &[TraceEvent],
+    events: &Trace<'_>,
     lines: u32,
 ) -> Result<Output, Fault>
     requires few { lines + length events.now ≤ greatest_trace }
@@ -633,7 +633,7 @@ fn told_of(
 fn image_after(
     alloc: Global,
     world: &mut World,
-    events: &[TraceEvent],
+    events: &Trace<'_>,
     lines: u32,
 ) -> Result<Output, Fault>
     requires few { lines + length events.now ≤ greatest_trace }
@@ -651,7 +651,7 @@ fn image_after(
 fn picture_of(
     alloc: Global,
     world: &mut World,
-    events: &[TraceEvent],
+    events: &Trace<'_>,
     lines: u32,
     span: Option<&str>,
 ) -> Result<Output, Fault>
@@ -672,7 +672,7 @@ fn picture_of(
 fn denials_along(
     alloc: Global,
     world: &mut World,
-    events: &[TraceEvent],
+    events: &Trace<'_>,
     lines: u32,
     form: Form,
     all: bool,
@@ -693,7 +693,7 @@ fn denials_along(
 fn values_along(
     alloc: Global,
     world: &mut World,
-    events: &[TraceEvent],
+    events: &Trace<'_>,
     lines: u32,
     names: Words<'_>,
     changes: bool,
@@ -711,7 +711,7 @@ fn values_along(
 fn values_of(
     alloc: Global,
     world: &mut World,
-    events: &[TraceEvent],
+    events: &Trace<'_>,
     lines: u32,
     names: &[String],
     changes: bool,
@@ -737,7 +737,7 @@ fn values_of(
 fn calls_of(
     alloc: Global,
     world: &mut World,
-    events: &[TraceEvent],
+    events: &Trace<'_>,
     lines: u32,
     form: Form,
     summary: bool,
@@ -795,8 +795,8 @@ fn followed_text(
 
 // What is told of a whole trace.
 fn followed_events(alloc: Global, whole: Whole, telling: Telling<'_>) -> Result<Output, Fault>
-    requires few { whole.lines + length whole.events.items ≤ greatest_trace }
-    ensures is { AreFollowed telling.entry whole.world.program whole.world.world whole.events.items
+    requires few { whole.lines + length whole.events ≤ greatest_trace }
+    ensures is { AreFollowed telling.entry whole.world.program whole.world.world whole.events
         whole.lines result }
     ensures warned { HasWarnings None result }
 {

@@ -1,12 +1,13 @@
 // A trace's events, replayed.
 
-ghost use Rattle.std.specs.Prelude.{◌≡◌, OnOk, IfErr};
+ghost use Rattle.std.specs.Prelude.{◌≡◌, OnOk, IfErr, take};
 ghost use Rattle.lift_journal.specs.Rounds.{Takes, TakesAll, Refuses, IsRefusedAt};
 
 use crate::scan::{finish_and_commit, taken};
 use lift_spec::event::{Event, EventFault};
 use lift_spec::report::Report;
 use lift_spec::trace::TraceEvent;
+use lift_trace::trace::Trace;
 use lift_world::World;
 
 /// The first event that the world refused, by its index, and why.
@@ -33,18 +34,35 @@ pub fn take(world: &mut World, event: &TraceEvent, report: &mut Report) -> Resul
 }
 
 /// The events of a trace, one behind the other, up to the first that is refused. No allocation.
-pub fn replay(world: &mut World, events: &[TraceEvent]) -> Result<(), Refused>
+pub fn replay(world: &mut World, events: &Trace<'_>) -> Result<(), Refused>
     ensures taken { OnOk result (TakesAll world.old.program.config world.old.world events.now
         world.new.world) }
     ensures refused { IfErr result (λ r. IsRefusedAt world.old.program.config world.old.world
         events.now r.index r.fault) }
     ensures same { world.new.program ≡ world.old.program }
 {
+    replay_first(world, events, events.len())
+}
+
+/// The first so many events of a trace, one behind the other, up to the first that is refused. No allocation.
+pub fn replay_first(world: &mut World, events: &Trace<'_>, count: usize) -> Result<(), Refused>
+    ensures taken { OnOk result (TakesAll world.old.program.config world.old.world
+        (take count events.now) world.new.world) }
+    ensures refused { IfErr result (λ r. IsRefusedAt world.old.program.config world.old.world
+        (take count events.now) r.index r.fault) }
+    ensures same { world.new.program ≡ world.old.program }
+{
     let mut report = Report::new();
-    'events: for (index, event) in events.iter().enumerate() {
-        if let Err(fault) = take(world, event, &mut report) {
+    let mut left = events.events();
+    let mut index = 0;
+    'events: while index < count {
+        let Some(event) = left.next() else {
+            break;
+        };
+        if let Err(fault) = take(world, &event, &mut report) {
             return Err(Refused { index, fault });
         }
+        index += 1;
     }
     Ok(())
 }

@@ -4,6 +4,7 @@ ghost use Rattle.std.specs.Prelude.{◌≡◌};
 ghost use Rattle.lift_scan.specs.Chosen.{is_asked, committed, found_behind, noted, chosen};
 
 use lift_spec::trace::TraceEvent;
+use lift_trace::trace::Trace;
 
 /// Lines of a text that follow one another, the last with them.
 #[derive(Clone, Copy)]
@@ -110,7 +111,7 @@ fn noted(asked: Asked, count: usize, event: &TraceEvent, search: Search) -> Sear
 }
 
 /// The last scan of a task that a trace commits, in the round that is asked for.
-pub fn choose(asked: Asked, events: &[TraceEvent]) -> Option<Chosen>
+pub fn choose(asked: Asked, events: &Trace<'_>) -> Option<Chosen>
     ensures { result ≡ chosen asked events.now }
 {
     let mut search = Search {
@@ -118,8 +119,11 @@ pub fn choose(asked: Asked, events: &[TraceEvent]) -> Option<Chosen>
         started: None,
         found: None,
     };
-    'events: for (at, event) in events.iter().enumerate() {
-        search = noted(asked, at + 1, event, search);
+    let mut left = events.events();
+    let mut count = 0;
+    'events: while let Some(event) = left.next() {
+        count += 1;
+        search = noted(asked, count, &event, search);
     }
     search.found
 }

@@ -11,10 +11,10 @@ use crate::before::{Before, next_step};
 use crate::chosen::{Asked, Chosen, Lines, choose};
 use crate::line::put_line;
 use crate::view::View;
-use lift_runs::replay::{Refused, replay};
+use lift_runs::replay::{Refused, replay_first};
 use lift_spec::event::{Event, Reply};
 use lift_spec::report::Report;
-use lift_spec::trace::TraceEvent;
+use lift_trace::trace::Trace;
 use lift_world::World;
 use std::alloc::{AllocError, Global};
 
@@ -48,7 +48,7 @@ impl From<AllocError> for ScanStop {
 pub fn scan_text(
     alloc: Global,
     world: &mut World,
-    events: &[TraceEvent],
+    events: &Trace<'_>,
     asked: Asked,
     source: &[u8],
 ) -> Result<String, ScanStop>
@@ -61,20 +61,12 @@ pub fn scan_text(
     let Some(it) = choose(asked, events) else {
         return Err(ScanStop::NoScan);
     };
-    if let Err(refused) = replay(world, front_of(events, it.front)) {
+    if let Err(refused) = replay_first(world, events, it.front) {
         return Err(ScanStop::Refused(refused));
     }
     let mut text = heading(alloc, asked, it)?;
     put_lines(alloc, world, asked, source, &mut text)?;
     Ok(text)
-}
-
-// The first events of a trace.
-fn front_of(events: &[TraceEvent], count: usize) -> &[TraceEvent]
-    ensures { result.now ≡ take count events.now }
-{
-    let (front, _) = events.split_at(count.min(events.len()));
-    front
 }
 
 // The heading of a scan.

@@ -4,8 +4,9 @@ ghost use Rattle.std.specs.Prelude.{◌≡◌, ◌≤◌, length, slice_set, IfO
 ghost use Rattle.lift_journal.specs.Closed.{IsClosed};
 ghost use Rattle.lift_serve.specs.Going.{GoesOn, IsBroken, whole_events, last_task, ends_line, are_shut, opened};
 
-use lift_runs::replay::{Refused, replay};
+use lift_runs::replay::{Refused, replay_first};
 use lift_spec::trace::TraceEvent;
+use lift_trace::trace::Trace;
 use lift_world::World;
 
 // A place for each number of a task.
@@ -56,16 +57,19 @@ fn ends_line(last: u8, event: &TraceEvent) -> bool
 
 /// How many of the events of a trace stand in whole lines: those up to the last press, or commit of the last task, behind which no
 /// scan is open (own rule).
-pub fn whole_events(events: &[TraceEvent], last: u8) -> usize
+pub fn whole_events(events: &Trace<'_>, last: u8) -> usize
     ensures whole { result ≡ whole_events last events.now }
     ensures within { result ≤ length events.now }
 {
     let mut marks = [false; TASKS];
     let mut whole = 0;
-    'events: for (index, event) in events.iter().enumerate() {
-        put_open(&mut marks, event);
-        if ends_line(last, event) && are_shut(&marks) {
-            whole = index + 1;
+    let mut left = events.events();
+    let mut count = 0;
+    'events: while let Some(event) = left.next() {
+        count += 1;
+        put_open(&mut marks, &event);
+        if ends_line(last, &event) && are_shut(&marks) {
+            whole = count;
         }
     }
     whole
@@ -85,7 +89,7 @@ fn last_task(world: &World) -> u8
 
 /// Leads a world between scans along the events of a trace up to its last whole line, with every output still behind it, as after a stop.
 /// The answer is how many events stand behind that line; nothing of them happens. Where an event up to there is refused, it is named.
-pub fn go_on(world: &mut World, events: &[TraceEvent]) -> Result<usize, Refused>
+pub fn go_on(world: &mut World, events: &Trace<'_>) -> Result<usize, Refused>
     requires { IsClosed world.old.world }
     ensures goes_on { IfOk result (GoesOn world.old.program.config world.old.world events.now
         world.new.world) }
@@ -97,7 +101,7 @@ pub fn go_on(world: &mut World, events: &[TraceEvent]) -> Result<usize, Refused>
     let whole = whole_events(events, last_task(world));
     let _image = world.image();
     let _config = world.verified().config();
-    replay(world, &events[..whole])?;
+    replay_first(world, events, whole)?;
     world.rest();
     Ok(events.len() - whole)
 }

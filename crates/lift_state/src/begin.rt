@@ -15,19 +15,19 @@ use crate::fault::StateError;
 use crate::lines::behind;
 use crate::read::{Begun, read_state};
 use lift_host::status::{Fault, LineFault};
-use lift_spec::trace::TraceEvent;
 use lift_trace::fault::TraceFault;
 use lift_trace::format::Format;
 use lift_trace::read::{Front, GREATEST_TRACE, read_events, read_front};
+use lift_trace::trace::Trace;
 use lift_world::{Core, Refusal, Verified, World};
 use sha2::{Digest, Sha256};
 use std::alloc::Global;
 
 /// How a trace begins and what stands in it.
-pub struct Beginning {
+pub struct Beginning<'t> {
     /// The world from which the events lead: the opening, or in format 3 that of the state.
     pub world: World,
-    pub events: Vec<TraceEvent>,
+    pub events: Trace<'t>,
     /// How many lines stand before the first event: 1, or those of the state and the first line.
     pub lines: u32,
     /// In which line the text is cut off, if it isn't whole.
@@ -90,12 +90,16 @@ fn fault_of_state(error: StateError) -> Fault
 }
 
 // A trace of events behind the opening.
-fn opened(alloc: Global, verified: Verified, front: Front) -> Result<Beginning, Fault>
+fn opened<'t>(
+    alloc: Global,
+    verified: Verified,
+    front: Front<'t>,
+) -> Result<Beginning<'t>, Fault>
     ensures world { IfOk result (λ b. b.world.world ≡ opening verified.config) }
     ensures same { IfOk result (λ b. b.world.program ≡ verified) }
-    ensures events { IfOk result (λ b. b.events.items ≡ front.events.items) }
+    ensures events { IfOk result (λ b. b.events ≡ front.entry.events) }
     ensures lines { IfOk result (λ b. b.lines ≡ 1) }
-    ensures cut { IfOk result (λ b. b.cut ≡ front.cut) }
+    ensures cut { IfOk result (λ b. b.cut ≡ front.entry.cut) }
     ensures memory { IfErr result (λ fault. fault ≡ NoMemory) }
 {
     let Front { events, cut } = front;
@@ -109,17 +113,21 @@ fn opened(alloc: Global, verified: Verified, front: Front) -> Result<Beginning, 
 }
 
 // A trace of format 1 or 2, from the opening.
-fn open(alloc: Global, verified: Verified, text: &[u8]) -> Result<Beginning, Fault>
+fn open<'t>(
+    alloc: Global,
+    verified: Verified,
+    text: &'t [u8],
+) -> Result<Beginning<'t>, Fault>
     requires { HasNoState text.now }
     ensures begins { (source : List ℕ) → IfOk result (λ b. BeginsTrace verified.config source
-        text.now b.world.world b.events.items b.lines b.cut) }
+        text.now b.world.world b.events b.lines b.cut) }
     ensures same { IfOk result (λ b. b.world.program ≡ verified) }
-    ensures few { IfOk result (λ b. b.lines + length b.events.items ≤ greatest_trace) }
+    ensures few { IfOk result (λ b. b.lines + length b.events ≤ greatest_trace) }
     ensures rests { IfOk result (λ b. Begins verified.config b.world.world) }
     ensures fault { (source : List ℕ)
         → IfErr result (IsUnbegun verified.config source text.now) }
 {
-    match read_front(alloc, text, verified.sizes().cars) {
+    match read_front(text, verified.sizes().cars) {
         Ok(front) => opened(alloc, verified, front),
         Err(fault) => {
             verified.release();
@@ -156,7 +164,11 @@ fn moved(cut: Option<u32>, lines: u32) -> Option<u32>
 }
 
 // A trace of events behind a state.
-fn follow(alloc: Global, verified: Verified, begun: Begun<'_>) -> Result<Beginning, Fault>
+fn follow<'t>(
+    alloc: Global,
+    verified: Verified,
+    begun: Begun<'t>,
+) -> Result<Beginning<'t>, Fault>
     requires program { begun.core.config ≡ verified.config }
     requires seated { IsSeated begun.core.config begun.core.group }
     requires lines { 1 ≤ begun.lines }
@@ -167,15 +179,15 @@ fn follow(alloc: Global, verified: Verified, begun: Begun<'_>) -> Result<Beginni
     ensures lines { IfOk result (λ b. b.lines ≡ begun.entry.lines) }
     ensures events { IfOk result (λ b. (place : Option ℕ)
         × ReadsFront (sizes_of verified.config).cars (events_text begun.entry.rest.now)
-        b.events.items place × (b.cut ≡ option_map (line_behind b.lines) place)) }
-    ensures few { IfOk result (λ b. b.lines + length b.events.items ≤ greatest_trace) }
+        b.events place × (b.cut ≡ option_map (line_behind b.lines) place)) }
+    ensures few { IfOk result (λ b. b.lines + length b.events ≤ greatest_trace) }
     ensures rests { IfOk result (λ b. Begins verified.config b.world.world) }
     ensures fault { IfErr result
         (IsEventless (sizes_of verified.config).cars begun.entry.lines begun.entry.rest.now) }
 {
     let Begun { core, rest, lines } = begun;
     let lines = lines as u32;
-    match read_events(alloc, Format::Two, verified.sizes().cars, rest) {
+    match read_events(Format::Two, verified.sizes().cars, rest) {
         Ok(Front { events, cut }) => {
             let world = resumed(alloc, verified, core)?;
             Ok(Beginning {
@@ -202,9 +214,9 @@ fn go_on(
 ) -> Result<Beginning, Fault>
     requires { IsStateOf text.now state.now }
     ensures begins { IfOk result (λ b. BeginsTrace verified.config source.now text.now
-        b.world.world b.events.items b.lines b.cut) }
+        b.world.world b.events b.lines b.cut) }
     ensures same { IfOk result (λ b. b.world.program ≡ verified) }
-    ensures few { IfOk result (λ b. b.lines + length b.events.items ≤ greatest_trace) }
+    ensures few { IfOk result (λ b. b.lines + length b.events ≤ greatest_trace) }
     ensures rests { IfOk result (λ b. Begins verified.config b.world.world) }
     ensures fault { IfErr result (IsUnbegun verified.config source.now text.now) }
 {
@@ -230,9 +242,9 @@ pub fn begin(
     text: &[u8],
 ) -> Result<Beginning, Fault>
     ensures begins { IfOk result (λ b. BeginsTrace verified.config source.now text.now
-        b.world.world b.events.items b.lines b.cut) }
+        b.world.world b.events b.lines b.cut) }
     ensures same { IfOk result (λ b. b.world.program ≡ verified) }
-    ensures few { IfOk result (λ b. b.lines + length b.events.items ≤ greatest_trace) }
+    ensures few { IfOk result (λ b. b.lines + length b.events ≤ greatest_trace) }
     ensures rests { IfOk result (λ b. Begins verified.config b.world.world) }
     ensures fault { IfErr result (IsUnbegun verified.config source.now text.now) }
 {

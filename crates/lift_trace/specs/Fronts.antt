@@ -14,4 +14,4 @@ RefusesFront cars text Memory = Unit {0}
 
 -- the events and where it is cut off, or the fault and its line
 abbrev pub FrontAnswers : ℕ → List ℕ → Result Front TraceFault → Type 0
-FrontAnswers cars text r = MatchResult r (λ f. ReadsFront cars text f.events.items f.cut) (RefusesFront cars text)
+FrontAnswers cars text r = MatchResult r (λ f. ReadsFront cars text f.events f.cut) (RefusesFront cars text)

@@ -13,11 +13,12 @@ use lift_runs::replay::Refused;
 use lift_spec::event::Reply;
 use lift_spec::report::{Answered, EnteredCall, Report};
 use lift_spec::trace::TraceEvent;
+use lift_trace::trace::Trace;
 use lift_world::World;
 use std::alloc::{AllocError, Global};
 
 /// What is known of the calls of a trace behind its events, which the world takes one behind the other, up to the first that is refused.
-pub fn call_log(alloc: Global, world: &mut World, events: &[TraceEvent]) -> Result<Log, Stop>
+pub fn call_log(alloc: Global, world: &mut World, events: &Trace<'_>) -> Result<Log, Stop>
     requires few { length events.now < 2 ^ 31 }
     ensures log { IfOk result (IsLogOf world.old.program.config world.old.world events.now
         world.new.world) }
@@ -26,11 +27,14 @@ pub fn call_log(alloc: Global, world: &mut World, events: &[TraceEvent]) -> Resu
 {
     let mut log = Log::new(alloc);
     let mut report = Report::new();
-    'events: for (index, event) in events.iter().enumerate() {
-        match reply_to(world, event, &mut report) {
-            Ok(reply) => note(&mut log, event, reply, &report, world)?,
+    let mut left = events.events();
+    let mut index = 0;
+    'events: while let Some(event) = left.next() {
+        match reply_to(world, &event, &mut report) {
+            Ok(reply) => note(&mut log, &event, reply, &report, world)?,
             Err(fault) => return Err(Stop::Refused(Refused { index, fault })),
         }
+        index += 1;
     }
     Ok(log)
 }

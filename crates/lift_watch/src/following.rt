@@ -18,6 +18,7 @@ use lift_runs::replay::Refused;
 use lift_spec::event::Reply;
 use lift_spec::report::{Denial, Report};
 use lift_spec::trace::TraceEvent;
+use lift_trace::trace::Trace;
 use lift_world::World;
 use std::alloc::{AllocError, Global};
 
@@ -26,7 +27,7 @@ use std::alloc::{AllocError, Global};
 pub fn denied_in(
     alloc: Global,
     world: &mut World,
-    events: &[TraceEvent],
+    events: &Trace<'_>,
     form: Form,
     all: bool,
 ) -> Result<String, Stop>
@@ -39,7 +40,9 @@ pub fn denied_in(
     let mut text = String::new(alloc);
     let mut report = Report::new();
     let mut round: u32 = 0;
-    'events: for (index, event) in events.iter().enumerate() {
+    let mut left = events.events();
+    let mut index = 0;
+    'events: while let Some(event) = left.next() {
         match reply_to(world, event, &mut report) {
             Ok(reply) => {
                 round = round_behind(event, round);
@@ -55,7 +58,7 @@ pub fn denied_in(
 /// refused. A round ends where a refresh begins the next, and the last one at the end.
 pub fn rows_along(
     world: &mut World,
-    events: &[TraceEvent],
+    events: &Trace<'_>,
     watched: &[Watched<'_>],
     text: &mut String,
 ) -> Result<(), Stop>
@@ -69,7 +72,9 @@ pub fn rows_along(
     let mut report = Report::new();
     let mut asked = Asked::new();
     let mut round: u32 = 0;
-    'events: for (index, event) in events.iter().enumerate() {
+    let mut left = events.events();
+    let mut index = 0;
+    'events: while let Some(event) = left.next() {
         put_row_before(text, watched, event, round, &asked, world)?;
         match reply_to(world, event, &mut report) {
             Ok(reply) => {

@@ -1,7 +1,7 @@
 use Rattle.std.proofs.Common.{arith}
 use Rattle.lift_trace.specs.Text.{line_of}
 use Rattle.lift_trace.proofs.Numbers.{short_text}
-use Rattle.lift_trace.proofs.read.short_line.Goals as goal
+use Rattle.lift_trace.proofs.short.short_line.Goals as goal
 
 pub returns-in-83 : goal.returns-in-83
 unfolding line_of
