@@ -59,14 +59,14 @@ fn truncated(line: u32) -> Fault
 fn gone_on(beginning: Beginning<'_>) -> Result<Origin, Fault>
     requires closed { IsClosed beginning.world.world }
     requires few { beginning.lines + length beginning.events ≤ greatest_trace }
-    ensures goes_on { IfOk result (λ o. GoesOn beginning.world.program.config
-        beginning.world.world beginning.events o.world.world o.dropped) }
-    ensures same { IfOk result (λ o. o.world.program ≡ beginning.world.program) }
+    ensures goes_on { IfOk result (λ o. GoesOn beginning.entry.world.program.config
+        beginning.entry.world.world beginning.entry.events o.world.world o.dropped) }
+    ensures same { IfOk result (λ o. o.world.program ≡ beginning.entry.world.program) }
     ensures closed { IfOk result (λ o. IsClosed o.world.world) }
-    ensures whole { IfOk result (λ _. unfinished beginning.lines beginning.events
-        beginning.cut ≡ None) }
-    ensures broken { IfErr result (LeadsNowhere beginning.world.program.config
-        beginning.world.world beginning.events beginning.lines beginning.cut) }
+    ensures whole { IfOk result (λ _. unfinished beginning.entry.lines beginning.entry.events
+        beginning.entry.cut ≡ None) }
+    ensures broken { IfErr result (LeadsNowhere beginning.entry.world.program.config
+        beginning.entry.world.world beginning.entry.events beginning.entry.lines beginning.entry.cut) }
 {
     let Beginning {
         mut world,

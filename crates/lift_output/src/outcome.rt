@@ -48,7 +48,7 @@ use lift_runs::along;
 use lift_runs::replay::{Refused, replay};
 use lift_runs::sim::{Drive, simulate, simulate_before, simulate_on};
 use lift_spec::Sizes;
-use lift_spec::trace::TraceEvent;
+use lift_trace::trace::Trace;
 use lift_state::begin::{Beginning, begin};
 use lift_watch::calls::call_log;
 use lift_watch::changes::shown_text;
@@ -573,12 +573,12 @@ pub(crate) struct Whole<'t> {
 }
 
 // The whole trace of a text. One that is cut off is refused.
-pub(crate) fn whole_of(
+pub(crate) fn whole_of<'t>(
     alloc: Global,
     verified: Verified,
     source: &[u8],
-    text: &[u8],
-) -> Result<Whole, Fault>
+    text: &'t [u8],
+) -> Result<Whole<'t>, Fault>
     ensures begins { IfOk result (λ whole. BeginsTrace verified.config source.now text.now
         whole.world.world whole.events whole.lines None) }
     ensures same { IfOk result (λ whole. whole.world.program ≡ verified) }
@@ -794,10 +794,10 @@ fn followed_text(
 }
 
 // What is told of a whole trace.
-fn followed_events(alloc: Global, whole: Whole, telling: Telling<'_>) -> Result<Output, Fault>
+fn followed_events(alloc: Global, whole: Whole<'_>, telling: Telling<'_>) -> Result<Output, Fault>
     requires few { whole.lines + length whole.events ≤ greatest_trace }
-    ensures is { AreFollowed telling.entry whole.world.program whole.world.world whole.events
-        whole.lines result }
+    ensures is { AreFollowed telling.entry whole.entry.world.program whole.entry.world.world
+        whole.entry.events whole.entry.lines result }
     ensures warned { HasWarnings None result }
 {
     let Whole {

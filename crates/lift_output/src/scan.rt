@@ -234,14 +234,14 @@ fn scanned_text(
 // The scan of a whole trace.
 fn scanned_events(
     alloc: Global,
-    whole: Whole,
+    whole: Whole<'_>,
     traced: Traced<'_>,
     asked: Asked,
     source: &[u8],
 ) -> Result<Output, Fault>
-    requires few { whole.lines + length whole.events.items ≤ greatest_trace }
-    ensures is { AreScanned traced.entry whole.world.program asked source.now whole.world.world
-        whole.events.items whole.lines result }
+    requires few { whole.lines + length whole.events ≤ greatest_trace }
+    ensures is { AreScanned traced.entry whole.entry.world.program asked source.now
+        whole.entry.world.world whole.entry.events whole.entry.lines result }
     ensures warned { HasWarnings None result }
 {
     let Whole {

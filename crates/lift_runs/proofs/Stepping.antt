@@ -45,7 +45,7 @@ step_more c w m v events i steps e reply at are last = record {
 }
 
 -- the first event that is refused behind steps of a program that stays the same
-pub refused_behind : (p q : Program) → q ≡ p → (w m : World) (events : List TraceEvent) (i : ℕ) (steps : List Step) (e : TraceEvent) (fault : EventFault) → i < length events → e ≡ get_or events i e → AreStepsOf p.config w (take i events) m steps
+pub refused_there : (p q : Program) → q ≡ p → (w m : World) (events : List TraceEvent) (i : ℕ) (steps : List Step) (e : TraceEvent) (fault : EventFault) → slice_get events i ≡ Some e → AreStepsOf p.config w (take i events) m steps
     → Refuses q.config m e fault → IsRefusedAt p.config w events i fault
-refused_behind p q same w m events i steps e fault low at are why =
-    refused_at p.config events i e fault w m (slice_get_read events (length events) i e refl low at) (steps_take p.config w m (take i events) steps are) (subst (λ (x : Program). Refuses x.config m e fault) same why)
+refused_there p q same w m events i steps e fault at are why =
+    refused_at p.config events i e fault w m at (steps_take p.config w m (take i events) steps are) (subst (λ (x : Program). Refuses x.config m e fault) same why)

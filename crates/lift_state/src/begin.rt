@@ -205,13 +205,13 @@ fn follow<'t>(
 }
 
 // A trace of format 3, from its state.
-fn go_on(
+fn go_on<'t>(
     alloc: Global,
     verified: Verified,
     source: &[u8],
     text: &[u8],
-    state: &[u8],
-) -> Result<Beginning, Fault>
+    state: &'t [u8],
+) -> Result<Beginning<'t>, Fault>
     requires { IsStateOf text.now state.now }
     ensures begins { IfOk result (λ b. BeginsTrace verified.config source.now text.now
         b.world.world b.events b.lines b.cut) }
@@ -234,13 +234,13 @@ fn go_on(
 /// Reads a trace, in any format, of the configuration whose text is `source`: the world from which its events lead, the events, and
 /// behind how many lines they stand. The text may be cut off behind its first line, in format 3 behind the lines of its state. A fault
 /// has number and line of the first wrong line: 80 or 81 of a trace, or a number of a state ([`crate::fault::StateFault`]). A state of
-/// another text is 85 (own rule). Reading takes a time and memory that grow with the text.
-pub fn begin(
+/// another text is 85 (own rule). The events stay in the text; reading takes a time that grows with it, and memory for the state alone.
+pub fn begin<'t>(
     alloc: Global,
     verified: Verified,
     source: &[u8],
-    text: &[u8],
-) -> Result<Beginning, Fault>
+    text: &'t [u8],
+) -> Result<Beginning<'t>, Fault>
     ensures begins { IfOk result (λ b. BeginsTrace verified.config source.now text.now
         b.world.world b.events b.lines b.cut) }
     ensures same { IfOk result (λ b. b.world.program ≡ verified) }

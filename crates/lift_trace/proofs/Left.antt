@@ -82,3 +82,55 @@ pub within_list : {X : Type 0} (xs : List X) (i : ℕ) (x : X) → slice_get xs 
 within_list [] i x at = let no : None ≡ Some x = at in absurd (cc)
 within_list (y ∷ xs) zero x at = omega arith
 within_list (y ∷ xs) (suc i) x at = omega (arith, within_list xs i x at)
+
+-- THE CURSOR IN A LOOP
+
+-- the cursor over these events stands at this index
+pub record IsAt (events : List TraceEvent) (index : ℕ) (left : List TraceEvent × ℕ) : Type 0 where
+  pub all : left.0 ≡ events
+  pub at : left.1 ≡ index
+
+-- at first
+pub at_first : (events : List TraceEvent) (left : List TraceEvent × ℕ) → left ≡ (events, 0) → IsAt events 0 left
+at_first events left is = record { all = ap (λ (v : List TraceEvent × ℕ). v.0) is; at = ap (λ (v : List TraceEvent × ℕ). v.1) is }
+
+-- after an event
+pub at_next : (events : List TraceEvent) (index : ℕ) (left next : List TraceEvent × ℕ) → IsAt events index left → next.0 ≡ left.0 → next.1 ≡ left.1 + 1 → IsAt events (index + 1) next
+at_next events index left next a all moves = record { all = all ∙ a.all; at = omega (arith, moves, a.at) }
+
+-- the event that comes
+pub event_at : (events : List TraceEvent) (index : ℕ) (left : List TraceEvent × ℕ) (e : TraceEvent) → IsAt events index left → slice_get left.0 left.1 ≡ Some e → slice_get events index ≡ Some e
+event_at events index left e a there = subst (λ (n : ℕ). slice_get events n ≡ Some e) a.at (subst (λ (es : List TraceEvent). slice_get es left.1 ≡ Some e) a.all there)
+
+-- the place of the event that comes
+pub index_below : (events : List TraceEvent) (index : ℕ) (left : List TraceEvent × ℕ) (e : TraceEvent) → IsAt events index left → slice_get left.0 left.1 ≡ Some e → index < length events
+index_below events index left e a there = within_list events index e (event_at events index left e a there)
+
+-- at the end
+pub at_end : (events : List TraceEvent) (index : ℕ) (left : List TraceEvent × ℕ) → IsAt events index left → left.1 ≡ length left.0 → index ≡ length events
+at_end events index left a end = omega (arith, a.at, end, ap (λ (es : List TraceEvent). length es) a.all)
+
+-- THE FIRST OF A LIST
+
+pub get_front : {X : Type 0} (xs : List X) (n i : ℕ) (x : X) → i < n → slice_get xs i ≡ Some x → slice_get (take n xs) i ≡ Some x
+get_front xs zero i x low at = absurd (omega arith)
+get_front [] (suc n) i x low at = at
+get_front (y ∷ xs) (suc n) zero x low at = at
+get_front (y ∷ xs) (suc n) (suc i) x low at = get_front xs n i x (omega arith) at
+
+pub front_few : {X : Type 0} (n : ℕ) (xs : List X) → length (take n xs) ≤ n
+front_few zero xs = omega arith
+front_few (suc n) [] = omega arith
+front_few (suc n) (x ∷ xs) = omega (arith, front_few n xs)
+
+pub front_within : {X : Type 0} (n : ℕ) (xs : List X) → length (take n xs) ≤ length xs
+front_within zero xs = omega arith
+front_within (suc n) [] = omega arith
+front_within (suc n) (x ∷ xs) = omega (arith, front_within n xs)
+
+-- WHAT IS LEFT OF A LIST
+
+pub left_after : {X : Type 0} (xs : List X) (i : ℕ) (x : X) → slice_get xs i ≡ Some x → drop i xs ≡ x ∷ drop (i + 1) xs
+left_after [] i x at = let no : None ≡ Some x = at in absurd (cc)
+left_after (y ∷ xs) zero x at = let same : y ≡ x = cc in ap (λ z. z ∷ xs) same
+left_after (y ∷ xs) (suc i) x at = let next : suc i + 1 ≡ suc (i + 1) = omega arith in left_after xs i x at ∙ ap (λ n. x ∷ drop n (y ∷ xs)) (sym next)

@@ -43,13 +43,14 @@ pub fn denied_in(
     let mut left = events.events();
     let mut index = 0;
     'events: while let Some(event) = left.next() {
-        match reply_to(world, event, &mut report) {
+        match reply_to(world, &event, &mut report) {
             Ok(reply) => {
-                round = round_behind(event, round);
-                put_denied(alloc, &mut text, form, all, event, reply, &report, round)?;
+                round = round_behind(&event, round);
+                put_denied(alloc, &mut text, form, all, &event, reply, &report, round)?;
             }
             Err(fault) => return Err(Stop::Refused(Refused { index, fault })),
         }
+        index += 1;
     }
     Ok(text)
 }
@@ -75,14 +76,15 @@ pub fn rows_along(
     let mut left = events.events();
     let mut index = 0;
     'events: while let Some(event) = left.next() {
-        put_row_before(text, watched, event, round, &asked, world)?;
-        match reply_to(world, event, &mut report) {
+        put_row_before(text, watched, &event, round, &asked, world)?;
+        match reply_to(world, &event, &mut report) {
             Ok(reply) => {
-                note_asked(&mut asked, event, reply, &report);
-                round = round_behind(event, round);
+                note_asked(&mut asked, &event, reply, &report);
+                round = round_behind(&event, round);
             }
             Err(fault) => return Err(Stop::Refused(Refused { index, fault })),
         }
+        index += 1;
     }
     put_row_of(text, watched, round, &asked, world)?;
     Ok(())

@@ -8,8 +8,8 @@ use Rattle.lift_blackbox.proofs.resume.gone_on.Goals as goal
 pub fault_of_event-requires : goal.fault_of_event-requires
 fault_of_event-requires c =
     let config = c.args.beginning.world.program.config in
-    let events = c.args.beginning.events.items in
-    let refused = subst (λ (es : List TraceEvent). IsRefusedAt config c.args.beginning.world.world (whole_front config es) c.in-Err.refused.index c.in-Err.refused.fault) c.deref-2.ensures.value c.in-Err.ensures.refused in
+    let events = c.args.beginning.events in
+    let refused = c.in-Err.ensures.refused in
     let within = refused_within config c.args.beginning.world.world events (whole_events (last_task config) events) c.in-Err.refused.index c.in-Err.refused.fault refused in
     let few = c.requires.few in
     record { few = omega (arith, within, few) }

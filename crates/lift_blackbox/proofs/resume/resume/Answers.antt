@@ -13,16 +13,16 @@ gone_on-requires-clause-closed c = begins_closed c.args.verified.config c.in_ok-
 pub returns-clause-left : goal.returns-clause-left
 returns-clause-left c =
     let b = c.in_ok-beginning.beginning in
-    if_ok_both (λ (o : Origin). GoesOn b.world.program.config b.world.world b.events.items o.world.world o.dropped) (λ (o : Origin). unfinished b.lines b.events.items b.cut ≡ None) (λ (o : Origin). IsLeft c.args.verified.config c.args.source.now c.args.trace.now o.world.world o.dropped) c.gone_on.result
+    if_ok_both (λ (o : Origin). GoesOn b.world.program.config b.world.world b.events o.world.world o.dropped) (λ (o : Origin). unfinished b.lines b.events b.cut ≡ None) (λ (o : Origin). IsLeft c.args.verified.config c.args.source.now c.args.trace.now o.world.world o.dropped) c.gone_on.result
     (λ (o : Origin) goes_on whole.
     record {
       base = b.world.world;
-      events = b.events.items;
+      events = b.events;
       lines = b.lines;
       cut = b.cut;
       begins = c.in_ok-beginning.ensures.begins;
       whole = whole;
-      goes_on = subst (λ (p : Program). GoesOn p.config b.world.world b.events.items o.world.world o.dropped) c.in_ok-beginning.ensures.same goes_on;
+      goes_on = subst (λ (p : Program). GoesOn p.config b.world.world b.events o.world.world o.dropped) c.in_ok-beginning.ensures.same goes_on;
     })
     c.gone_on.ensures.goes_on c.gone_on.ensures.whole
 
@@ -33,6 +33,6 @@ returns-clause-same c =
 pub returns-clause-fault : goal.returns-clause-fault
 returns-clause-fault c =
     let b = c.in_ok-beginning.beginning in
-    if_err_map (LeadsNowhere b.world.program.config b.world.world b.events.items b.lines b.cut) (IsNotLeft c.args.verified.config c.args.source.now c.args.trace.now) c.gone_on.result
-    (λ (f : Fault) nowhere. inr (b.world.world, b.events.items, b.lines, b.cut, c.in_ok-beginning.ensures.begins, subst (λ (p : Program). LeadsNowhere p.config b.world.world b.events.items b.lines b.cut f) c.in_ok-beginning.ensures.same nowhere))
+    if_err_map (LeadsNowhere b.world.program.config b.world.world b.events b.lines b.cut) (IsNotLeft c.args.verified.config c.args.source.now c.args.trace.now) c.gone_on.result
+    (λ (f : Fault) nowhere. inr (b.world.world, b.events, b.lines, b.cut, c.in_ok-beginning.ensures.begins, subst (λ (p : Program). LeadsNowhere p.config b.world.world b.events b.lines b.cut f) c.in_ok-beginning.ensures.same nowhere))
     c.gone_on.ensures.broken

@@ -13,5 +13,5 @@ returns-in_err-whole-clause-is c =
 pub returns-clause-is : goal.returns-clause-is
 returns-clause-is c =
     let b = c.in_ok-whole.whole in
-    followed_is c.args.telling c.args.verified c.args.source.now c.args.text.now (record { from = b.world.world; events = b.events.items; lines = b.lines; begins = c.in_ok-whole.ensures.begins }) c.followed_events.result
-    (subst (λ (p : Program). AreFollowed c.args.telling p b.world.world b.events.items b.lines c.followed_events.result) c.in_ok-whole.ensures.same c.followed_events.ensures.is)
+    followed_is c.args.telling c.args.verified c.args.source.now c.args.text.now (record { from = b.world.world; events = b.events; lines = b.lines; begins = c.in_ok-whole.ensures.begins }) c.followed_events.result
+    (subst (λ (p : Program). AreFollowed c.args.telling p b.world.world b.events b.lines c.followed_events.result) c.in_ok-whole.ensures.same c.followed_events.ensures.is)

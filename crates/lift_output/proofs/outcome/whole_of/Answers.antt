@@ -13,10 +13,10 @@ returns-in_err-world-clause-err c =
 pub returns-in-None-clause-begins : goal.returns-in-None-clause-begins
 returns-in-None-clause-begins c =
     let b = c.in_ok-world.field-0 in
-    subst (λ (cut : Option ℕ). BeginsTrace c.args.verified.config c.args.source.now c.args.text.now b.world.world b.events.items b.lines cut) c.in-None.is c.in_ok-world.ensures.begins
+    subst (λ (cut : Option ℕ). BeginsTrace c.args.verified.config c.args.source.now c.args.text.now b.world.world b.events b.lines cut) c.in-None.is c.in_ok-world.ensures.begins
 
 pub returns-in-Some-clause-err : goal.returns-in-Some-clause-err
 returns-in-Some-clause-err c =
     let b = c.in_ok-world.field-0 in
     subst (IsTraceUnread c.args.verified c.args.source.now c.args.text.now) (sym c.refused.ensures)
-    (cut_off_is c.args.verified c.args.source.now c.args.text.now b.world.world b.events.items b.lines b.cut c.in-Some.line c.in_ok-world.ensures.begins c.in-Some.is)
+    (cut_off_is c.args.verified c.args.source.now c.args.text.now b.world.world b.events b.lines b.cut c.in-Some.line c.in_ok-world.ensures.begins c.in-Some.is)

@@ -14,5 +14,5 @@ pub returns-clause-is : goal.returns-clause-is
 returns-clause-is c =
     let b = c.in_ok-whole.whole in
     scanned_is c.args.traced c.args.verified c.args.asked c.args.source.now c.args.text.now c.requires
-    (record { from = b.world.world; events = b.events.items; lines = b.lines; begins = c.in_ok-whole.ensures.begins }) c.scanned_events.result
-    (subst (λ (p : Program). AreScanned c.args.traced p c.args.asked c.args.source.now b.world.world b.events.items b.lines c.scanned_events.result) c.in_ok-whole.ensures.same c.scanned_events.ensures.is)
+    (record { from = b.world.world; events = b.events; lines = b.lines; begins = c.in_ok-whole.ensures.begins }) c.scanned_events.result
+    (subst (λ (p : Program). AreScanned c.args.traced p c.args.asked c.args.source.now b.world.world b.events b.lines c.scanned_events.result) c.in_ok-whole.ensures.same c.scanned_events.ensures.is)

@@ -1,22 +1,16 @@
-use Rattle.std.proofs.Common.{refl, subst, ◌∙◌, length}
-use Rattle.std.proofs.lemmas.Option.{slice_get_read}
-use Rattle.il_machine.specs.Scanning.{Program}
-use Rattle.lift_journal.specs.Rounds.{Takes, Refuses}
-use Rattle.lift_runs.proofs.Taking.{takes_next, refused_at}
+use Rattle.std.proofs.Common.{List, subst, arith, length, take}
+use Rattle.std.specs.Prelude.{OnOk, IfErr}
+use Rattle.std.proofs.lemmas.List.{take_all}
+use Rattle.lift_spec.specs.declared.trace.TraceEvent.{TraceEvent}
+use Rattle.lift_journal.specs.Rounds.{TakesAll, IsRefusedAt}
 use Rattle.lift_runs.proofs.replay.replay.Goals as goal
 
-pub returns-in-Err-clause-refused : goal.returns-in-Err-clause-refused
-returns-in-Err-clause-refused c =
-    let e = c.index-events-index.result in
-    refused_at c.args.world.now.program.config c.args.events.now c.events.index e c.in-Err.fault c.args.world.now.world c.events.world.world
-    (slice_get_read c.args.events.now (length c.args.events.now) c.events.index e refl c.events-test.true c.index-events-index.is) c.events.invariant.0
-    (subst (λ (p : Program). Refuses p.config c.events.world.world e c.in-Err.fault) c.events.invariant.1 c.in-Err.ensures.refused)
+pub returns-clause-taken : goal.returns-clause-taken
+returns-clause-taken c =
+    subst (λ (es : List TraceEvent). OnOk c.replay_first.result (TakesAll c.args.world.now.program.config c.args.world.now.world es c.replay_first.new.world.world)) (take_all (length c.args.events.now) c.args.events.now (omega arith))
+    (subst (λ n. OnOk c.replay_first.result (TakesAll c.args.world.now.program.config c.args.world.now.world (take n c.args.events.now) c.replay_first.new.world.world)) c.len.ensures.is c.replay_first.ensures.taken)
 
-pub events-preserved : goal.events-preserved
-events-preserved c =
-    let e = c.index-events-index.result in (
-      takes_next c.args.world.now.program.config c.args.events.now c.events.index e c.args.world.now.world c.events.world.world c.take.new.world.world
-          (slice_get_read c.args.events.now (length c.args.events.now) c.events.index e refl c.events-test.true c.index-events-index.is) c.events.invariant.0
-          (subst (λ (p : Program). Takes p.config c.events.world.world e c.take.new.world.world) c.events.invariant.1 c.in_default.ensures.taken),
-      c.take.ensures.same ∙ c.events.invariant.1,
-    )
+pub returns-clause-refused : goal.returns-clause-refused
+returns-clause-refused c =
+    subst (λ (es : List TraceEvent). IfErr c.replay_first.result (λ r. IsRefusedAt c.args.world.now.program.config c.args.world.now.world es r.index r.fault)) (take_all (length c.args.events.now) c.args.events.now (omega arith))
+    (subst (λ n. IfErr c.replay_first.result (λ r. IsRefusedAt c.args.world.now.program.config c.args.world.now.world (take n c.args.events.now) r.index r.fault)) c.len.ensures.is c.replay_first.ensures.refused)

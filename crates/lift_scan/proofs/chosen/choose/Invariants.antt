@@ -1,7 +1,11 @@
-use Rattle.std.proofs.Common.{◌≡◌, drop}
+use Rattle.std.proofs.Common.{◌≡◌, ◌-◌, drop, length}
 use Rattle.lift_scan.specs.Chosen.{noted_all, nothing_noted}
+use Rattle.lift_trace.proofs.Left.{IsAt}
 use Rattle.lift_scan.proofs.chosen.choose.Given as goal
 
 -- the events that are left make of what is known what all make
 abbrev pub invariant-events : goal.invariant-events
-invariant-events l = noted_all l.asked l.at (drop l.at l.events) l.search ≡ noted_all l.asked 0 l.events nothing_noted
+invariant-events l = IsAt l.events l.count l.left × (noted_all l.asked l.count (drop l.count l.events) l.search ≡ noted_all l.asked 0 l.events nothing_noted)
+
+abbrev pub decreases-events : goal.decreases-events
+decreases-events l = length l.events - l.count

@@ -11,7 +11,7 @@ returns-in-Err-clause-stopped c =
     let opening = c.args.world.now.world in
     let index = c.in-Err.refused.index in
     let why = c.in-Err.refused.fault in
-    let refused : IsRefusedAt config opening (take c.in-Some.it.front c.args.events.now) index why = subst (λ es. IsRefusedAt config opening es index why) c.front_of.ensures c.in-Err.ensures.refused in
+    let refused : IsRefusedAt config opening (take c.in-Some.it.front c.args.events.now) index why = c.in-Err.ensures.refused in
     record {
       it = c.in-Some.it;
       is = sym c.choose.ensures ∙ c.in-Some.is;
@@ -23,10 +23,10 @@ pub returns-clause-shown : goal.returns-clause-shown
 returns-clause-shown c = record {
   it = c.in-Some.it;
   is = sym c.choose.ensures ∙ c.in-Some.is;
-  started = c.replay.new.world.world;
-  takes = subst (λ es. TakesAll c.args.world.now.program.config c.args.world.now.world es c.replay.new.world.world) c.front_of.ensures c.in_default-replay.ensures.taken;
+  started = c.replay_first.new.world.world;
+  takes = c.in_default-replay_first.ensures.taken;
   text_is =
       c.in_ok-put_lines.ensures.lines
-      ∙ ap (λ t. t ++ lines_text c.replay.new.world.program.config c.args.source.now 1000000 c.args.asked c.replay.new.world.world) c.in_ok-text.ensures
-      ∙ ap (λ (p : Program). heading c.args.asked c.in-Some.it ++ lines_text p.config c.args.source.now 1000000 c.args.asked c.replay.new.world.world) c.replay.ensures.same;
+      ∙ ap (λ t. t ++ lines_text c.replay_first.new.world.program.config c.args.source.now 1000000 c.args.asked c.replay_first.new.world.world) c.in_ok-text.ensures
+      ∙ ap (λ (p : Program). heading c.args.asked c.in-Some.it ++ lines_text p.config c.args.source.now 1000000 c.args.asked c.replay_first.new.world.world) c.replay_first.ensures.same;
 }

@@ -25,7 +25,7 @@ pub returns-in-Ok-clause-begins : goal.returns-in-Ok-clause-begins
 returns-in-Ok-clause-begins c =
     let begun = begun_of c.in-Ok.begun in
     let state = subst (λ (d : List ℕ). IsState c.args.verified.config d c.args.state.now begun) c.digest-digest.ensures c.in-Ok.ensures.state in
-    ok_three _ _ _ _ c.follow.result (λ b world lines events. follows c.args.verified.config c.args.source.now c.args.text.now c.args.state.now c.requires begun state b.world.world b.events.items b.lines b.cut world lines events)
+    ok_three _ _ _ _ c.follow.result (λ b world lines events. follows c.args.verified.config c.args.source.now c.args.text.now c.args.state.now c.requires begun state b.world.world b.events b.lines b.cut world lines events)
     c.follow.ensures.world c.follow.ensures.lines c.follow.ensures.events
 
 pub returns-in-Ok-clause-fault : goal.returns-in-Ok-clause-fault

@@ -6,7 +6,7 @@ use Rattle.lift_state.proofs.begin.open.Goals as goal
 
 pub returns-in-Ok-clause-few : goal.returns-in-Ok-clause-few
 returns-in-Ok-clause-few c =
-    ok_both _ _ _ c.opened.result (λ b events lines. few_opened c.sizes.result.cars c.args.text.now c.in-Ok.front.events.items b.events.items c.in-Ok.front.cut b.lines c.in-Ok.ensures events lines)
+    ok_both _ _ _ c.opened.result (λ b events lines. few_opened c.sizes.result.cars c.args.text.now c.in-Ok.front.events b.events c.in-Ok.front.cut b.lines c.in-Ok.ensures events lines)
     c.opened.ensures.events c.opened.ensures.lines
 
 pub returns-in-Err-clause-fault : goal.returns-in-Err-clause-fault

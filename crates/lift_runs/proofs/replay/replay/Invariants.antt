@@ -1,7 +1,0 @@
-use Rattle.std.proofs.Common.{◌≡◌, take}
-use Rattle.lift_journal.specs.Rounds.{TakesAll}
-use Rattle.lift_runs.proofs.replay.replay.Given as goal
-
--- the events so far were taken
-abbrev pub invariant-events : goal.invariant-events
-invariant-events l = TakesAll l.initial.world.program.config l.initial.world.world (take l.index l.events) l.world.world × (l.world.program ≡ l.initial.world.program)
