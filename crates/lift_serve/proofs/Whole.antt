@@ -1,5 +1,5 @@
 -- Behind whole lines no scan is open.
-use Rattle.std.proofs.Common.{◌≡◌, ℕ, zero, suc, ◌+◌, ◌≤◌, ◌<◌, ◌⊎◌, inl, inr, ◌==◌, Bool, true, false, List, [], ◌∷◌, ◌++◌, length, length-append, take, if◌then◌else◌, refl, sym, ap, ◌∙◌, subst, arith, zero-add, Option}
+use Rattle.std.proofs.Common.{◌≡◌, ℕ, zero, suc, ◌+◌, ◌≤◌, ◌<◌, ◌⊎◌, inl, inr, ◌==◌, Bool, true, false, List, [], ◌∷◌, ◌++◌, length, length-append, take, drop, Some, if◌then◌else◌, refl, sym, ap, ◌∙◌, subst, arith, zero-add, Option}
 use Rattle.std.proofs.lemmas.Bool.Decides.{nat_tests}
 use Rattle.std.specs.Prelude.{nat_lt, ◌&&◌, get_or, slice_get, slice_set, is_some}
 use Rattle.il_spec.specs.declared.tree.Config.{Config}
@@ -21,6 +21,7 @@ use Rattle.lift_run_laws.proofs.Accepted.{opens_well, scans_well}
 use Rattle.lift_run_laws.proofs.Running.{reached_world_holds}
 use Rattle.lift_journal.proofs.Along.{along, along_reached}
 use Rattle.lift_serve.specs.Going.{opened, are_shut, ends_line, whole_from, all_shut, whole_events}
+use Rattle.lift_trace.proofs.Left.{left_after}
 
 -- whose scans are open behind events, one behind the other
 abbrev along_all : List Bool → List TraceEvent → List Bool
@@ -168,3 +169,29 @@ refused_within c w events n index why r =
     let both = length-append r.first (r.event ∷ r.rest) in
     let behind = r.behind in
     omega (arith, fits, both, behind)
+
+-- THE COUNT, ONE EVENT MORE
+
+-- how many stand in whole lines after an event
+abbrev pub whole_after : ℕ → TraceEvent → List Bool → ℕ → ℕ → ℕ
+whole_after last e marks count whole = if ends_line last e && are_shut (opened marks e) then count + 1 else whole
+
+pub whole_more : (last : ℕ) (events : List TraceEvent) (count : ℕ) (marks now : List Bool) (e : TraceEvent) (whole next : ℕ) → slice_get events count ≡ Some e → now ≡ opened marks e → next ≡ whole_after last e marks count whole
+    → whole_from last marks whole count (drop count events) ≡ whole_from last now next (count + 1) (drop (count + 1) events)
+whole_more last events count marks now e whole next at is_now is_next =
+    ap (whole_from last marks whole count) (left_after events count e at)
+    ∙ ap (λ n. whole_from last (opened marks e) n (count + 1) (drop (count + 1) events)) (sym is_next)
+    ∙ ap (λ m. whole_from last m next (count + 1) (drop (count + 1) events)) (sym is_now)
+
+-- a line ends
+pub line_ends : (last : ℕ) (e : TraceEvent) (marks now : List Bool) (count whole : ℕ) → now ≡ opened marks e → ends_line last e ≡ true → are_shut now ≡ true → count + 1 ≡ whole_after last e marks count whole
+line_ends last e marks now count whole is_now ends shut =
+    sym (ap (λ b. if b && are_shut (opened marks e) then count + 1 else whole) ends ∙ ap (λ b. if true && b then count + 1 else whole) (ap are_shut (sym is_now) ∙ shut))
+
+-- it goes on: the event can't end it, or a scan is open
+pub line_goes_on : (last : ℕ) (e : TraceEvent) (marks : List Bool) (count whole : ℕ) → ends_line last e ≡ false → whole ≡ whole_after last e marks count whole
+line_goes_on last e marks count whole no = sym (ap (λ b. if b && are_shut (opened marks e) then count + 1 else whole) no)
+
+pub scan_is_open : (last : ℕ) (e : TraceEvent) (marks now : List Bool) (count whole : ℕ) → now ≡ opened marks e → ends_line last e ≡ true → are_shut now ≡ false → whole ≡ whole_after last e marks count whole
+scan_is_open last e marks now count whole is_now ends still =
+    sym (ap (λ b. if b && are_shut (opened marks e) then count + 1 else whole) ends ∙ ap (λ b. if true && b then count + 1 else whole) (ap are_shut (sym is_now) ∙ still))

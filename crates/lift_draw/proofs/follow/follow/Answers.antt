@@ -19,6 +19,6 @@ events-preserved c =
       at_next c.args.events.now c.events.index c.events.left c.next.new.self c.events.invariant.0 c.next.ensures.all c.in-Some.ensures.moves,
       takes_next c.args.world.now.program.config c.args.events.now c.events.index e c.args.world.now.world c.events.world.world c.take.new.world.world
           (event_at c.args.events.now c.events.index c.events.left e c.events.invariant.0 c.in-Some.ensures.found) c.events.invariant.1
-          (subst (λ (p : Program). Takes p.config c.events.world.world e c.take.new.world.world) c.events.invariant.2 c.in_default.ensures.taken),
+          (subst (λ (p : Program). Takes p.config c.events.world.world e c.take.new.world.world) c.events.invariant.2 c.in_default-take.ensures.taken),
       c.take.ensures.same ∙ c.events.invariant.2,
     )
