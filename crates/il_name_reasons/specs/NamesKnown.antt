@@ -1,6 +1,10 @@
 -- The names that could have been meant (own rules).
 use Rattle.std.specs.Prelude.{if◌then◌else◌, List, [], ◌∷◌, ◌++◌, map, flat_map, is_some, codes}
 use Rattle.il_spec.specs.declared.tree.Config.{Config}
+use Rattle.il_spec.specs.declared.tree.Declaration.{Declaration}
+use Rattle.il_spec.specs.declared.tree.Form.{Form}
+use Rattle.il_spec.specs.declared.tree.Form.TheVariants.{Scalar as OfScalar, Array as OfArray, Block as OfBlock}
+use Rattle.il_spec.specs.declared.tree.Named.{Named}
 use Rattle.il_spec.specs.declared.tree.Unit.{Unit as ProgramUnit}
 use Rattle.il_rules.specs.Names.{Spelling, ImageName, image_of, variable_named, is_function, is_function_block, standard_functions, standard_blocks}
 use Rattle.il_rules.specs.Declarations.{names_in, unit_names}
@@ -33,6 +37,20 @@ variables_near config unit =
     own_function unit
     ++ (map declared_name (unit_names unit)
     ++ (globals_near config ++ images_near config unit))
+
+-- names that are declared with a form: of a block, its instances; of any other, none
+abbrev pub instances_by : Form → List Named → List Known
+instances_by (OfScalar scalar) names = []
+instances_by (OfArray bounds element) names = []
+instances_by (OfBlock block) names = map declared_name names
+
+-- the instances of a declaration
+abbrev pub declared_instances : Declaration → List Known
+declared_instances d = instances_by d.declared.form d.names
+
+-- the instances of a unit (2.5.2.1)
+abbrev pub instances_near : ProgramUnit → List Known
+instances_near unit = flat_map declared_instances unit.variables
 
 -- the words of the elementary types (2.3.1)
 unfoldable pub type_words : List Spelling

@@ -30,7 +30,7 @@ use Rattle.il_name_reasons.specs.declared.names_meant.Access.{Access}
 use Rattle.il_name_reasons.specs.declared.names_meant.Access.TheVariants.{Reads, Stores}
 use Rattle.il_name_reasons.specs.NameSpots.{is_at}
 use Rattle.il_name_reasons.specs.NamesNear.{Known, Nearest, nearest, ending}
-use Rattle.il_name_reasons.specs.NamesKnown.{variables_near, globals_near, functions_near, types_near}
+use Rattle.il_name_reasons.specs.NamesKnown.{variables_near, instances_near, globals_near, functions_near, types_near}
 
 -- WHAT A NAME MEANS
 
@@ -112,6 +112,10 @@ unknown_text name known = unknown_line name (nearest name known)
 abbrev pub unknown_variable : Config → ProgramUnit → Spelling → List ℕ
 unknown_variable config unit name = if is_predeclared config name then unseen_line name else unknown_text name (variables_near config unit)
 
+-- a name that means nothing where an instance stands: only instances could have been meant
+abbrev pub unknown_instance : Config → ProgramUnit → Spelling → List ℕ
+unknown_instance config unit name = if is_predeclared config name then unseen_line name else unknown_text name (instances_near unit)
+
 -- where a scalar variable stands: no instance, and nothing but a variable
 abbrev pub scalar_by : Config → ProgramUnit → Spelling → Meant → List ℕ
 scalar_by config unit name Nothing = unknown_variable config unit name
@@ -124,7 +128,7 @@ scalar_by config unit name Standard = standard_line name
 abbrev pub scalar_text : Config → ProgramUnit → Spelling → List ℕ
 scalar_text config unit name = scalar_by config unit name (meant config unit name)
 
--- before an index and behind CAL: a name that means nothing
+-- before an index: a name that means nothing
 abbrev pub meaning_by : Config → ProgramUnit → Spelling → Meant → List ℕ
 meaning_by config unit name Nothing = unknown_variable config unit name
 meaning_by config unit name SingleVariable = []
@@ -135,6 +139,18 @@ meaning_by config unit name Standard = []
 
 abbrev pub meaning_text : Config → ProgramUnit → Spelling → List ℕ
 meaning_text config unit name = meaning_by config unit name (meant config unit name)
+
+-- after CAL: a name that means nothing
+abbrev pub called_by : Config → ProgramUnit → Spelling → Meant → List ℕ
+called_by config unit name Nothing = unknown_instance config unit name
+called_by config unit name SingleVariable = []
+called_by config unit name ArrayVariable = []
+called_by config unit name Instance = []
+called_by config unit name OwnUnit = []
+called_by config unit name Standard = []
+
+abbrev pub called_text : Config → ProgramUnit → Spelling → List ℕ
+called_text config unit name = called_by config unit name (meant config unit name)
 
 -- an index (2.4.1.2)
 abbrev pub index_text : Config → ProgramUnit → Index → List ℕ
@@ -152,7 +168,7 @@ word_text config unit access name word = if is_visible (rule_access access) (ins
 
 -- before a dot: an instance
 abbrev pub member_by : Config → ProgramUnit → Access → Spelling → Spelling → Meant → List ℕ
-member_by config unit access name word Nothing = unknown_variable config unit name
+member_by config unit access name word Nothing = unknown_instance config unit name
 member_by config unit access name word SingleVariable = no_instance_line name
 member_by config unit access name word ArrayVariable = no_instance_line name
 member_by config unit access name word Instance = word_text config unit access name word
@@ -198,7 +214,7 @@ instruction_text config unit (Defer operator first) = short_form_text config uni
 instruction_text config unit Evaluate = []
 instruction_text config unit (Jump condition label) = []
 instruction_text config unit (Return condition) = []
-instruction_text config unit (Call condition instance arguments) = meaning_text config unit instance.name ++ flat_map (argument_text config unit) arguments
+instruction_text config unit (Call condition instance arguments) = called_text config unit instance.name ++ flat_map (argument_text config unit) arguments
 instruction_text config unit (Invoke function operands) = function_text config function.name ++ flat_map (read_text config unit) operands
 
 -- DECLARATIONS

@@ -4,13 +4,13 @@ ghost use Rattle.std.specs.Prelude.{◌≡◌, ◌++◌, ◌∷◌, [], IfOk, On
 ghost use Rattle.il_rules.specs.Declarations.{unit_names};
 ghost use Rattle.il_rules.specs.Names.{standard_functions, standard_blocks};
 ghost use Rattle.il_name_reasons.specs.NamesNear.{candidate_shown, known_name, declared_name, predeclared_name};
-ghost use Rattle.il_name_reasons.specs.NamesKnown.{own_function, own_block, seen_image, images_near, globals_near, variables_near, type_words, operator_words, functions_near, types_near};
+ghost use Rattle.il_name_reasons.specs.NamesKnown.{own_function, own_block, seen_image, images_near, globals_near, variables_near, declared_instances, instances_near, type_words, operator_words, functions_near, types_near};
 
 use crate::names_near::{Candidate, push_spots};
 use crate::names_spots::{declared_spots, unit_spots};
 use il_rules::standard::{NamedBlock, NamedFunction, standard_blocks, standard_functions};
 use il_scope::{ImageRow, UnitScope, image_rows};
-use il_spec::tree::{Config, Unit, UnitKind};
+use il_spec::tree::{Config, Declaration, Form, Named, Unit, UnitKind};
 use std::alloc::{AllocError, Global};
 
 // A word of the language.
@@ -81,6 +81,15 @@ pub fn variables_near<'c>(
     push_own(alloc, &mut candidates, here.tree())?;
     push_globals(alloc, &mut candidates, here.names().config())?;
     push_images(&mut candidates, here)?;
+    Ok(candidates)
+}
+
+/// The instances that a unit declares (IEC 61131-3:2003, 2.5.2.1).
+pub fn instances_near<'c>(alloc: Global, unit: &'c Unit) -> Result<Vec<Candidate<'c>>, AllocError>
+    ensures { IfOk result (λ k. map candidate_shown k.items ≡ instances_near unit.now) }
+{
+    let mut candidates = Vec::new(alloc);
+    push_instances(&mut candidates, unit.variables.as_slice())?;
     Ok(candidates)
 }
 
@@ -193,6 +202,49 @@ fn push_own<'c>(
 {
     let spots = unit_spots(alloc, unit)?;
     push_spots(candidates, spots.as_slice())
+}
+
+// Adds the instances that declarations give.
+fn push_instances<'c>(
+    candidates: &mut Vec<Candidate<'c>>,
+    declarations: &'c [Declaration],
+) -> Result<(), AllocError>
+    ensures { OnOk result (map candidate_shown candidates.new.items
+        ≡ map candidate_shown candidates.old.items
+        ++ flat_map declared_instances declarations.now) }
+{
+    'declarations: for declaration in declarations {
+        push_instances_of(candidates, declaration)?;
+    }
+    Ok(())
+}
+
+// Adds the names of a declaration, if its type is a block.
+fn push_instances_of<'c>(
+    candidates: &mut Vec<Candidate<'c>>,
+    declaration: &'c Declaration,
+) -> Result<(), AllocError>
+    ensures { OnOk result (map candidate_shown candidates.new.items
+        ≡ map candidate_shown candidates.old.items ++ declared_instances declaration.now) }
+{
+    match &declaration.declared.form {
+        Form::Block(_) => push_names(candidates, declaration.names.as_slice()),
+        _ => Ok(()),
+    }
+}
+
+// Adds declared names.
+fn push_names<'c>(
+    candidates: &mut Vec<Candidate<'c>>,
+    names: &'c [Named],
+) -> Result<(), AllocError>
+    ensures { OnOk result (map candidate_shown candidates.new.items
+        ≡ map candidate_shown candidates.old.items ++ map declared_name names.now) }
+{
+    'names: for named in names {
+        push_known(candidates, named.name.as_str(), Some(named.place.line))?;
+    }
+    Ok(())
 }
 
 // Adds the globals.

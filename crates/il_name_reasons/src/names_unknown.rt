@@ -5,9 +5,9 @@ ghost use Rattle.base_texts.specs.Puts.{Puts};
 ghost use Rattle.il_rules.specs.Names.{block_variables, function_named};
 ghost use Rattle.il_name_reasons.specs.NamesNear.{near_shown, candidate_shown, nearest};
 ghost use Rattle.il_name_reasons.specs.NamesKnown.{functions_near};
-ghost use Rattle.il_name_reasons.specs.NamesUnknown.{unknown_line, unseen_line, no_function_line, instance_line, unit_line, standard_line, no_instance_line, no_word, unknown_text, unknown_variable, scalar_text, meaning_text, index_text, word_text, member_text, reference_text, read_text, argument_text, function_text, instruction_text, block_text, type_text, global_text, external_text, externals_text, types_text, unit_text, unknown_lines};
+ghost use Rattle.il_name_reasons.specs.NamesUnknown.{unknown_line, unseen_line, no_function_line, instance_line, unit_line, standard_line, no_instance_line, no_word, unknown_text, unknown_variable, unknown_instance, scalar_text, meaning_text, called_text, index_text, word_text, member_text, reference_text, read_text, argument_text, function_text, instruction_text, block_text, type_text, global_text, external_text, externals_text, types_text, unit_text, unknown_lines};
 
-use crate::names_known::{functions_near, globals_near, types_near, variables_near};
+use crate::names_known::{functions_near, globals_near, instances_near, types_near, variables_near};
 use crate::names_meant::{Access, Meant, is_visible, meaning_of};
 use crate::names_near::{Candidate, Near, nearest, put_ended};
 use crate::names_spots::is_at;
@@ -226,7 +226,7 @@ pub fn put_instruction(
             arguments,
             ..
         } => {
-            put_meaning(alloc, text, here, instance.name.as_str())?;
+            put_called(alloc, text, here, instance.name.as_str())?;
             put_arguments(alloc, text, here, arguments.as_slice())
         }
         Instruction::Invoke { function, operands } => {
@@ -388,7 +388,7 @@ fn put_scalar(
     }
 }
 
-// A name before an index or behind CAL.
+// A name before an index.
 fn put_meaning(
     alloc: Global,
     text: &mut String,
@@ -404,7 +404,23 @@ fn put_meaning(
     }
 }
 
-// A name before a dot, and the word behind it.
+// A name after CAL.
+fn put_called(
+    alloc: Global,
+    text: &mut String,
+    here: &UnitScope<'_>,
+    name: &str,
+) -> Result<(), AllocError>
+    ensures { OnOk result (Puts text.old text.new
+        (called_text here.now.config here.now.unit name.now)) }
+{
+    match meaning_of(here, name) {
+        Meant::Nothing => put_unknown_instance(alloc, text, here, name),
+        _ => Ok(()),
+    }
+}
+
+// A name before a dot, and the word after it.
 fn put_member(
     alloc: Global,
     text: &mut String,
@@ -417,7 +433,7 @@ fn put_member(
         (member_text here.now.config here.now.unit access name.now word.now)) }
 {
     match meaning_of(here, name) {
-        Meant::Nothing => put_unknown_variable(alloc, text, here, name),
+        Meant::Nothing => put_unknown_instance(alloc, text, here, name),
         Meant::Instance => put_word(text, here, access, name, word),
         _ => put_no_instance_line(text, name),
     }
@@ -466,6 +482,23 @@ fn put_unknown_variable(
         return put_unseen_line(text, name);
     }
     let known = variables_near(alloc, here)?;
+    put_unknown(alloc, text, name, known.as_slice())
+}
+
+// A name that means nothing in a unit, where an instance stands.
+fn put_unknown_instance(
+    alloc: Global,
+    text: &mut String,
+    here: &UnitScope<'_>,
+    name: &str,
+) -> Result<(), AllocError>
+    ensures { OnOk result (Puts text.old text.new
+        (unknown_instance here.now.config here.now.unit name.now)) }
+{
+    if here.names().is_predeclared(name) {
+        return put_unseen_line(text, name);
+    }
+    let known = instances_near(alloc, here.tree())?;
     put_unknown(alloc, text, name, known.as_slice())
 }
 

@@ -2,11 +2,12 @@
 
 ghost use Rattle.std.specs.Prelude.{◌≡◌, OnOk};
 ghost use Rattle.base_texts.specs.Puts.{Puts};
-ghost use Rattle.il_type_reasons.specs.TypeWords.{type_word, truth_word, is_text, literal_line};
+ghost use Rattle.il_type_reasons.specs.TypeWords.{type_word, truth_word, is_text, fit_text, fits_text, fits_all, fits_one, fitting_text, bare_line, literal_line};
 ghost use Rattle.il_type_reasons.specs.TypeReasons.{name_line, index_line, element_line, member_line, reference_lines, operands_lines, argument_lines, arguments_lines, operand_lines};
 
 use crate::range_words::put_index;
-use il_name_reasons::writing::{put_four, put_three};
+use il_name_reasons::writing::{put_four, put_three, put_two};
+use il_rules::elementary::has_value;
 use il_spec::tree::{Argument, Elementary, Index, Instruction, Literal, Operand, Reference};
 use il_typed::scope::Scope;
 use std::alloc::AllocError;
@@ -41,7 +42,68 @@ pub fn put_is(text: &mut String, found: Elementary) -> Result<(), AllocError>
     put_three(text, " is ", type_word(found), "\n")
 }
 
-/// `5 is a bare number`, `INT#5 is INT`
+// ` INT`, where the type has a number.
+fn put_fit(text: &mut String, value: i64, elementary: Elementary) -> Result<(), AllocError>
+    ensures { OnOk result (Puts text.old text.new (fit_text value elementary)) }
+{
+    if has_value(elementary, value) {
+        put_two(text, " ", type_word(elementary))
+    } else {
+        Ok(())
+    }
+}
+
+// The integer types that have a number.
+fn put_fits(text: &mut String, value: i64) -> Result<(), AllocError>
+    ensures { OnOk result (Puts text.old text.new (fits_text value)) }
+{
+    put_fit(text, value, Elementary::Sint)?;
+    put_fit(text, value, Elementary::Int)?;
+    put_fit(text, value, Elementary::Dint)?;
+    put_fit(text, value, Elementary::Usint)?;
+    put_fit(text, value, Elementary::Uint)?;
+    put_fit(text, value, Elementary::Udint)
+}
+
+// Whether all integer types have a number.
+fn fits_all(value: i64) -> bool
+    ensures { result ≡ fits_all value }
+{
+    has_value(Elementary::Sint, value) && has_value(Elementary::Usint, value)
+}
+
+// Whether an integer type has a number.
+fn fits_one(value: i64) -> bool
+    ensures { result ≡ fits_one value }
+{
+    has_value(Elementary::Dint, value) || has_value(Elementary::Udint, value)
+}
+
+// Of a number that some integer types have and some don't, those that have it.
+#[tactic(auto, unfolding(crate::specs::TypeWords::fitting_text))]
+fn put_fitting(text: &mut String, value: i64) -> Result<(), AllocError>
+    ensures { OnOk result (Puts text.old text.new (fitting_text value)) }
+{
+    if fits_all(value) {
+        Ok(())
+    } else if fits_one(value) {
+        text.push_str("; it fits")?;
+        put_fits(text, value)
+    } else {
+        text.push_str("; it fits no integer type")
+    }
+}
+
+// `40000 is a bare number; it fits DINT UINT UDINT`
+fn put_bare(text: &mut String, value: i64) -> Result<(), AllocError>
+    ensures { OnOk result (Puts text.old text.new (bare_line value)) }
+{
+    write!(text, "{} is a bare number", value)?;
+    put_fitting(text, value)?;
+    text.push_str("\n")
+}
+
+/// `5 is a bare number`, `INT#5 is INT`; of a number that not every integer type has, those that have it.
 pub fn put_literal(text: &mut String, literal: Literal) -> Result<(), AllocError>
     ensures { OnOk result (Puts text.old text.new (literal_line literal)) }
 {
@@ -50,7 +112,7 @@ pub fn put_literal(text: &mut String, literal: Literal) -> Result<(), AllocError
             text.push_str(truth_word(value))?;
             put_is(text, Elementary::Bool)
         }
-        Literal::Bare(value) => writeln!(text, "{} is a bare number", value),
+        Literal::Bare(value) => put_bare(text, value),
         Literal::Whole(written, value) => {
             write!(text, "{}#{}", type_word(written), value)?;
             put_is(text, written)

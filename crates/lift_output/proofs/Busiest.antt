@@ -1,5 +1,5 @@
--- The search for the unit that does the most work, one unit more.
-use Rattle.std.proofs.Common.{◌≡◌, ℕ, ◌+◌, ◌<◌, List, ◌∷◌, drop, length, get_or, map, Option, Some, refl, sym, ap, ◌∙◌, slice_get}
+-- The work of units, one unit more.
+use Rattle.std.proofs.Common.{◌≡◌, ℕ, ◌+◌, ◌<◌, List, ◌∷◌, ◌++◌, append_assoc, flat_map, drop, length, get_or, map, Option, Some, refl, sym, ap, ◌∙◌, slice_get}
 use Rattle.std.specs.Prelude.{option_map}
 use Rattle.std.proofs.lemmas.List.{at_drop_more}
 use Rattle.std.proofs.lemmas.Option.{slice_get-get_or, slice_get-map}
@@ -9,6 +9,7 @@ use Rattle.il_table.specs.NameMap.{Text}
 use Rattle.il_order.specs.Counted.{number_at, number_in}
 use Rattle.il_work_laws.specs.Work.{most_work}
 use Rattle.il_work.specs.Sizes.{capped}
+use Rattle.lift_output.specs.Busy.{busy_by, busy_text}
 use Rattle.lift_output.specs.Limits.{UnitUse, most_of, with_more, work_use}
 
 use_of : (a b : Text) (m n : ℕ) → a ≡ b → m ≡ n → ◌≡◌ {A = UnitUse} (record { name = a; used = m }) (record { name = b; used = n })
@@ -25,3 +26,13 @@ module _ (c : Config) (units : List ProgramUnit) (works : List ℕ) (are : works
       let same : record { name = name; used = used } ≡ work_use c u = use_of name u.name.name used (capped (most_work c u)) named most in
       let later : map (work_use c) (drop at units) ≡ work_use c u ∷ map (work_use c) (drop (at + 1) units) = at_drop_more (map (work_use c)) units at u low ∙ ap (λ (v : ProgramUnit). work_use c v ∷ map (work_use c) (drop (at + 1) units)) (sym is) in
       ap (λ n. most_of (Some n) (map (work_use c) (drop (at + 1) units))) (is_shown ∙ ap (with_more best) same) ∙ sym (ap (most_of best) later) ∙ before
+
+  -- a line of a unit of much work
+  pub busy_more : (at : ℕ) (u : ProgramUnit) (used : ℕ) (text now whole : List ℕ) → at < length units → u ≡ get_or units at u → used ≡ number_at works at → now ≡ text ++ busy_by used u
+      → text ++ flat_map (busy_text c) (drop at units) ≡ whole → now ++ flat_map (busy_text c) (drop (at + 1) units) ≡ whole
+  busy_more at u used text now whole low is is_used is_now before =
+      let stands : slice_get units at ≡ Some u = slice_get-get_or units at u low ∙ ap Some (sym is) in
+      let most : used ≡ capped (most_work c u) = is_used ∙ ap (λ ws. number_at ws at) are ∙ ap number_in (slice_get-map (λ v. capped (most_work c v)) units at ∙ ap (option_map (λ v. capped (most_work c v))) stands) in
+      let rest = flat_map (busy_text c) (drop (at + 1) units) in
+      let later : flat_map (busy_text c) (drop at units) ≡ busy_text c u ++ rest = at_drop_more (flat_map (busy_text c)) units at u low ∙ ap (λ (v : ProgramUnit). busy_text c v ++ rest) (sym is) in
+      ap (λ (t : List ℕ). t ++ rest) (is_now ∙ ap (λ n. text ++ busy_by n u) most) ∙ append_assoc text (busy_text c u) rest ∙ ap (λ (t : List ℕ). text ++ t) (sym later) ∙ before

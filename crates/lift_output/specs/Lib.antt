@@ -1,3 +1,4 @@
+pub mod Busy
 pub mod ImageText
 pub mod Limits
 pub mod Listing

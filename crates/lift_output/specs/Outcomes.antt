@@ -58,6 +58,7 @@ use Rattle.lift_spec.specs.Image.{sizes_of}
 use Rattle.lift_spec.specs.World.{World, opening}
 use Rattle.lift_trace.specs.Written.{text_of_entries}
 use Rattle.il_reports.specs.Warnings.{warnings_text}
+use Rattle.lift_output.specs.Busy.{busy_lines}
 use Rattle.il_reports.specs.Xref.{xref_in}
 use Rattle.lift_watch.specs.declared.names.Watched.{Watched}
 use Rattle.lift_watch.specs.Calls.{IsLogOf}
@@ -86,9 +87,9 @@ check_shown form ranged true program bytes = listing form ranged program ++ limi
 abbrev pub IsCheckOutcome : Checked → Program → ℕ → Outcome → Type 0
 IsCheckOutcome asked program bytes = IsPrinted (check_shown (form_of asked.json) asked.paths asked.limits program bytes)
 
--- what a request warns of: `check` of what is in vain, where that is asked for
+-- what a request warns of: `check` of what has no effect and of much work, where that is asked for
 abbrev pub asked_warnings : Bool → Program → Option (List ℕ)
-asked_warnings true program = Some (warnings_text program.config)
+asked_warnings true program = Some (warnings_text program.config ++ busy_lines program.config)
 asked_warnings false program = None
 
 -- an output has these warnings

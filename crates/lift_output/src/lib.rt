@@ -1,6 +1,7 @@
 //! What the commands print over a verified configuration.
 #![tactic(auto)]
 
+mod busy;
 pub mod check;
 pub mod image;
 pub mod limits;

@@ -460,7 +460,7 @@ fn chain_through(used: &Relation, lengths: &Items<usize>, from: usize, to: usize
 }
 
 // A number of a list.
-fn number_at(numbers: &Items<usize>, at: usize) -> usize
+pub(crate) fn number_at(numbers: &Items<usize>, at: usize) -> usize
     ensures { result ≡ number_at numbers.now at }
 {
     match numbers.as_slice().get(at) {

@@ -21,6 +21,7 @@ ghost use Rattle.lift_workers.specs.Ran.{IsRun};
 ghost use Rattle.lift_messages.specs.Outputs.{bytes_of, warnings_of};
 ghost use Rattle.lift_trace.specs.Written.{text_of_entries};
 
+use crate::busy::put_busy;
 use crate::check::check_text;
 use crate::image::image_text;
 use crate::limits::put_limits;
@@ -160,7 +161,8 @@ fn listed(
     if !asked.warns {
         return Ok(Output::Text(text));
     }
-    let warnings = warnings_text(alloc, verified.config())?;
+    let mut warnings = warnings_text(alloc, verified.config())?;
+    put_busy(alloc, &mut warnings, verified.names())?;
     Ok(Output::Warned(Warned { text, warnings }))
 }
 
