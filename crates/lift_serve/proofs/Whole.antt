@@ -190,7 +190,7 @@ line_ends last e marks now count whole is_now ends shut =
 
 -- it goes on: the event can't end it, or a scan is open
 pub line_goes_on : (last : ℕ) (e : TraceEvent) (marks : List Bool) (count whole : ℕ) → ends_line last e ≡ false → whole ≡ whole_after last e marks count whole
-line_goes_on last e marks count whole no = sym (ap (λ b. if b && are_shut (opened marks e) then count + 1 else whole) no)
+line_goes_on last e marks count whole never = sym (ap (λ b. if b && are_shut (opened marks e) then count + 1 else whole) never)
 
 pub scan_is_open : (last : ℕ) (e : TraceEvent) (marks now : List Bool) (count whole : ℕ) → now ≡ opened marks e → ends_line last e ≡ true → are_shut now ≡ false → whole ≡ whole_after last e marks count whole
 scan_is_open last e marks now count whole is_now ends still =
