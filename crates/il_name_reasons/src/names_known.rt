@@ -234,10 +234,7 @@ fn push_instances_of<'c>(
 }
 
 // Adds declared names.
-fn push_names<'c>(
-    candidates: &mut Vec<Candidate<'c>>,
-    names: &'c [Named],
-) -> Result<(), AllocError>
+fn push_names<'c>(candidates: &mut Vec<Candidate<'c>>, names: &'c [Named]) -> Result<(), AllocError>
     ensures { OnOk result (map candidate_shown candidates.new.items
         ≡ map candidate_shown candidates.old.items ++ map declared_name names.now) }
 {

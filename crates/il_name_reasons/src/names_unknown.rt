@@ -7,7 +7,9 @@ ghost use Rattle.il_name_reasons.specs.NamesNear.{near_shown, candidate_shown, n
 ghost use Rattle.il_name_reasons.specs.NamesKnown.{functions_near};
 ghost use Rattle.il_name_reasons.specs.NamesUnknown.{unknown_line, unseen_line, no_function_line, instance_line, unit_line, standard_line, no_instance_line, no_word, unknown_text, unknown_variable, unknown_instance, scalar_text, meaning_text, called_text, index_text, word_text, member_text, reference_text, read_text, argument_text, function_text, instruction_text, block_text, type_text, global_text, external_text, externals_text, types_text, unit_text, unknown_lines};
 
-use crate::names_known::{functions_near, globals_near, instances_near, types_near, variables_near};
+use crate::names_known::{
+    functions_near, globals_near, instances_near, types_near, variables_near,
+};
 use crate::names_meant::{Access, Meant, is_visible, meaning_of};
 use crate::names_near::{Candidate, Near, nearest, put_ended};
 use crate::names_spots::is_at;

@@ -90,11 +90,7 @@ fn fault_of_state(error: StateError) -> Fault
 }
 
 // A trace of events behind the opening.
-fn opened<'t>(
-    alloc: Global,
-    verified: Verified,
-    front: Front<'t>,
-) -> Result<Beginning<'t>, Fault>
+fn opened<'t>(alloc: Global, verified: Verified, front: Front<'t>) -> Result<Beginning<'t>, Fault>
     ensures world { IfOk result (λ b. b.world.world ≡ opening verified.config) }
     ensures same { IfOk result (λ b. b.world.program ≡ verified) }
     ensures events { IfOk result (λ b. b.events ≡ front.entry.events) }
@@ -113,11 +109,7 @@ fn opened<'t>(
 }
 
 // A trace of format 1 or 2, from the opening.
-fn open<'t>(
-    alloc: Global,
-    verified: Verified,
-    text: &'t [u8],
-) -> Result<Beginning<'t>, Fault>
+fn open<'t>(alloc: Global, verified: Verified, text: &'t [u8]) -> Result<Beginning<'t>, Fault>
     requires { HasNoState text.now }
     ensures begins { (source : List ℕ) → IfOk result (λ b. BeginsTrace verified.config source
         text.now b.world.world b.events b.lines b.cut) }
@@ -164,11 +156,7 @@ fn moved(cut: Option<u32>, lines: u32) -> Option<u32>
 }
 
 // A trace of events behind a state.
-fn follow<'t>(
-    alloc: Global,
-    verified: Verified,
-    begun: Begun<'t>,
-) -> Result<Beginning<'t>, Fault>
+fn follow<'t>(alloc: Global, verified: Verified, begun: Begun<'t>) -> Result<Beginning<'t>, Fault>
     requires program { begun.core.config ≡ verified.config }
     requires seated { IsSeated begun.core.config begun.core.group }
     requires lines { 1 ≤ begun.lines }

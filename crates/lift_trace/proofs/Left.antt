@@ -54,18 +54,21 @@ next_event format cars text count index events l more =
     let others = drop (index + 1) events in
     let split : drop index events ≡ e ∷ others = next.2 ∙ ap (λ n. e ∷ drop n events) one in
     let traced : AreTraced format cars (e ∷ others) = subst (AreTraced format cars) split l.begins.traced in
-    let behind = event_lines format others ++ l.begins.behind in
-    (e, behind, record {
-      traced = traced.0;
-      line = l.begins.whole ∙ ap (λ (es : List TraceEvent). event_lines format es ++ l.begins.behind) split ∙ lines_of_more format e others l.begins.behind;
-      there = next.1;
-      left = record {
-        begins = record { traced = traced.1; behind = l.begins.behind; whole = refl };
-        counted = l.counted;
-        within = omega (arith, l.within, more);
-        few = l.few;
-      };
-    })
+    let behind = event_lines format others ++ l.begins.behind in (
+      e,
+      behind,
+      record {
+        traced = traced.0;
+        line = l.begins.whole ∙ ap (λ (es : List TraceEvent). event_lines format es ++ l.begins.behind) split ∙ lines_of_more format e others l.begins.behind;
+        there = next.1;
+        left = record {
+          begins = record { traced = traced.1; behind = l.begins.behind; whole = refl };
+          counted = l.counted;
+          within = omega (arith, l.within, more);
+          few = l.few;
+        };
+      },
+    )
 
 -- all of them are left at first
 pub all_left : (format : Format) (cars : ℕ) (text : List ℕ) (count : ℕ) (events : List TraceEvent) → IsTextOf format cars text count events → IsLeftOf format cars text count 0 events

@@ -22,11 +22,11 @@ events-preserved c =
     let e = c.in-Some.event in
     let there = event_at c.args.events.now c.events.count c.events.left e c.events.invariant.2 c.in-Some.ensures.found in
     let same : c.events.whole ≡ whole_after c.args.last e c.events.marks c.events.count c.events.whole =
-        elim c.else-ends_line.branch [
-          | else-ends_line-via-then-ends_line+else-are_shut w ↦
-              scan_is_open c.args.last e c.events.marks c.put_open.new.marks c.events.count c.events.whole c.put_open.ensures (sym c.ends_line.ensures ∙ w.if-ends_line.true) (sym w.are_shut.ensures ∙ w.if-are_shut.false)
-          | else-ends_line-via-else-ends_line w ↦ line_goes_on c.args.last e c.events.marks c.events.count c.events.whole (sym c.ends_line.ensures ∙ w.if-ends_line.false)
-        ] in (
+    elim c.else-ends_line.branch [
+      | else-ends_line-via-then-ends_line+else-are_shut w ↦
+          scan_is_open c.args.last e c.events.marks c.put_open.new.marks c.events.count c.events.whole c.put_open.ensures (sym c.ends_line.ensures ∙ w.if-ends_line.true) (sym w.are_shut.ensures ∙ w.if-are_shut.false)
+      | else-ends_line-via-else-ends_line w ↦ line_goes_on c.args.last e c.events.marks c.events.count c.events.whole (sym c.ends_line.ensures ∙ w.if-ends_line.false)
+    ] in (
       c.events.invariant.0 ∙ whole_more c.args.last c.args.events.now c.events.count c.events.marks c.put_open.new.marks e c.events.whole c.events.whole there c.put_open.ensures same,
       omega (arith, c.events.invariant.1),
       at_next c.args.events.now c.events.count c.events.left c.next.new.self c.events.invariant.2 c.next.ensures.all c.in-Some.ensures.moves,

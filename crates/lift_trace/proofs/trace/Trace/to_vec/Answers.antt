@@ -16,7 +16,7 @@ events-preserved c =
     let there : slice_get c.args.self.now c.events.events.1 ≡ Some c.in-Some.event = subst (λ (es : List TraceEvent). slice_get es c.events.events.1 ≡ Some c.in-Some.event) c.events.invariant.0 c.in-Some.ensures.found in (
       c.next.ensures.all ∙ c.events.invariant.0,
       c.in_ok-push.ensures.items ∙ ap (λ (es : List TraceEvent). es ++ c.in-Some.event ∷ []) c.events.invariant.1 ∙ sym (take_next c.args.self.now c.events.events.1 c.in-Some.event there)
-      ∙ ap (λ (n : ℕ). take n c.args.self.now) (sym c.in-Some.ensures.moves),
+          ∙ ap (λ (n : ℕ). take n c.args.self.now) (sym c.in-Some.ensures.moves),
     )
 
 pub returns : goal.returns
