@@ -1,5 +1,5 @@
 -- What is known of a trace's calls behind each of its events (own rules).
-use Rattle.std.specs.Prelude.{ℕ, zero, suc, ◌+◌, Bool, true, false, List, [], ◌∷◌, ◌++◌, slice_get, slice_set, Option, Some, None, ◌==◌, ◌&&◌, if◌then◌else◌}
+use Rattle.std.specs.Prelude.{ℕ, zero, suc, ◌+◌, ◌-◌, nat_lt, Bool, true, false, List, [], ◌∷◌, ◌++◌, slice_get, slice_set, Option, Some, None, ◌==◌, ◌&&◌, if◌then◌else◌}
 use Rattle.lift_spec.specs.declared.calls.Answer.{Answer}
 use Rattle.lift_spec.specs.declared.calls.Answer.TheVariants.{Done, Stale, NotYours, NoSlot}
 use Rattle.lift_spec.specs.declared.calls.Call.{Call}
@@ -48,15 +48,29 @@ abbrev pub all_entered_in : List EnteredCall → Log → Log
 all_entered_in [] log = log
 all_entered_in (entered ∷ calls) log = all_entered_in calls (entered_in entered log)
 
--- the journey of a ticket: tickets count from 1, in the order in which calls enter
+-- The place of a ticket. Tickets rise by one in the order in which calls enter. The first of a trace that goes on from another is not 1, and the tickets of
+-- calls that entered before have no place.
+abbrev pub place_of : ℕ → List Journey → Option ℕ
+place_of ticket [] = None
+place_of ticket (first ∷ journeys) = if nat_lt ticket first.ticket then None else Some (ticket - first.ticket)
+
+-- the journey of a place
+abbrev pub journey_in : Option ℕ → List Journey → Option Journey
+journey_in None journeys = None
+journey_in (Some place) journeys = slice_get journeys place
+
+-- the journey of a ticket
 abbrev pub journey_at : ℕ → List Journey → Option Journey
-journey_at zero journeys = None
-journey_at (suc k) journeys = slice_get journeys k
+journey_at ticket journeys = journey_in (place_of ticket journeys) journeys
+
+-- the journeys with another one in a place
+abbrev pub with_in : Option ℕ → Journey → List Journey → List Journey
+with_in None journey journeys = journeys
+with_in (Some place) journey journeys = slice_set journeys place journey
 
 -- the journeys with another one under a ticket
 abbrev pub with_journey : ℕ → Journey → List Journey → List Journey
-with_journey zero journey journeys = journeys
-with_journey (suc k) journey journeys = slice_set journeys k journey
+with_journey ticket journey journeys = with_in (place_of ticket journeys) journey journeys
 
 -- whether a car stands at a floor with its door wholly open; cars count from 1
 abbrev pub stands_open : ℕ → Option CarFields → Bool

@@ -1,7 +1,7 @@
 // What is known of a trace's calls.
 
 ghost use Rattle.std.specs.Prelude.{◌≡◌, ◌+◌, ◌^◌, ◌<◌, OnOk, option_map, option_copied};
-ghost use Rattle.lift_journeys.specs.Logs.{empty_log, pressed_in, beginning, entered_in, all_entered_in, journey_at, with_journey, stands_open, fields_of, boarded_first, boarded_under, boarded_from, all_boarded_from, refreshed_in, told_under, told_by, all_told_by, served_to, served_under, served_by, all_served_by, committed_in, in_next_round, boarded_in};
+ghost use Rattle.lift_journeys.specs.Logs.{empty_log, pressed_in, beginning, entered_in, all_entered_in, place_of, journey_at, with_journey, stands_open, fields_of, boarded_first, boarded_under, boarded_from, all_boarded_from, refreshed_in, told_under, told_by, all_told_by, served_to, served_under, served_by, all_served_by, committed_in, in_next_round, boarded_in};
 
 use crate::journey::{Journey, Moment, Served, Told};
 use crate::presses::{Pressed, Presses};
@@ -115,23 +115,39 @@ fn beginning(at: Moment, pressed: Option<u32>, entered: &EnteredCall) -> Journey
     }
 }
 
+// The place of a ticket: tickets rise by one from that of the first call.
+fn place_of(journeys: &[Journey], ticket: u64) -> Option<usize>
+    ensures { result ≡ place_of ticket journeys.now }
+{
+    match journeys {
+        [] => None,
+        [first, ..] => {
+            if ticket < first.ticket {
+                None
+            } else {
+                Some((ticket - first.ticket) as usize)
+            }
+        }
+    }
+}
+
 // The journey of a ticket.
 fn journey_at(journeys: &Items<Journey>, ticket: u64) -> Option<Journey>
     ensures { result ≡ journey_at ticket journeys.now }
 {
-    let index = (ticket as usize).checked_sub(1)?;
-    journeys.as_slice().get(index).copied()
+    let place = place_of(journeys.as_slice(), ticket)?;
+    journeys.as_slice().get(place).copied()
 }
 
 // Puts another journey under a ticket.
 fn put(journeys: &mut Items<Journey>, ticket: u64, journey: Journey)
     ensures { journeys.new ≡ with_journey ticket journey journeys.old }
 {
-    let Some(index) = (ticket as usize).checked_sub(1) else {
+    let Some(place) = place_of(journeys.as_slice(), ticket) else {
         return;
     };
-    if index < journeys.as_slice().len() {
-        journeys.set(index, journey);
+    if place < journeys.as_slice().len() {
+        journeys.set(place, journey);
     }
 }
 
