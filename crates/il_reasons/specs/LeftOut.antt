@@ -89,7 +89,7 @@ stray_line stray.Address = codes "there are no direct addresses: fields and outp
 stray_line stray.LineComment = codes "a comment is written (* *)\n"
 stray_line stray.Division = codes "write DIV\n"
 stray_line stray.Equals = codes "write EQ, or := in a declaration or a CAL\n"
-stray_line stray.Plus = codes "write ADD; a literal has no +\n"
+stray_line stray.Plus = codes "write ADD, a literal has no +; an index is a number or a variable\n"
 stray_line stray.Times = codes "write MUL\n"
 stray_line stray.Minus = codes "write SUB, or a - directly before its digits\n"
 stray_line stray.Comparison = codes "write LT, LE, GT, GE or NE\n"

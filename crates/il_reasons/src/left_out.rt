@@ -230,7 +230,7 @@ impl Stray {
             Stray::LineComment => "a comment is written (* *)\n",
             Stray::Division => "write DIV\n",
             Stray::Equals => "write EQ, or := in a declaration or a CAL\n",
-            Stray::Plus => "write ADD; a literal has no +\n",
+            Stray::Plus => "write ADD, a literal has no +; an index is a number or a variable\n",
             Stray::Times => "write MUL\n",
             Stray::Minus => "write SUB, or a - directly before its digits\n",
             Stray::Comparison => "write LT, LE, GT, GE or NE\n",

@@ -13,7 +13,7 @@ pub(crate) const OF_CONFIGURATIONS: [Meaning; 32] = [
     },
     Meaning {
         number: 3,
-        text: "3: a number or a typed literal that is not well formed\n\nNamed is the line of the literal. A word directly before `#` always begins a typed literal.\n\n    PROGRAM C\n    LD 1__0\n    END_PROGRAM\n\nrefused 3 at line 2\n\nWrite one underscore at most between digits; give a duration at least one part and its units in the order d, h, m, s, ms.\n\n    PROGRAM C\n    LD 1_0\n    END_PROGRAM\n",
+        text: "3: a number or a typed literal that is not well formed\n\nNamed is the line of the literal. A word directly before `#` always begins a typed literal.\n\n    PROGRAM C\n    LD 1__0\n    END_PROGRAM\n\nrefused 3 at line 2\n\nWrite one underscore at most between digits; give a duration at least one part, its units in the order d, h, m, s, ms, and whole numbers: `T#3s500ms`, not `T#3.5s`.\n\n    PROGRAM C\n    LD 1_0\n    END_PROGRAM\n",
     },
     Meaning {
         number: 4,
