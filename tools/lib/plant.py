@@ -1,8 +1,8 @@
 """The simulated plant of docs/TRACE.md: for each car of a group a shaft, a motor and a door.
 
-Each trial here that simulates such a car uses it. A step is a round of STEP_MS milliseconds. Floors count from 1. A place
-is a part of a floor's height: `travel` of them make a floor, and 0 is the landing of floor 1. A motor goes one place a
-step: 1 is up, -1 down, 0 still. A door goes one part of its way a step, from 0, shut, to `wide`, wholly open.
+Each trial here that simulates such a car uses it. A step is a round of STEP_MS milliseconds. Floors count from 1. A
+place is a part of a floor's height: `travel` of them make a floor, and 0 is the landing of floor 1. A motor goes one
+place a step: 1 is up, -1 down, 0 still. A door goes one part of its way a step, from 0, shut, to `wide`, wholly open.
 
 Cars that are simulated without it:
 
