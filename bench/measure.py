@@ -6,7 +6,9 @@ MOST_INSTRUCTIONS = 4_096  # of a unit
 
 
 def configuration(cars=1, programs=None, before="", floors=8, slots=4):
-    """With a task for each car; `programs` are the program types of the cars, and `before` stands in front of the resource."""
+    """With a task for each car; `programs` are the program types of the cars, and `before` stands in front of the
+    resource.
+    """
     programs = programs or ["C"] * cars
     tasks = "".join(f"TASK CAR{k} (INTERVAL := T#100ms, PRIORITY := 1);\n" for k in range(1, cars + 1))
     lines = "".join(f"PROGRAM P{k} WITH CAR{k} : {name};\n" for k, name in enumerate(programs, 1))
@@ -37,7 +39,9 @@ def seconds_of(words, out=os.devnull):
 
 
 def machine_instructions(words, out=os.devnull, status=0, profile=os.devnull):
-    """Of a whole run that ends with this status; None where valgrind can't count them. The profile is for callgrind_annotate."""
+    """Of a whole run that ends with this status; None where valgrind can't count them. The profile is for
+    callgrind_annotate.
+    """
     words = ["valgrind", "--tool=callgrind", f"--callgrind-out-file={profile}", *words]
     with open(out, "wb") as to:
         run = subprocess.run(words, stdout=to, stderr=subprocess.PIPE, text=True)
@@ -69,12 +73,17 @@ def where_and_when(binary):
     with open("/proc/cpuinfo") as file:
         model = next((line.split(":")[1].strip() for line in file if line.startswith("model name")), model)
     when = time.strftime("%Y-%m-%d %H:%M", time.gmtime())
-    return f"{when} UTC, {os.cpu_count()} processors {model}, load {os.getloadavg()[0]:.1f}, {binary} of {os.path.getsize(binary):,} bytes"
+    return (
+        f"{when} UTC, {os.cpu_count()} processors {model}, load {os.getloadavg()[0]:.1f}, "
+        f"{binary} of {os.path.getsize(binary):,} bytes"
+    )
 
 
 @dataclasses.dataclass
 class Function:
-    """Machine instructions of one function, its own and those of the calls that it made, and how often it was called."""
+    """Machine instructions of one function, its own and those of the calls that it made, and how often it was
+    called.
+    """
 
     object: str
     name: str

@@ -1,7 +1,9 @@
-"""A folder of traces: each start of `serve` makes a new one there, and goes on where the last one ends; each K line makes one too, while the group runs.
+"""A folder of traces: each start of `serve` makes a new one there, and goes on where the last one ends; each K line
+makes one too, while the group runs.
 
-A trace without a round is passed over: all that happened is in the one before, and a power cut may have left a piece of its state. So a round has to come first in
-each trace, before a press. Where the last one with a round leads nowhere, none does: an older one has calls that were served long ago.
+A trace without a round is passed over: all that happened is in the one before, and a power cut may have left a piece of
+its state. So a round has to come first in each trace, before a press. Where the last one with a round leads nowhere,
+none does: an older one has calls that were served long ago.
 """
 from __future__ import annotations
 
@@ -72,7 +74,9 @@ def has_round(trace: str) -> bool:
 
 
 def calls_at_start(trace: str) -> dict[int, tuple[int, int, int]]:
-    """Those in the call slots of the state with which a trace begins, by ticket: floor from, floor to, and the car or 0."""
+    """Those in the call slots of the state with which a trace begins, by ticket: floor from, floor to, and the car or
+    0.
+    """
     calls = {}
     with open(trace, encoding="ascii", errors="replace", newline="\n") as file:
         while (words := file.readline(LONGEST).split()) and words[0] != STATE_END:

@@ -9,7 +9,9 @@ class NoFile(Exception):
 
 
 def numbered(names: list[str]) -> list[str]:
-    """A `%` in the last part of a name becomes a number, the same in all of them: 0001, or one more than the greatest that any of them has."""
+    """A `%` in the last part of a name becomes a number, the same in all of them: 0001, or one more than the greatest
+    that any of them has.
+    """
     number = 1 + max((greatest(name) for name in names), default=0)
     return [named(name, number) for name in names]
 

@@ -1,7 +1,8 @@
-"""A client of Modbus/TCP, of four functions: each answer is whole, right and in time, or it is a fault and the connection is of no more use.
+"""A client of Modbus/TCP, of four functions: each answer is whole, right and in time, or it is a fault and the
+connection is of no more use.
 
-A time is that of time.monotonic() by which the answer has to be there. Numbers of registers and coils are from 0, as in the messages. The rules are those of
-MODBUS Application Protocol 1.1b3 and of MODBUS Messaging on TCP/IP 1.0b.
+A time is that of time.monotonic() by which the answer has to be there. Numbers of registers and coils are from 0, as in
+the messages. The rules are those of MODBUS Application Protocol 1.1b3 and of MODBUS Messaging on TCP/IP 1.0b.
 """
 from __future__ import annotations
 
@@ -32,7 +33,9 @@ class Refused(FieldFault):
 
 
 def resolved(host: str, port: int) -> Sequence[tuple]:
-    """The addresses of a name: family, type, protocol, name, address. It is asked once, since a name server may take long."""
+    """The addresses of a name: family, type, protocol, name, address. It is asked once, since a name server may take
+    long.
+    """
     try:
         return socket.getaddrinfo(host, port, type=socket.SOCK_STREAM)
     except (OSError, UnicodeError) as why:
@@ -105,7 +108,8 @@ class Client:
         if answer[0] == request[0] | EXCEPTION and len(answer) == 2:
             self.is_whole = True
             raise Refused(
-                f"the field answered exception {answer[1]}{f', {EXCEPTIONS[answer[1]]}' if answer[1] in EXCEPTIONS else ''}"
+                f"the field answered exception {answer[1]}"
+                + (f", {EXCEPTIONS[answer[1]]}" if answer[1] in EXCEPTIONS else "")
             )
         self.check(answer[0] == request[0], "of another function")
         self.is_whole = True

@@ -1,4 +1,5 @@
-"""`liftplc serve` as the child of a gateway: finds the program, starts it, sends it lines, reads its answers in time, ends it.
+"""`liftplc serve` as the child of a gateway: finds the program, starts it, sends it lines, reads its answers in time,
+ends it.
 
 A gateway has these steps; docs/SERVE.md shows one whole, and what it owes besides:
 
@@ -30,7 +31,9 @@ class NoAnswer(Exception):
 
 
 class Ended(Exception):
-    """serve has stopped or ended. `status` is its own, below 0 for a signal; `refused` is the number of its refusal, or 0."""
+    """serve has stopped or ended. `status` is its own, below 0 for a signal; `refused` is the number of its refusal, or
+    0.
+    """
 
     def __init__(self, why: str, status: int, refused: int):
         super().__init__(why)
@@ -48,7 +51,9 @@ class Program:
 
 
 def find_program(named: str = "") -> Program:
-    """The program of this name or path, or else what ./liftplc would use: the proved one in build/, or an unproved one, first the optimised."""
+    """The program of this name or path, or else what ./liftplc would use: the proved one in build/, or an unproved one,
+    first the optimised.
+    """
     if named:
         found = shutil.which(named)
         if not found or not is_program(found):
@@ -160,8 +165,9 @@ def outputs_of(words: Sequence[str]) -> list[Output]:
 class Serve:
     """A child that answers lines.
 
-    With a watchdog each answer has so many seconds. What the child says on standard error goes to `hears`, line by line, or else to the standard error of
-    this process. It has a session of its own, so that an interrupt from the keyboard reaches the gateway alone, and it ends where its input does.
+    With a watchdog each answer has so many seconds. What the child says on standard error goes to `hears`, line by
+    line, or else to the standard error of this process. It has a session of its own, so that an interrupt from the
+    keyboard reaches the gateway alone, and it ends where its input does.
     """
 
     def __init__(self, words: Sequence[str], watchdog: float | None = None, hears: Callable[[str], None] | None = None):
@@ -207,10 +213,12 @@ class Serve:
         return answer.decode("ascii").rstrip("\n").split(" ", 3)[3]
 
     def keep(self, name: str, until: float | None = None, waits: Callable[[], None] | None = None) -> bool:
-        """The present trace ends, and the group goes on in `name`, a new file. Whether it does: where that can't be made, the present trace goes on.
+        """The present trace ends, and the group goes on in `name`, a new file. Whether it does: where that can't be
+        made, the present trace goes on.
 
-        `waits` is called again and again until the answer is there or time is over: a busy disk may take longer to make a file than to take a round. The next
-        line has to be a round: a trace without one is passed over at a start, and so would be the presses in it.
+        `waits` is called again and again until the answer is there or time is over: a busy disk may take longer to make
+        a file than to take a round. The next line has to be a round: a trace without one is passed over at a start, and
+        so would be the presses in it.
         """
         if not can_keep(name):
             raise ValueError(f"{name!r} can't be in a K line")
@@ -288,7 +296,9 @@ class Serve:
         return self.close()
 
     def close(self) -> int:
-        """Ends the input, which ends serve; one that doesn't end in the watchdog's time is killed. The answer is its status."""
+        """Ends the input, which ends serve; one that doesn't end in the watchdog's time is killed. The answer is its
+        status.
+        """
         self.input.close()
         with contextlib.suppress(subprocess.TimeoutExpired):
             return self.process.wait(self.watchdog)

@@ -1,6 +1,7 @@
 """A field of Modbus/TCP that answers wrongly from some write of the outputs on, for tools/gateway-trial.
 
-It is made from the socket up, since a server that works makes no wrong answers. It has two cars between floors, and no plant: sensors stay as they are.
+It is made from the socket up, since a server that works makes no wrong answers. It has two cars between floors, and no
+plant: sensors stay as they are.
 """
 from __future__ import annotations
 
@@ -82,7 +83,9 @@ COILS = {"allcoils": 256, "morecoils": 2032}  # how many are answered, all press
 
 
 class BadField:
-    """Listens until the process ends. `kind` comes at each request that it fits, or once, after so many writes of the outputs."""
+    """Listens until the process ends. `kind` comes at each request that it fits, or once, after so many writes of the
+    outputs.
+    """
 
     def __init__(self, kind: str = "", is_once: bool = False, after: int = 15, host: str = "127.0.0.1"):
         self.kind, self.is_once, self.after = kind, is_once, after

@@ -1,5 +1,6 @@
 """A headless Chromium, driven by its DevTools protocol over a small WebSocket client (RFC 6455). For trials."""
-import base64, contextlib, json, os, pathlib, select, shutil, signal, socket, struct, subprocess, tempfile, time, urllib.parse
+import base64, contextlib, json, os, pathlib, select, shutil, signal, socket, struct, subprocess, tempfile, time
+import urllib.parse
 
 NAMES = ("chromium", "chromium-browser", "google-chrome")
 OPTIONS = (

@@ -1,4 +1,5 @@
-"""A building with lifts and passengers, behind `serve`: what tools/building and tools/study run. docs/BUILDING.md has the model.
+"""A building with lifts and passengers, behind `serve`: what tools/building and tools/study run. docs/BUILDING.md has
+the model.
 
 Rounds count from 1, one an R line. A time in rounds is a round's number, which is that many tenths of a second.
 """
@@ -69,7 +70,9 @@ def rounds(seconds: float) -> int:
 
 
 class Timetable:
-    """For each pair of floors, how many rounds behind the start the car can still stop there, and how many until it stands there."""
+    """For each pair of floors, how many rounds behind the start the car can still stop there, and how many until it
+    stands there.
+    """
 
     def __init__(self, plant: Plant):
         count = len(plant.heights)
@@ -128,7 +131,8 @@ class Passenger:
     """Times in seconds, -1 where it didn't happen."""
 
     __slots__ = (
-        "number", "arrived", "start", "goal", "floor", "call", "car", "boarded", "left", "door_boarding", "door_leaving", "presses", "found_full", "refused",
+        "number", "arrived", "start", "goal", "floor", "call", "car", "boarded", "left", "door_boarding",
+        "door_leaving", "presses", "found_full", "refused",
     )  # fmt: skip
 
     def __init__(self, number: int, arrival: Arrival):
@@ -289,7 +293,9 @@ class Building:
         self.failures = [it for it in self.failures if self.now <= it.last]
 
     def start_anew(self):
-        """The controller starts anew: its calls are gone. Who waits presses again, and who is in a car gets out where it opens."""
+        """The controller starts anew: its calls are gone. Who waits presses again, and who is in a car gets out where
+        it opens.
+        """
         self.controller.stop()
         self.controller, self.last, self.first = self.restart(), b"", len(self.calls)
         waiting = {passenger for people in self.pressed.values() for each in people for passenger in each}
@@ -457,7 +463,9 @@ class Building:
         return sum(car.load for car in self.cars)
 
     def waiting(self) -> int:
-        """Who have arrived and are in no car, counted where they are: at a panel, without a car, or at the landing for one."""
+        """Who have arrived and are in no car, counted where they are: at a panel, without a car, or at the landing for
+        one.
+        """
         at_panels = len(self.pressing) + sum(len(people) for calls in self.pressed.values() for people in calls)
         without_car = sum(passenger.call is call for call in self.calls if not call.told for passenger in call.people)
         return at_panels + without_car + sum(len(people) for car in self.cars for people in car.waiting.values())
@@ -470,7 +478,9 @@ class Building:
         return self.carried < self.arrived or (self.restart is not None and self.open_calls() > 0)
 
     def play(self, length: Length, pace: float | None = None):
-        """Rounds until all are carried, or the drain ends; `pace` is how many times the wall clock. Then the child is told the end, or is gone."""
+        """Rounds until all are carried, or the drain ends; `pace` is how many times the wall clock. Then the child is
+        told the end, or is gone.
+        """
         begin = time.monotonic()
         try:
             while self.now < length.rounds() or (self.now < length.most_rounds() and self.goes_on()):

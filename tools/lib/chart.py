@@ -86,10 +86,12 @@ class Picture:
         made.append(f'<path d="M{LEFT} {TOP}V{self.bottom}H{self.right}" fill="none" stroke="#333333"/>')
         middle = (TOP + self.bottom) / 2
         made.append(
-            f'<text x="{(LEFT + self.right) / 2:.0f}" y="{HEIGHT - 18}" text-anchor="middle">{escape(self.chart.x_name)}</text>'
+            f'<text x="{(LEFT + self.right) / 2:.0f}" y="{HEIGHT - 18}" '
+            f'text-anchor="middle">{escape(self.chart.x_name)}</text>'
         )
         made.append(
-            f'<text x="20" y="{middle:.0f}" text-anchor="middle" transform="rotate(-90 20 {middle:.0f})">{escape(self.chart.y_name)}</text>'
+            f'<text x="20" y="{middle:.0f}" text-anchor="middle" transform="rotate(-90 20 '
+            f'{middle:.0f})">{escape(self.chart.y_name)}</text>'
         )
         return made
 
@@ -99,10 +101,12 @@ class Picture:
         for it in line.points:
             x = self.x(it.x)
             made.append(
-                f'<path d="M{x:.1f} {self.y(it.low):.1f}V{self.y(it.high):.1f}" stroke="{colour}" stroke-opacity="0.6"/>'
+                f'<path d="M{x:.1f} {self.y(it.low):.1f}V{self.y(it.high):.1f}" stroke="{colour}" '
+                'stroke-opacity="0.6"/>'
             )
             made.append(
-                f"<g><title>{escape(line.name)}: {it.x:g}, {it.y:.1f} ({it.low:.1f} to {it.high:.1f})</title>{mark(kind, x, self.y(it.y), colour)}</g>"
+                f"<g><title>{escape(line.name)}: {it.x:g}, {it.y:.1f} ({it.low:.1f} to "
+                f"{it.high:.1f})</title>{mark(kind, x, self.y(it.y), colour)}</g>"
             )
         return made
 
@@ -120,7 +124,10 @@ class Picture:
             f"<title>{escape(chart.title)}</title>",
             f'<rect width="{WIDTH}" height="{HEIGHT}" fill="#ffffff"/>',
             '<clipPath id="inside">',
-            f'<rect x="{LEFT}" y="{TOP - MARK}" width="{self.right - LEFT + MARK}" height="{self.bottom - TOP + 2 * MARK}"/>',
+            (
+                f'<rect x="{LEFT}" y="{TOP - MARK}" width="{self.right - LEFT + MARK}" '
+                f'height="{self.bottom - TOP + 2 * MARK}"/>'
+            ),
             "</clipPath>",
             f'<text x="{LEFT}" y="24" font-size="17" font-weight="bold">{escape(chart.title)}</text>',
             f'<text x="{LEFT}" y="43" fill="#555555">{escape(chart.note)}</text>',

@@ -1,8 +1,10 @@
 """A dispatcher that knows all: in place of `serve` it answers the lines of a building, for `tools/study --bound`.
 
-Cars, call slots and desk are those of `serve` with a program of tools/group: `CarProgram` has the rules of tools/lib/group/car.st, `Desk` those of serve. But
-where GROUP has to work out who is in a car and how long a stop takes, `Exact` looks at the building. It plays each car on with the new call, round by round,
-until all its people are at their floors, and so knows when each of them will be there if nobody else comes. It assigns the call where this costs least time.
+Cars, call slots and desk are those of `serve` with a program of tools/group: `CarProgram` has the rules of
+tools/lib/group/car.st, `Desk` those of serve. But where GROUP has to work out who is in a car and how long a stop
+takes, `Exact` looks at the building. It plays each car on with the new call, round by round, until all its people are
+at their floors, and so knows when each of them will be there if nobody else comes. It assigns the call where this costs
+least time.
 
 Times are in rounds.
 """
@@ -23,7 +25,8 @@ MOST_AHEAD = 6000  # rounds that a car is played on
 LOST = 600  # rounds more for who is not carried then: they press again, and wait for another trip
 FROM_MAIN_OF, UP_PEAK_FROM = 100, 70  # of the last calls so many come from floor 1 in an up-peak, as in GROUP
 WAITING = 0.2  # what a round of waiting costs beside a round until the destination
-CROWDING = 0.3  # what a round by which a car is busy longer costs those who come later, for each call that a car has on average
+# What a round by which a car is busy longer costs those who come later, for each call that a car has on average.
+CROWDING = 0.3
 
 
 class Timer:
@@ -79,7 +82,9 @@ class Times:
 
 
 class CarProgram:
-    """COLLECTIVE_CAR of tools/lib/group/car.st, without what it does when something fails. `motor` and `opens` are the committed outputs."""
+    """COLLECTIVE_CAR of tools/lib/group/car.st, without what it does when something fails. `motor` and `opens` are the
+    committed outputs.
+    """
 
     def __init__(self, number: int, home: int, times: Times):
         self.number, self.home, self.times = number, home, times
@@ -366,7 +371,9 @@ class LeastTime:
         return number
 
     def cost(self, number: int, times: dict[int, tuple[int, int]], now: int, calls: float) -> float:
-        """In rounds: by how much later all get in and are there than without the new call, and by how much longer the car is busy."""
+        """In rounds: by how much later all get in and are there than without the new call, and by how much longer the
+        car is busy.
+        """
         known = self.known.get(number, {})
         before = [known.get(passenger, (now, now)) for passenger in times]
         later = sum(

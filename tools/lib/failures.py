@@ -23,7 +23,9 @@ class Failure:
 
 
 def failures(cars: int, rounds: int, seed: int) -> list[Failure]:
-    """Those of a run, by their first rounds. All end within so many rounds; in the last of these the controller starts anew, perhaps with people in the cars."""
+    """Those of a run, by their first rounds. All end within so many rounds; in the last of these the controller starts
+    anew, perhaps with people in the cars.
+    """
     chance, made = random.Random(seed), []
     first = chance.randint(GAP // 2, GAP)
     while first < rounds:

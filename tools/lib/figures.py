@@ -38,7 +38,8 @@ class Figures:
     journey: Spread  # arrival to leaving, or to the end of the run
     waiting_to_door: Spread  # arrival until the door begins to open, of those who boarded
     journey_to_door: Spread  # the same of those who left
-    transit: Spread  # of those who left, from the time when the door begins to open for their boarding until it does for their leaving
+    # Of those who left, from the time when the door begins to open for their boarding until it does for their leaving.
+    transit: Spread
     waiting_first: float  # s, mean waiting of who arrived in the first third of the time that counts
     waiting_last: float  # s, the same of the last third
     offered: float  # persons who arrived in five minutes
@@ -86,22 +87,37 @@ def shown_calls(building: Building) -> str:
     calls = building.calls
     told, boarded, served = (sum(getattr(it, what) > 0 for it in calls) for what in ("told", "boarded", "served"))
     right = sum(it.at_goal for it in calls)
-    return f"entered {len(calls)}, told {told}, boarded {boarded}, served {served}, {right} of them at the destination with an open door"
+    return (
+        f"entered {len(calls)}, told {told}, boarded {boarded}, served {served}, "
+        f"{right} of them at the destination with an open door"
+    )
 
 
 def report(building: Building, of: Figures, population: int) -> str:
     denials = ", ".join(f"rule {rule}: {count}" for rule, count in enumerate(building.denied) if count) or "none"
     lines = [
-        f"passengers: arrived {building.arrived}, carried {building.carried}, aboard {building.aboard()}, waiting {building.waiting()}",
-        f"counted, of those who arrived behind the warm-up: {of.counted}, {of.waiting_still} of them still waiting at the end",
+        (
+            f"passengers: arrived {building.arrived}, carried {building.carried}, aboard {building.aboard()}, "
+            f"waiting {building.waiting()}"
+        ),
+        (
+            f"counted, of those who arrived behind the warm-up: {of.counted}, "
+            f"{of.waiting_still} of them still waiting at the end"
+        ),
         f"waiting, arrival to boarding (s): {shown_spread(of.waiting)}",
         f"time to destination, arrival to leaving (s): {shown_spread(of.journey)}",
         f"waiting, until the door begins to open (s): {shown_spread(of.waiting_to_door)}",
         f"time to destination, until the door begins to open (s): {shown_spread(of.journey_to_door)}",
         f"transit, from that door to that door (s): {shown_spread(of.transit)}",
         f"carried in five minutes: {of.handled:.1f} persons, {100 * of.handled / population:.1f} % of the population",
-        f"load on leaving a landing (persons): mean {of.mean_load:.1f}, greatest {of.greatest_load}, capacity {building.plant.capacity}",
-        f"passengers who pressed again: {of.pressed_again}; who found a car full: {of.found_full}; times let out on the way: {building.let_out}",
+        (
+            f"load on leaving a landing (persons): mean {of.mean_load:.1f}, greatest {of.greatest_load}, "
+            f"capacity {building.plant.capacity}"
+        ),
+        (
+            f"passengers who pressed again: {of.pressed_again}; who found a car full: {of.found_full}; "
+            f"times let out on the way: {building.let_out}"
+        ),
         f"calls: {shown_calls(building)}; presses of a call on the desk: {building.already}",
         f"denied: {denials}",
         f"rounds: {building.now}, {building.now * ROUND:.1f} s; faults of the plant: {len(building.faults())}",

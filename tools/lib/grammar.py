@@ -1,8 +1,10 @@
-"""The grammar of docs/LANGUAGE.md as rules, which tokens can stand at a place of a text, and its first fault from 10 to 12: nothing here is the program's.
+"""The grammar of docs/LANGUAGE.md as rules, which tokens can stand at a place of a text, and its first fault from 10 to
+12: nothing here is the program's.
 
-The rules are turned into a network of places. What may come next is told by the set of all places at which a text with these tokens may be; behind each of
-them some text goes on, so a token with which no place is left is one with which no text goes on. Rules that nest are called, and the sets in which they go on
-stand on a stack. Sets and steps between them are made when they are first met, and kept.
+The rules are turned into a network of places. What may come next is told by the set of all places at which a text with
+these tokens may be; behind each of them some text goes on, so a token with which no place is left is one with which no
+text goes on. Rules that nest are called, and the sets in which they go on stand on a stack. Sets and steps between them
+are made when they are first met, and kept.
 """
 import re
 from collections import defaultdict
@@ -14,7 +16,8 @@ MOST_INSTRUCTIONS = 4096
 MOST_PARENTHESES = 16
 
 # As in docs/LANGUAGE.md, with these rules beside:
-#   nested       what stands behind the parenthesis of a deferred operator: without an operand the first instruction is a load
+#   nested       what stands behind the parenthesis of a deferred operator: without an operand the first instruction
+#                is a load
 #   load, plain  instructions that may stand in parentheses;  leaving: the others
 # NL is a line end, END the end of the text, and N the word N directly behind an `&`.
 RULES = """
@@ -74,9 +77,10 @@ EITHER = "instruction or label"  # a name at the front of a line is told by the 
 # ---- Kinds of tokens ----
 
 RESERVED = set(
-    """LD LDN ST STN S R AND ANDN OR ORN XOR XORN NOT ADD SUB MUL DIV MOD GT GE EQ NE LE LT JMP JMPC JMPCN CAL CALC CALCN RET RETC RETCN
-    BOOL SINT INT DINT USINT UINT UDINT TIME ARRAY OF TRUE FALSE VAR VAR_INPUT VAR_OUTPUT VAR_EXTERNAL VAR_GLOBAL CONSTANT END_VAR
-    FUNCTION FUNCTION_BLOCK PROGRAM CONFIGURATION RESOURCE END_FUNCTION END_FUNCTION_BLOCK END_PROGRAM END_CONFIGURATION END_RESOURCE
+    """LD LDN ST STN S R AND ANDN OR ORN XOR XORN NOT ADD SUB MUL DIV MOD GT GE EQ NE LE LT JMP JMPC JMPCN
+    CAL CALC CALCN RET RETC RETCN BOOL SINT INT DINT USINT UINT UDINT TIME ARRAY OF TRUE FALSE
+    VAR VAR_INPUT VAR_OUTPUT VAR_EXTERNAL VAR_GLOBAL CONSTANT END_VAR FUNCTION FUNCTION_BLOCK PROGRAM CONFIGURATION
+    RESOURCE END_FUNCTION END_FUNCTION_BLOCK END_PROGRAM END_CONFIGURATION END_RESOURCE
     ON TASK WITH INTERVAL PRIORITY""".split()
 )
 SIZES = {"CARS", "FLOORS", "SLOTS"}  # words of the configuration that are names too
@@ -125,7 +129,9 @@ NOTATION = re.compile(r"'[^']+'|\w+|[\[\]{}()|=]")
 
 
 def read(rules):
-    """The right side of each rule: ("or", parts), ("row", parts), ("many", part), ("may", part), ("rule", name) or ("token", name)."""
+    """The right side of each rule: ("or", parts), ("row", parts), ("many", part), ("may", part), ("rule", name) or
+    ("token", name).
+    """
     words = NOTATION.findall(rules)
     heads = [at - 1 for at, word in enumerate(words) if word == "="]
     sides = {words[head]: words[head + 2 : behind] for head, behind in zip(heads, [*heads[1:], len(words)])}
@@ -152,7 +158,9 @@ GRAMMAR = read(RULES)
 
 
 class Network:
-    """The places in the rules, and the ways between them: over a token of a kind, over nothing, and over a rule that is called."""
+    """The places in the rules, and the ways between them: over a token of a kind, over nothing, and over a rule that is
+    called.
+    """
 
     def __init__(self):
         self.over_token = defaultdict(list)  # place: (kind, what it begins, place behind)
@@ -206,7 +214,9 @@ class Network:
         return behind
 
     def with_nothing(self, places):
-        """These places and those that are reached over nothing; of them those that are an end, or from which something else leads on."""
+        """These places and those that are reached over nothing; of them those that are an end, or from which something
+        else leads on.
+        """
         reached, left = set(places), list(places)
         while left:
             for place in self.over_nothing[left.pop()]:
@@ -239,7 +249,9 @@ class Sets:
         return self.numbers[places]
 
     def step(self, state, kind):
-        """The next set, or None; what the token begins; the set in which a call goes on, if the token leads to one; and whether it ends a call."""
+        """The next set, or None; what the token begins; the set in which a call goes on, if the token leads to one; and
+        whether it ends a call.
+        """
         ways = [way for place in self.sets[state] for way in NETWORK.over_token[place] if way[0] == kind]
         places = NETWORK.with_nothing([end for _, _, end in ways])
         begins = {begun for _, begun, _ in ways}
@@ -266,7 +278,9 @@ SETS = Sets()
 
 
 class Reading:
-    """The fault of a text whose tokens have none: its number and its place, or None; and of a 10 the set of places in the rules at which it stands."""
+    """The fault of a text whose tokens have none: its number and its place, or None; and of a 10 the set of places in
+    the rules at which it stands.
+    """
 
     def __init__(self, tokens, length):
         self.state = SETS.start

@@ -1,4 +1,5 @@
-"""What a log of tools/tee-serve says of a group: its state at the log's end, and counts from the log's beginning on. For tools/monitor.
+"""What a log of tools/tee-serve says of a group: its state at the log's end, and counts from the log's beginning on.
+For tools/monitor.
 
 docs/MONITOR.md has the records of the log, and the names under which both are given out.
 """

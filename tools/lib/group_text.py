@@ -8,8 +8,8 @@ A template is Structured Text with lines of its own between it, each a comment:
     // USE watch         another template
     // END
 
-{NAME} stands for a value of the group. Sizes and settings are constants of the configuration, in group.st. So only that file, the heading and lines for each
-car have any.
+{NAME} stands for a value of the group. Sizes and settings are constants of the configuration, in group.st. So only that
+file, the heading and lines for each car have any.
 """
 import os, re
 from dataclasses import asdict, dataclass
@@ -54,7 +54,8 @@ class Group:
         parks, measures = self.park > 0, self.dispatch in MEASURING
         there = {
             "parking": parks, self.dispatch: True, "measured": measures, "up_peak": parks and measures,
-            "main_floor": (parks and measures) or self.dispatch == "etd", "dwell_out": self.dwell_out_time() != self.dwell,
+            "main_floor": (parks and measures) or self.dispatch == "etd",
+            "dwell_out": self.dwell_out_time() != self.dwell,
         }  # fmt: skip
         return {name for name, is_there in there.items() if is_there}
 
@@ -142,7 +143,9 @@ def st_of(group: Group, words: str) -> str:
 
 
 def il_of(text: str) -> str:
-    """The text in Instruction List of one in Structured Text, as `tools/st` prints it. It needs Debian's python3-lark."""
+    """The text in Instruction List of one in Structured Text, as `tools/st` prints it. It needs Debian's
+    python3-lark.
+    """
     from lib.st_read import tree_of
     from lib.st_text import made
 

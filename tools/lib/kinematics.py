@@ -1,7 +1,8 @@
 """How long a lift's drive takes from one floor to another, and up to when it can still stop there.
 
-A flight starts and ends at rest. Its jerk, acceleration and speed keep their limits, and it is the shortest such flight: the jerk is always at its limit or 0.
-The formulas are the well-known ones of ideal lift kinematics, as CIBSE Guide D gives them.
+A flight starts and ends at rest. Its jerk, acceleration and speed keep their limits, and it is the shortest such
+flight: the jerk is always at its limit or 0. The formulas are the well-known ones of ideal lift kinematics, as CIBSE
+Guide D gives them.
 """
 from dataclasses import dataclass
 from math import cbrt, sqrt

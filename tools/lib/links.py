@@ -1,4 +1,5 @@
-"""Whether a trace of `serve` begins with the state to which the one before it leads; tools/chain says what that means."""
+"""Whether a trace of `serve` begins with the state to which the one before it leads; tools/chain says what that means.
+"""
 from __future__ import annotations
 
 import re, subprocess, tempfile
@@ -17,7 +18,9 @@ class Broken(Exception):
 
 @dataclass(frozen=True)
 class End:
-    """Where a trace leads: the head of the next one with every output still, and with the outputs as they are, if they are known."""
+    """Where a trace leads: the head of the next one with every output still, and with the outputs as they are, if they
+    are known.
+    """
 
     still: str
     running: str | None
@@ -92,7 +95,9 @@ def is_beginning(rest: str) -> bool:
 
 
 def followed(end: End, text: str) -> tuple[str, str]:
-    """How a trace goes on from an end, and what comes after its head; that is empty where it is cut off within the head."""
+    """How a trace goes on from an end, and what comes after its head; that is empty where it is cut off within the
+    head.
+    """
     heads = end.heads()
     for how, head in heads.items():
         if text.startswith(head) and is_beginning(text[len(head) :]):
@@ -111,6 +116,7 @@ def linked(program: Program, end: End, trace: str) -> tuple[str, End]:
     said = f"{how}{f'; {end.note}' if end.note else ''}"
     if re.match("[PG]", rest):
         return said, program.end_of(trace)
-    # It has neither a round nor a press, so it leads to where it begins. A start goes on from it or from the one before it.
+    # It has neither a round nor a press, so it leads to where it begins. A start goes on from it or from the one before
+    # it.
     is_cut = "cut off" in how
     return f"{said}; no round", End(end.still, None if is_cut else text[: len(text) - len(rest)], "")

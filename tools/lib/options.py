@@ -1,4 +1,6 @@
-"""The words of tools/building and tools/building-plot that say what building and what traffic, and what is wrong with words."""
+"""The words of tools/building and tools/building-plot that say what building and what traffic, and what is wrong with
+words.
+"""
 import argparse, subprocess, sys
 
 from lib.building import MOST_ROUNDS, Length, Plant, Scene, Trouble, rounds

@@ -1,4 +1,5 @@
-"""The sizes of a group, as its configuration's VAR_GLOBAL CONSTANT gives them (docs/LANGUAGE.md, "The configuration")."""
+"""The sizes of a group, as its configuration's VAR_GLOBAL CONSTANT gives them (docs/LANGUAGE.md, "The configuration").
+"""
 import re
 from typing import NamedTuple
 

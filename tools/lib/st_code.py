@@ -1,7 +1,8 @@
 """The instructions of a body in Structured Text, for tools/st.
 
-A condition is jumped over in the forms by which the verifier narrows ranges (docs/LANGUAGE.md, Ranges), wherever the tested variable's range may count behind
-it. Operands in the middle of an expression are parenthesised; only an index, an argument of a function and what is deeper than 16 parentheses take a variable.
+A condition is jumped over in the forms by which the verifier narrows ranges (docs/LANGUAGE.md, Ranges), wherever the
+tested variable's range may count behind it. Operands in the middle of an expression are parenthesised; only an index,
+an argument of a function and what is deeper than 16 parentheses take a variable.
 """
 import dataclasses, functools
 from dataclasses import dataclass, field
@@ -100,7 +101,9 @@ def parts(node):
 
 
 def ranges_that_count(node, skipped: bool = False):
-    """The variables whose range may decide whether a text is accepted, with their places: all that are read but as a side of a comparison."""
+    """The variables whose range may decide whether a text is accepted, with their places: all that are read but as a
+    side of a comparison.
+    """
     if isinstance(node, Variable):
         if not skipped and node.index is None and node.member is None:
             yield node.name.upper(), node.span[0]
@@ -179,7 +182,10 @@ class Body:
         if node.name.upper() in self.controls:
             raise Refusal(
                 node.place,
-                f"{node.name} controls a loop, and here is no such loop: what it is behind its loop isn't said, so store it inside, in another variable",
+                (
+                    f"{node.name} controls a loop, and here is no such loop: what it is behind its loop isn't said, "
+                    "so store it inside, in another variable"
+                ),
             )
 
     def index(self, node: Node) -> str:
@@ -457,7 +463,9 @@ class Body:
             self.flush([self.step("LDN" if it.is_negated else "LD", member, it.place), self.step("ST", text, it.place)])
 
     def invocation(self, call: Call):
-        """A call of a block: what comes before it, the call, and the outputs that are taken behind it, in their order."""
+        """A call of a block: what comes before it, the call, and the outputs that are taken behind it, in their
+        order.
+        """
         block, interface = self.block_of(call)
         given, before, after, seen = [], [], [], set()
         for position, it in enumerate(call.arguments):
@@ -466,7 +474,10 @@ class Body:
             if type is None or name.upper() in seen:
                 raise Refusal(
                     it.place,
-                    f"{name or 'this'} is no {'output' if it.is_output else 'input'} of {block.type}, or stands twice; it has {', '.join([*interface.inputs, *interface.outputs])}",
+                    (
+                        f"{name or 'this'} is no {'output' if it.is_output else 'input'} of {block.type}, "
+                        f"or stands twice; it has {', '.join([*interface.inputs, *interface.outputs])}"
+                    ),
                 )
             seen.add(name.upper())
             if it.is_output:
@@ -823,7 +834,10 @@ class Body:
         except Refusal as why:
             raise Refusal(
                 why.place,
-                "the bounds of FOR are known when the text is translated: write constants, and leave the loop early by EXIT",
+                (
+                    "the bounds of FOR are known when the text is translated: write constants, "
+                    "and leave the loop early by EXIT"
+                ),
             ) from None
 
 

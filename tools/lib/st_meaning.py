@@ -1,7 +1,8 @@
 """What a text in Structured Text means: a small interpreter of its tree, for tools/st-trial.
 
-It shares with tools/st the reader of texts (st_tree.py) and nothing else: types, constants, ranges, loops and blocks have a meaning of their own here, from
-IEC 61131-3 and docs/LANGUAGE.md. Each value is checked against its type, and each stored one against its range.
+It shares with tools/st the reader of texts (st_tree.py) and nothing else: types, constants, ranges, loops and blocks
+have a meaning of their own here, from IEC 61131-3 and docs/LANGUAGE.md. Each value is checked against its type, and
+each stored one against its range.
 """
 from dataclasses import dataclass
 

@@ -1,4 +1,6 @@
-"""The names and types of a text in Structured Text, for tools/st: what each name is, the type of each expression, and the value of each constant one."""
+"""The names and types of a text in Structured Text, for tools/st: what each name is, the type of each expression, and
+the value of each constant one.
+"""
 import dataclasses
 from dataclasses import dataclass, field
 
@@ -23,8 +25,10 @@ from lib.st_tree import (
 )
 
 RESERVED = set(
-    "LD LDN ST STN S R AND ANDN OR ORN XOR XORN NOT ADD SUB MUL DIV MOD GT GE EQ NE LE LT JMP JMPC JMPCN CAL CALC CALCN RET RETC RETCN BOOL SINT INT DINT USINT UINT UDINT TIME ARRAY OF"
-    " TRUE FALSE VAR VAR_INPUT VAR_OUTPUT VAR_EXTERNAL VAR_GLOBAL CONSTANT END_VAR FUNCTION FUNCTION_BLOCK PROGRAM CONFIGURATION RESOURCE END_FUNCTION END_FUNCTION_BLOCK END_PROGRAM"
+    "LD LDN ST STN S R AND ANDN OR ORN XOR XORN NOT ADD SUB MUL DIV MOD GT GE EQ NE LE LT JMP JMPC JMPCN CAL "
+    "CALC CALCN RET RETC RETCN BOOL SINT INT DINT USINT UINT UDINT TIME ARRAY OF"
+    " TRUE FALSE VAR VAR_INPUT VAR_OUTPUT VAR_EXTERNAL VAR_GLOBAL CONSTANT END_VAR FUNCTION FUNCTION_BLOCK "
+    "PROGRAM CONFIGURATION RESOURCE END_FUNCTION END_FUNCTION_BLOCK END_PROGRAM"
     " END_CONFIGURATION END_RESOURCE ON TASK WITH INTERVAL PRIORITY".split()
 )
 SIZES = "CARS", "FLOORS", "SLOTS"
@@ -480,7 +484,9 @@ class Scope:
         return said
 
     def typed(self, node: Node, hint: str | None = None) -> Node:
-        """An expression with its types, in which constants are literals. The hint is the type of numbers that have none."""
+        """An expression with its types, in which constants are literals. The hint is the type of numbers that have
+        none.
+        """
         if isinstance(node, Literal):
             return node
         if isinstance(node, Variable):

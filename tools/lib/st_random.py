@@ -1,7 +1,9 @@
-"""Random programs in Structured Text, for tools/st-trial, that stay in the ranges of their variables, so that nearly all are accepted.
+"""Random programs in Structured Text, for tools/st-trial, that stay in the ranges of their variables, so that nearly
+all are accepted.
 
-Each expression is made with the range that it has by the declared ranges of what it reads, and by the tests around it; what doesn't fit is held by LIMIT, MIN
-and MAX. The programs have all statements and operators that tools/st takes, functions, function blocks, standard blocks, types, constants and a global.
+Each expression is made with the range that it has by the declared ranges of what it reads, and by the tests around it;
+what doesn't fit is held by LIMIT, MIN and MAX. The programs have all statements and operators that tools/st takes,
+functions, function blocks, standard blocks, types, constants and a global.
 """
 import random
 from dataclasses import dataclass, field
@@ -557,7 +559,8 @@ def function(rnd: random.Random, name: str) -> tuple[str, Called]:
     own = places_of(rnd, "L")
     unit = Unit(rnd, [*inputs, *own, result], {}, [])
     unit.statements(rnd.randint(2, 5), 2)
-    text = f"FUNCTION {name} : {type_text(result)}\n{declared(rnd, 'VAR_INPUT', inputs)}{declared(rnd, 'VAR', [*own, Place('I', 'INT', *WHOLE['INT']), Place('J', 'INT', -20, 40)])}"
+    more = [*own, Place("I", "INT", *WHOLE["INT"]), Place("J", "INT", -20, 40)]
+    text = f"FUNCTION {name} : {type_text(result)}\n{declared(rnd, 'VAR_INPUT', inputs)}{declared(rnd, 'VAR', more)}"
     return text + "\n".join([*unit.lines, "END_FUNCTION", ""]), Called(name, inputs, [], result)
 
 
@@ -601,8 +604,12 @@ def program(rnd: random.Random, name: str, task: str, functions: list[Called], b
     unit = Unit(rnd, [*own, *seen, shared], instances, functions)
     unit.statements(rnd.randint(5, 12), 3)
     plain = [it for it in own if it.name not in ("SHADE", "FLOOR")]
-    text = f"PROGRAM {name}\n{declared(rnd, 'VAR', [*plain, Place('I', 'INT', *WHOLE['INT']), Place('J', 'INT', -20, 40)], instances)}"
-    text += "VAR SHADE : COLOUR; FLOOR : STOREY; END_VAR\nVAR CONSTANT MANY : INT := 2 + 3; DEEP : DINT := 70_000; END_VAR\nVAR_EXTERNAL SHARED : INT (0..50); END_VAR\n"
+    own = [*plain, Place("I", "INT", *WHOLE["INT"]), Place("J", "INT", -20, 40)]
+    text = f"PROGRAM {name}\n{declared(rnd, 'VAR', own, instances)}"
+    text += (
+        "VAR SHADE : COLOUR; FLOOR : STOREY; END_VAR\nVAR CONSTANT MANY : INT := 2 + 3; DEEP : DINT := 70_000; "
+        "END_VAR\nVAR_EXTERNAL SHARED : INT (0..50); END_VAR\n"
+    )
     return text + "\n".join([*unit.lines, "END_PROGRAM", ""])
 
 

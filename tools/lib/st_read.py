@@ -1,4 +1,6 @@
-"""Reads a text in Structured Text: the grammar is st.lark, and here its nodes are made, and refused is by its name what the profile leaves out."""
+"""Reads a text in Structured Text: the grammar is st.lark, and here its nodes are made, and refused is by its name what
+the profile leaves out.
+"""
 import functools, os, re, sys
 
 from lark import Lark, Token, Transformer, v_args
@@ -172,7 +174,10 @@ class Tree(Transformer):
             if made.index is not None or made.member is not None:
                 raise Refusal(
                     made.place,
-                    "one index or one member may stand behind a name: arrays of instances and members of members are left out",
+                    (
+                        "one index or one member may stand behind a name: arrays of instances and members of members "
+                        "are left out"
+                    ),
                 )
             setattr(made, kind, what if kind == "index" else str(what))
         return made
@@ -264,7 +269,10 @@ class Tree(Transformer):
         if len(bounds) > 1:
             raise Refusal(
                 self.at(meta)[0],
-                "arrays of two and more dimensions are left out: write one dimension, and an index such as (I - 1) * 8 + J",
+                (
+                    "arrays of two and more dimensions are left out: write one dimension, "
+                    "and an index such as (I - 1) * 8 + J"
+                ),
             )
         return TypeOf(*self.at(meta), None, list(bounds), element)
 

@@ -10,7 +10,9 @@ KEEPS = {"JMPC", "JMPCN", "RETC", "RETCN"}  # the current result stays behind th
 
 
 def shortened(steps: list[Step], own: set[str]) -> list[Step]:
-    """The same in fewer steps. Of its own variables a unit keeps a load of each that it reads at all, or `check --warn` would say that it never does."""
+    """The same in fewer steps. Of its own variables a unit keeps a load of each that it reads at all, or `check --warn`
+    would say that it never does.
+    """
     while True:
         before = [(it, it.text, it.goes_to) for it in steps]
         for one in (
@@ -50,7 +52,9 @@ class Around:
 
 
 def threaded(steps: list[Step]) -> list[Step]:
-    """A jump to a jump goes where that one goes, and one to a return is one; but for a test that narrows, which stays a jump."""
+    """A jump to a jump goes where that one goes, and one to a return is one; but for a test that narrows, which stays a
+    jump.
+    """
     around = Around(steps)
     for it in reversed(steps):
         if it.goes_to is None:
@@ -150,7 +154,9 @@ def reads(steps: list[Step]) -> Counter:
 
 
 def without_loads(steps: list[Step], own: set[str]) -> list[Step]:
-    """A load of what is the current result anyway is left out, but for that of a test that narrows, and the last that reads a variable of the unit's own."""
+    """A load of what is the current result anyway is left out, but for that of a test that narrows, and the last that
+    reads a variable of the unit's own.
+    """
     made: list[Step] = []
     same: set[str] = set()  # the operands whose value is the current result
     times = reads(steps)

@@ -1,4 +1,6 @@
-"""A whole text of Instruction List from one in Structured Text, for tools/st, with the place in ST of each line and the comments at their places."""
+"""A whole text of Instruction List from one in Structured Text, for tools/st, with the place in ST of each line and the
+comments at their places.
+"""
 import re
 from dataclasses import dataclass, field
 
@@ -251,7 +253,10 @@ class Maker:
         if count > MOST_INSTRUCTIONS:
             raise Refusal(
                 unit.place,
-                f"{count} instructions, and a unit has {MOST_INSTRUCTIONS} at most: put what is repeated into a function block",
+                (
+                    f"{count} instructions, and a unit has {MOST_INSTRUCTIONS} at most: "
+                    "put what is repeated into a function block"
+                ),
             )
         result = f" : {scope.symbols[unit.name.upper()].type}" if unit.kind == "FUNCTION" else ""
         self.constants([of for of in unit.lists if of.kind == "VAR"], scope.constants)

@@ -20,8 +20,12 @@ SUBRANGE = "write a whole type with a subrange, such as INT (0..100), in smaller
 BITS = "write BOOL for each bit, or a whole type"
 EDITION_3 = "write functions, function blocks and programs"
 LEFT_OUT = {  # words that the profile leaves out, and what to write instead
-    "WHILE": "write FOR with bounds that are known when the text is translated, and leave it by EXIT; or one step a scan",
-    "REPEAT": "write FOR with bounds that are known when the text is translated, and leave it by EXIT; or one step a scan",
+    "WHILE": (
+        "write FOR with bounds that are known when the text is translated, and leave it by EXIT; " "or one step a scan"
+    ),
+    "REPEAT": (
+        "write FOR with bounds that are known when the text is translated, and leave it by EXIT; " "or one step a scan"
+    ),
     "REAL": SUBRANGE,
     "LREAL": SUBRANGE,
     "LINT": "write DINT or UDINT",

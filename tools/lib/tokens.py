@@ -1,4 +1,6 @@
-"""The tokens of a text and their faults, 1 to 6, from docs/LANGUAGE.md and docs/FAULTS.md: nothing here is the program's."""
+"""The tokens of a text and their faults, 1 to 6, from docs/LANGUAGE.md and docs/FAULTS.md: nothing here is the
+program's.
+"""
 import re
 
 TEXT_LIMIT = 262_144  # bytes
@@ -20,7 +22,8 @@ DIGITS_ENOUGH = 60  # a number with more digits is too large, whatever they are
 
 BAD_BYTE = re.compile(rb"[^\t\n\r\x20-\x7e]|\r(?!\n)")
 FORMS = re.compile(
-    rb"(?P<blank>[ \t]+)|(?P<line_end>\r?\n)|(?P<comment>\(\*)|(?P<typed>[A-Za-z_][A-Za-z0-9_]*#-?[A-Za-z0-9_#]*)|(?P<word>[A-Za-z_][A-Za-z0-9_]*)"
+    rb"(?P<blank>[ \t]+)|(?P<line_end>\r?\n)|(?P<comment>\(\*)|(?P<typed>[A-Za-z_][A-Za-z0-9_]*#-?[A-Za-z0-9_#]*)"
+    rb"|(?P<word>[A-Za-z_][A-Za-z0-9_]*)"
     rb"|(?P<number>-?[0-9][A-Za-z0-9_#]*)|(?P<sign>:=|=>|\.\.|[:;,()\[\].&])"
 )
 GOOD_WORD = re.compile(rb"_?[A-Za-z0-9]+(_[A-Za-z0-9]+)*")
@@ -39,9 +42,11 @@ def line_of(text, place):
 
 
 def tokens_and_fault(text):
-    """The tokens up to the first fault, each with the name of its form, its bytes and its place; and the fault's number and place, or None.
+    """The tokens up to the first fault, each with the name of its form, its bytes and its place; and the fault's number
+    and place, or None.
 
-    A place is how many bytes stand before it."""
+    A place is how many bytes stand before it.
+    """
     if len(text) > TEXT_LIMIT:
         return [], (6, 0)
     tokens, at, length = [], 0, len(text)
@@ -112,7 +117,9 @@ def number_of(run):
 
 
 def value_of(digits, base, digit):
-    """The value of digits with single underscores between them. One that is much too large is cut, and still too large."""
+    """The value of digits with single underscores between them. One that is much too large is cut, and still too
+    large.
+    """
     if not re.fullmatch(rb"%b+(_%b+)*" % (digit, digit), digits):
         return None
     return int(digits.replace(b"_", b"").lstrip(b"0")[:DIGITS_ENOUGH] or b"0", base)

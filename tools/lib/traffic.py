@@ -1,7 +1,8 @@
 """Passengers of a building: when they come, where from and where to.
 
-Floor 1 is the main floor, where people come in and go out. A passenger is incoming (from floor 1 to another), outgoing (to floor 1) or inter-floor (neither).
-The demand is the number of passengers in five minutes, as a percentage of the population. They come one by one as a Poisson process.
+Floor 1 is the main floor, where people come in and go out. A passenger is incoming (from floor 1 to another), outgoing
+(to floor 1) or inter-floor (neither). The demand is the number of passengers in five minutes, as a percentage of the
+population. They come one by one as a Poisson process.
 """
 import random
 from dataclasses import dataclass
@@ -48,7 +49,9 @@ def can_move(mix: Mix, population: list[int]) -> bool:
 
 
 def arrivals(mix: Mix, population: list[int], demand: float, seconds: float, seed: int) -> list[Arrival]:
-    """All passengers of so many seconds, by time. They depend on these words alone, so that two dispatchers get the same ones."""
+    """All passengers of so many seconds, by time. They depend on these words alone, so that two dispatchers get the
+    same ones.
+    """
     chance = random.Random(seed)
     rate = demand / 100 * sum(population) / FIVE_MINUTES  # passengers a second
     floors, weights = range(2, len(population) + 1), list(accumulate(population[1:]))

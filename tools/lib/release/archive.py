@@ -1,5 +1,6 @@
-"""Writes a tree of files and links as an archive and as a Debian package, so that the same tree gives the same bytes: names are sorted, all times are one,
-all belongs to root, and modes are those of the tree, whatever the machine has."""
+"""Writes a tree of files and links as an archive and as a Debian package, so that the same tree gives the same bytes:
+names are sorted, all times are one, all belongs to root, and modes are those of the tree, whatever the machine has.
+"""
 import hashlib, io, os, shutil, subprocess, tarfile, tempfile
 
 from lib.release.contents import FOLDER, PLAIN, File, Link, Tree

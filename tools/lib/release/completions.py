@@ -47,7 +47,10 @@ COMMANDS = (
         (
             Option("--warn", "", "Also tells, on standard error, what an accepted FILE declares or stores in vain"),
             Option("--limits", "", "Also shows how much of each limit FILE uses"),
-            Option("--paths", "", "Shows lines of a path that follow one another as a range, as 144-247; not with --json"),
+            Option(
+                "--paths", "",
+                "Shows lines of a path that follow one another as a range, as 144-247; not with --json",
+            ),
             Option("--all", "", "Also tells the first fault of each other unit of a refused FILE"),
             JSON,
         ),
@@ -64,38 +67,60 @@ COMMANDS = (
             FIRE,
             CALLS,
             Option("--together", "", "A round ends for all tasks before the next begins"),
-            Option("--left", "", "Also says on the standard error how many calls are left in the collector's hand and on the desk"),
+            Option(
+                "--left", "",
+                "Also says on the standard error how many calls are left in the collector's hand and on the desk",
+            ),
         ),
     ),
     Command(
-        "denials", "Runs FILE as `sim` does, or replays a trace on it, and prints what the interlock denied", "<FILE> <ROUNDS|TRACE> [PRESS]...",
-        (FIRE, CALLS, Option("--all", "", "Also shows each stop at the top or the bottom, which no program can avoid"), CUT, JSON),
+        "denials", "Runs FILE as `sim` does, or replays a trace on it, and prints what the interlock denied",
+        "<FILE> <ROUNDS|TRACE> [PRESS]...",
+        (FIRE, CALLS, Option(
+            "--all", "",
+            "Also shows each stop at the top or the bottom, which no program can avoid",
+        ), CUT, JSON),
     ),
     Command(
-        "watch", "Runs FILE as `sim` does, or replays a trace on it, and prints values behind each round, as CSV", "<FILE> <ROUNDS|TRACE> <NAME>...",
+        "watch", "Runs FILE as `sim` does, or replays a trace on it, and prints values behind each round, as CSV",
+        "<FILE> <ROUNDS|TRACE> <NAME>...",
         (FIRE, CALLS, Option("--changes", "", "Leaves out a round whose values are those of the round before"), CUT),
     ),
     Command("replay", "Replays a trace on FILE and prints the image", "<FILE> <TRACE>", (CUT,)),
     Command(
         "draw", "Replays a trace on FILE and prints a picture of it, as SVG", "<FILE> <TRACE>",
-        (CUT, Option("--rounds", "A:B", "Draws the rounds from A to B alone; `A:` is up to the last one, `:B` from the first on")),
+        (CUT, Option(
+            "--rounds", "A:B",
+            "Draws the rounds from A to B alone; `A:` is up to the last one, `:B` from the first on",
+        )),
     ),
     Command(
         "calls", "Replays a trace on FILE and prints its calls, from press to service, as CSV", "<FILE> <TRACE>",
-        (CUT, Option("--summary", "", "Shows how many calls there are, and how long they wait and take, in seconds; not with --json"), JSON),
+        (CUT, Option(
+            "--summary", "",
+            "Shows how many calls there are, and how long they wait and take, in seconds; not with --json",
+        ), JSON),
     ),
     Command(
-        "scan", "Replays a trace on FILE and prints the last scan of TASK that it commits, instruction by instruction", "<FILE> <TRACE> <TASK>",
+        "scan", "Replays a trace on FILE and prints the last scan of TASK that it commits, instruction by instruction",
+        "<FILE> <TRACE> <TASK>",
         (
             CUT,
             Option("--round", "N", "Shows the scan that is committed in round N"),
-            Option("--until", "LINE", "Shows nothing after the first instruction of LINE; with FROM:LINE nothing before that of FROM"),
+            Option(
+                "--until", "LINE",
+                "Shows nothing after the first instruction of LINE; with FROM:LINE nothing before that of FROM",
+            ),
         ),
     ),
     Command(
         "serve", "Runs FILE behind lines: R, P, K and E in, outputs back; docs/SERVE.md has the lines", "<FILE>",
         (
-            Option("--from", "OLD", "With --trace: goes on where the trace OLD ends: its calls, cars and variables are there again, every output still; TRACE begins with that state"),
+            Option(
+                "--from", "OLD",
+                "With --trace: goes on where the trace OLD ends: its calls, cars and variables are there again, "
+                "every output still; TRACE begins with that state",
+            ),
             Option("--trace", "TRACE", "Writes each event to TRACE, a new file, before it happens"),
             Option("--sync", "", "With --trace: has the disk write each line before it is answered"),
         ),
@@ -147,7 +172,9 @@ def options_of_document(text: str) -> dict[str, set[str]]:
 
 
 def differences(program: str, document: str, table: tuple[Command, ...] = COMMANDS) -> Iterator[str]:
-    """What differs between the table, `help` and docs/COMMANDS.md, a line each. Without a program `help` isn't asked."""
+    """What differs between the table, `help` and docs/COMMANDS.md, a line each. Without a program `help` isn't
+    asked.
+    """
     here = {it.name: it for it in table}
     if program:
         there = {it.name: it for it in commands_of(program)}
@@ -160,7 +187,10 @@ def differences(program: str, document: str, table: tuple[Command, ...] = COMMAN
     for name in {**here, **shown}:
         found, wanted = {it.name for it in here[name].options} if name in here else None, shown.get(name)
         if name != "help" and found != wanted:
-            yield f"completions: options of {name}: {found and sorted(found)} and, in docs/COMMANDS.md, {wanted and sorted(wanted)}"
+            yield (
+                f"completions: options of {name}: {found and sorted(found)} and, in docs/COMMANDS.md, "
+                f"{wanted and sorted(wanted)}"
+            )
 
 
 # completions
@@ -208,7 +238,8 @@ _liftplc() {{
     case "$before" in
         {plain}) return ;;
         {taken}) ;;
-        *) [[ $command != explain ]] || {{ mapfile -t COMPREPLY < <(compgen -W "{" ".join(numbers)}" -- "$word"); return; }} ;;
+        *) [[ $command != explain ]] || {{ \
+mapfile -t COMPREPLY < <(compgen -W "{" ".join(numbers)}" -- "$word"); return; }} ;;
     esac
     compopt -o filenames
     mapfile -t COMPREPLY < <(compgen -f -- "$word")

@@ -1,7 +1,7 @@
 """What is in a release, and where: files and links below a prefix, such as /usr.
 
-bin, lib, include and share/man are what an installation has; share/liftplc is laid out as a checkout, so that the tools, the gateways and the documents find
-one another there as they do in the repository.
+bin, lib, include and share/man are what an installation has; share/liftplc is laid out as a checkout, so that the
+tools, the gateways and the documents find one another there as they do in the repository.
 """
 import ast, gzip, os, re
 from dataclasses import dataclass
@@ -100,8 +100,14 @@ def unit(prefix: str) -> str:
     lines = [
         head.split("\n")[0],
         "#",
-        "# It is not enabled. Write the group's text to /etc/liftplc/group.il, and the field's address into a copy of this file, which is",
-        "# /etc/systemd/system/liftplc.service; then `systemctl enable --now liftplc`. Traces and logs are in /var/lib/liftplc.",
+        (
+            "# It is not enabled. Write the group's text to /etc/liftplc/group.il, "
+            "and the field's address into a copy of this file, which is"
+        ),
+        (
+            "# /etc/systemd/system/liftplc.service; then `systemctl enable --now liftplc`. "
+            "Traces and logs are in /var/lib/liftplc."
+        ),
     ]
     return "\n".join([*lines, "", "[Unit]", rest.replace(UNIT_HOME, f"{prefix}/{HOME}/gateways/")])
 
@@ -120,7 +126,9 @@ def library(build: Build) -> Tree:
 
 
 def checkout(build: Build, version: str) -> Tree:
-    """share/liftplc: what is as in the repository, and links to the program where the tools look for it; an unproved one is where they warn of it."""
+    """share/liftplc: what is as in the repository, and links to the program where the tools look for it; an unproved
+    one is where they warn of it.
+    """
     python = {f"tools/{name}" for name in TOOLS} | {
         it for it in files("gateways/modbus", "gateways/lib", "examples/modbus") if not it.endswith(".md")
     }
@@ -179,7 +187,8 @@ License: Apache-2.0
 """
 
 
-# What lintian is told: the program is installed as it was built and tried, and the library where `./liftplc --install` puts it, so that its .pc file fits.
+# What lintian is told: the program is installed as it was built and tried, and the library where `./liftplc --install`
+# puts it, so that its .pc file fits.
 OVERRIDES = "liftplc: unstripped-binary-or-object [usr/bin/liftplc]\n"
 OF_THE_LIBRARY = "liftplc: pkg-config-unavailable-for-cross-compilation [usr/lib/pkgconfig/liftplc.pc]\n"
 

@@ -44,7 +44,9 @@ def folders_of(paths: list[str]) -> list[str]:
 
 
 def manifest(tree: Tree, source: Source) -> str:
-    """A line each. Those of files are as `sha256sum` writes them, behind the word; folders come last, those inside others first."""
+    """A line each. Those of files are as `sha256sum` writes them, behind the word; folders come last, those inside
+    others first.
+    """
     lines = [
         f"liftplc {source.version}",
         f"commit {source.commit.name}",
@@ -109,7 +111,9 @@ def made_from(source: Source) -> list[str]:
 
 
 def spdx(tree: Tree, source: Source) -> str:
-    """The release with its files, the crates of the commit, those of the kit, and the kit. What a proved program is made from is said too."""
+    """The release with its files, the crates of the commit, those of the kit, and the kit. What a proved program is
+    made from is said too.
+    """
     main, kit = "SPDXRef-liftplc", "SPDXRef-kit"
     files = [spdx_file(path, it.data) for path, it in sorted(tree.items()) if isinstance(it, File)]
     code = hashlib.sha1("".join(sorted(it["checksums"][0]["checksumValue"] for it in files)).encode()).hexdigest()

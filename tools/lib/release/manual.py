@@ -1,7 +1,7 @@
 """Manual pages in roff: of docs/COMMANDS.md, of docs/SERVE.md, and of what a tool says at its top.
 
-Markdown is read as far as these documents have it: headings, paragraphs, tables, lists, blocks of code, and `code`, bold, italics and links in a line. A row
-of a table becomes an item: its first cell, and below it the others.
+Markdown is read as far as these documents have it: headings, paragraphs, tables, lists, blocks of code, and `code`,
+bold, italics and links in a line. A row of a table becomes an item: its first cell, and below it the others.
 """
 import ast, re, textwrap
 from dataclasses import dataclass, field
@@ -10,7 +10,8 @@ from typing import Iterator
 from lib.release.completions import COMMANDS
 
 INLINE = re.compile(
-    r"`(?P<code>[^`]+)`|\*\*(?P<bold>.+?)\*\*|\*(?P<slanted>[^*\s][^*]*)\*|\[(?P<link>(?:`[^`]*`|[^\]])*)\]\((?P<target>[^)]*)\)"
+    r"`(?P<code>[^`]+)`|\*\*(?P<bold>.+?)\*\*|\*(?P<slanted>[^*\s][^*]*)\*|\[(?P<link>(?:`[^`]*`"
+    r"|[^\]])*)\]\((?P<target>[^)]*)\)"
 )
 LETTERS = {"\\": r"\e", "-": r"\-", "^": r"\(ha", "~": r"\(ti", "`": r"\(ga"}
 RENAMED = {"Statuses and standard error": "EXIT STATUS"}  # as manual pages call it
@@ -103,7 +104,9 @@ def cells(line: str) -> list[str]:
 
 
 def table(lines: list[str]) -> list[str]:
-    """Beyond two columns each cell has the head of its column in front. A row without a first cell goes on with that of the row before."""
+    """Beyond two columns each cell has the head of its column in front. A row without a first cell goes on with that of
+    the row before.
+    """
     heads, *rows = [cells(it) for it in lines if not re.fullmatch(r"[|\-: ]+", it.strip())]
     if any(len(it) != len(heads) for it in rows):
         raise NoPage(f"a row of the table `{lines[0]}` has another number of cells")
@@ -268,7 +271,9 @@ def folded(line: str) -> list[str]:
 
 
 def columns(paragraph: str) -> list[str]:
-    """Lines with columns, as items. A line that begins with a blank goes on with the one before; one without columns is a paragraph."""
+    """Lines with columns, as items. A line that begins with a blank goes on with the one before; one without columns is
+    a paragraph.
+    """
     made: list[str] = []
     for line in re.sub(r"\n\s+", " ", paragraph).splitlines():
         first, *others = re.split(r" {2,}", line.strip())

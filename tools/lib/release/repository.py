@@ -1,4 +1,6 @@
-"""What a release is made from: the commit of the checkout, its version, the program with what is known of it, and the crates."""
+"""What a release is made from: the commit of the checkout, its version, the program with what is known of it, and the
+crates.
+"""
 import os, re, shutil, subprocess
 from dataclasses import dataclass
 from typing import Iterator
@@ -34,7 +36,9 @@ class Commit:
 
 @dataclass(frozen=True)
 class Build:
-    """What ./liftplc has made. `sources` is the checksum of what it was made from, and `kit` with which kit; empty where that isn't known."""
+    """What ./liftplc has made. `sources` is the checksum of what it was made from, and `kit` with which kit; empty
+    where that isn't known.
+    """
 
     program: bytes
     library: bytes
@@ -87,7 +91,10 @@ def commit() -> Commit:
     if changed:
         raise Trouble(
             3,
-            f"the checkout isn't as it was committed: {changed[0].strip()}{f', and {len(changed) - 1} more' if changed[1:] else ''}",
+            (
+                "the checkout isn't as it was committed: "
+                f"{changed[0].strip()}{f', and {len(changed) - 1} more' if changed[1:] else ''}"
+            ),
         )
     given = os.environ.get("SOURCE_DATE_EPOCH", "")
     if given and not (given.isascii() and given.isdecimal()):
@@ -120,7 +127,9 @@ def build_folder() -> str:
 
 
 def is_proved() -> bool:
-    """Whether ./liftplc takes the build for the proved program of these sources. Without the kit it makes none, and says of any other build what it is."""
+    """Whether ./liftplc takes the build for the proved program of these sources. Without the kit it makes none, and
+    says of any other build what it is.
+    """
     env = {it: os.environ[it] for it in ("LIFTPLC_BUILD",) if it in os.environ} | {"PATH": WITHOUT_KIT}
     done = subprocess.run(
         [f"{TOP}/liftplc", "--version"],

@@ -13,7 +13,7 @@ from typing import Protocol
 
 from lib.building import ROUND, Car as Running, Plant, Timetable
 from lib.kinematics import Drive, flight
-from lib.plant import DOOR_OPEN, PLACES_OF_FLOOR
+from lib.plant import DOOR_OPEN, PLACES_OF_FLOOR, Shaft
 from lib.torture.machine import CarFields
 
 SLOWER = 4  # a slow door goes its way in so many times the rounds
@@ -51,7 +51,7 @@ class SimCar:
     """That of the plant of `sim`: docs/TRACE.md."""
 
     def __init__(self, floors: int):
-        self.floors = floors
+        self.shaft = Shaft(floors)
         self.place = self.door = self.opened_at = self.moved_at = self.direction = 0
         self.dead = self.held = self.jammed = self.slow = False
         self.sensors: dict[str, bool] = {}
@@ -59,16 +59,14 @@ class SimCar:
         self.show()
 
     def show(self):
-        place, top = self.place, PLACES_OF_FLOOR * (self.floors - 1)
-        floor = min(max((place + PLACES_OF_FLOOR // 2) // PLACES_OF_FLOOR + 1, 1), self.floors)
-        level, opened = not place % PLACES_OF_FLOOR, self.door == DOOR_OPEN
-        self.fields = reported((floor, level, place >= top, place <= 0, not self.door, opened), self.sensors)
+        floor, (level, top, bottom, locked, opened) = self.shaft.reported(self.place, self.door)
+        self.fields = reported((floor, level, top, bottom, locked, opened), self.sensors)
         self.landing = floor if level and opened else 0
 
     def step(self, motor: int, opens: int, now: int):
         changes = self.moves_door(opens and not motor, now)
         if motor and not self.door and not self.dead:
-            place = min(max(self.place + motor, -PLACES_OF_FLOOR), PLACES_OF_FLOOR * self.floors)
+            place = self.shaft.place_after(self.place, motor)
             if place != self.place:
                 self.place, self.moved_at, changes = place, now, True
         if changes:
