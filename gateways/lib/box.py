@@ -73,16 +73,25 @@ def has_round(trace: str) -> bool:
         return True
 
 
+def slot_lines(trace: str | bytes) -> list[str]:
+    """The SLOT lines of the state with which a trace begins, in the order of the slots: all of them, or none where that state isn't whole."""
+    lines = []
+    with open(trace, encoding="ascii", errors="replace", newline="\n") as file:
+        while (line := file.readline(LONGEST)) and line != f"{STATE_END}\n":
+            if line.startswith("SLOT "):
+                lines.append(line.rstrip("\n"))
+    return lines if line else []
+
+
 def calls_at_start(trace: str) -> dict[int, tuple[int, int, int]]:
     """Those in the call slots of the state with which a trace begins, by ticket: floor from, floor to, and the car or
     0.
     """
     calls = {}
-    with open(trace, encoding="ascii", errors="replace", newline="\n") as file:
-        while (words := file.readline(LONGEST).split()) and words[0] != STATE_END:
-            if words[0] == "SLOT" and words[2] != "FREE":
-                ticket, start, goal, *car = map(int, words[3:])
-                calls[ticket] = start, goal, car[0] if car else 0
+    for words in map(str.split, slot_lines(trace)):
+        if words[2] != "FREE":
+            ticket, start, goal, *car = map(int, words[3:])
+            calls[ticket] = start, goal, car[0] if car else 0
     return calls
 
 

@@ -16,6 +16,7 @@ class Spread:
     median: float  # half of them are at most this
     most: float  # 95 of 100 are at most this
     greatest: float
+    count: int
 
 
 def share(ordered: list[float], part: float) -> float:
@@ -25,9 +26,9 @@ def share(ordered: list[float], part: float) -> float:
 
 def spread(times: list[float]) -> Spread:
     if not times:
-        return Spread(0, 0, 0, 0)
+        return Spread(0, 0, 0, 0, 0)
     ordered = sorted(times)
-    return Spread(sum(ordered) / len(ordered), share(ordered, 0.5), share(ordered, 0.95), ordered[-1])
+    return Spread(sum(ordered) / len(ordered), share(ordered, 0.5), share(ordered, 0.95), ordered[-1], len(ordered))
 
 
 @dataclass(frozen=True)
@@ -80,7 +81,13 @@ def figures(building: Building, length: Length) -> Figures:
 
 
 def shown_spread(it: Spread) -> str:
+    if not it.count:
+        return "none"
     return f"mean {it.mean:.1f}, median {it.median:.1f}, 95 of 100 {it.most:.1f}, greatest {it.greatest:.1f}"
+
+
+def shown_load(of: Figures) -> str:
+    return f"mean {of.mean_load:.1f}, greatest {of.greatest_load}" if of.greatest_load else "none"
 
 
 def shown_calls(building: Building) -> str:
@@ -110,10 +117,7 @@ def report(building: Building, of: Figures, population: int) -> str:
         f"time to destination, until the door begins to open (s): {shown_spread(of.journey_to_door)}",
         f"transit, from that door to that door (s): {shown_spread(of.transit)}",
         f"carried in five minutes: {of.handled:.1f} persons, {100 * of.handled / population:.1f} % of the population",
-        (
-            f"load on leaving a landing (persons): mean {of.mean_load:.1f}, greatest {of.greatest_load}, "
-            f"capacity {building.plant.capacity}"
-        ),
+        f"load on leaving a landing (persons): {shown_load(of)}, capacity {building.plant.capacity}",
         (
             f"passengers who pressed again: {of.pressed_again}; who found a car full: {of.found_full}; "
             f"times let out on the way: {building.let_out}"

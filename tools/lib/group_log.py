@@ -61,7 +61,8 @@ class Call:
     pressed: int  # ms of the log's time
     pressed_at: int  # ms of the wall clock
     car: int = 0  # 0: none is told yet
-    is_aboard: bool = False
+    is_aboard: bool | None = False  # None: it isn't known, of a call from before the log
+    is_from_before: bool = False  # it was pressed before the log began
 
 
 @dataclass
@@ -99,6 +100,9 @@ class GroupLog:
         )  # from, to, and when: log's time, wall clock
         self.now, self.limit, self.fire = 0, self.sizes.cars, 0
         self.refreshed_at: int | None = None  # ms of the wall clock
+        self.asked = 0  # R lines without an answer; they may be sent ahead
+        self.is_unsure = False  # a line was damaged or is missing since the last R line
+        self.goes_on = self.knows_calls = False  # from a trace; and its call slots are in the log
         self.reply: int | None = None  # ms from the last R line to its outputs
         self.status: int | None = None
 
@@ -109,12 +113,16 @@ class GroupLog:
             self.take_record(line.split(b" "))
         except Damaged:
             self.wall, self.shift = before
-            self.counts.damaged += 1
+            self.count_damaged()
 
     def take_long(self):
         """A line that is longer than any record."""
         self.counts.lines += 1
+        self.count_damaged()
+
+    def count_damaged(self):
         self.counts.damaged += 1
+        self.is_unsure = True
 
     def take_record(self, words: list[bytes]):
         if words[0] == b"LIFTLOG":
@@ -125,7 +133,13 @@ class GroupLog:
         if len(words) < 3:
             raise Damaged
         self.go_to(number(words[0], *ANY))
-        takers = {b">": self.take_input, b"<": self.take_output, b"!": self.take_end, b"?": self.take_gap}
+        takers = {
+            b">": self.take_input,
+            b"<": self.take_output,
+            b"=": self.take_state,
+            b"!": self.take_end,
+            b"?": self.take_gap,
+        }
         if words[1] not in takers:
             raise Damaged
         takers[words[1]](words[2], words[3:])
@@ -147,6 +161,29 @@ class GroupLog:
 
     def take_gap(self, word: bytes, rest: list[bytes]):
         self.counts.missing += numbers([word, *rest], (1, ANY[1]))[0]
+        self.is_unsure = True
+
+    def take_state(self, word: bytes, rest: list[bytes]):
+        """That the run goes on, or a call slot as it is then."""
+        if [word, *rest] == [b"GOES", b"ON"]:
+            self.goes_on = True
+        elif word == b"SLOT" and len(rest) >= 2:
+            self.take_slot(number(rest[0], 1, self.sizes.slots), rest[1], rest[2:])
+        else:
+            raise Damaged
+
+    def take_slot(self, slot: int, state: bytes, words: list[bytes]):
+        tickets, floors, cars = (1, ANY[1]), (1, self.sizes.floors), (1, self.sizes.cars)
+        ranges = {b"FREE": [], b"WAITING": [tickets, floors, floors], b"TOLD": [tickets, floors, floors, cars]}
+        if state not in ranges:
+            raise Damaged
+        given = numbers(words, *ranges[state])
+        self.calls.pop(slot, None)
+        if given:
+            ticket, start, end, *car = given
+            is_aboard = None if car else False
+            self.calls[slot] = Call(ticket, slot, start, end, self.time(), self.wall, *(car or [0]), is_aboard, True)
+        self.knows_calls = True
 
     def take_input(self, word: bytes, rest: list[bytes]):
         if word == b"R":
@@ -165,11 +202,13 @@ class GroupLog:
         for car, floor, bits in zip(self.cars, places, flags):
             car.floor, car.flags = floor, bits.decode("ascii")
         self.refreshed_at, self.reply = self.wall, None
+        self.asked, self.is_unsure = 1 if self.is_unsure else self.asked + 1, False
         for call in self.calls.values():
             if call.car and not call.is_aboard and self.cars[call.car - 1].stands_open_at(call.start):
                 call.is_aboard = True
-                self.counts.boarded += 1
-                self.counts.waited += self.time() - call.pressed
+                if not call.is_from_before:  # nobody knows since when that one waited
+                    self.counts.boarded += 1
+                    self.counts.waited += self.time() - call.pressed
 
     def take_output(self, word: bytes, rest: list[bytes]):
         takers = {
@@ -189,9 +228,11 @@ class GroupLog:
         given = numbers(words, *[(-1, 1), (0, 1)] * self.sizes.cars)
         for car, motor, is_open in zip(self.cars, given[::2], given[1::2]):
             car.motor, car.open = motor, is_open
-        if self.refreshed_at is not None and self.reply is None:
-            self.reply = max(0, self.wall - self.refreshed_at)
+        if self.asked:  # none is, where this is the stop
+            self.asked -= 1
             self.counts.rounds += 1
+            if not self.asked:
+                self.reply = max(0, self.wall - self.refreshed_at)
 
     def take_denied(self, words: list[bytes]):
         car, rule = numbers(words, (1, self.sizes.cars), (1, RULES))
@@ -263,7 +304,7 @@ def as_json(group: GroupLog, asked: Asked) -> str:
             "slot": it.slot,
             "from": it.start,
             "to": it.end,
-            "pressed_ms": it.pressed_at,
+            "pressed_ms": None if it.is_from_before else it.pressed_at,
             "car": it.car or None,
             "aboard": it.is_aboard,
         }
@@ -281,6 +322,8 @@ def as_json(group: GroupLog, asked: Asked) -> str:
     }
     run = {
         "number": counts.runs,
+        "goes_on": group.goes_on,
+        "calls_known": group.knows_calls or not group.goes_on,
         "status": group.status,
         "late": is_late(group, asked),
         "last_round_ms": group.refreshed_at,
