@@ -37,9 +37,9 @@ use Rattle.il_name_reasons.specs.declared.names_meant.Access.{Access}
 use Rattle.il_name_reasons.specs.declared.names_meant.Access.TheVariants.{Reads, Stores}
 use Rattle.il_name_reasons.specs.NamesNear.{Nearest, hint, ending, nearest}
 use Rattle.il_name_reasons.specs.NameSpots.{is_at}
-use Rattle.il_name_reasons.specs.NamesKnown.{variables_near, functions_near, types_near, globals_near}
+use Rattle.il_name_reasons.specs.NamesKnown.{variables_near, instances_near, functions_near, types_near, globals_near}
 use Rattle.il_name_reasons.specs.NamesLabels.{missing_line, missing_text, labels_near, jump_text}
-use Rattle.il_name_reasons.specs.NamesUnknown.{unknown_variable, meant_by, meant_by_form, unknown_line, unseen_line, no_function_line, instance_line, unit_line, standard_line, no_instance_line, no_word, no_word_line, unknown_text, scalar_by, meaning_by, member_by, rule_access, reference_text, read_text, index_text, argument_text, short_form_text, function_text, instruction_text, form_text, type_text, global_text, external_text, externals_text, types_text, unit_text, unknown_lines}
+use Rattle.il_name_reasons.specs.NamesUnknown.{unknown_variable, unknown_instance, meant_by, meant_by_form, unknown_line, unseen_line, no_function_line, instance_line, unit_line, standard_line, no_instance_line, no_word, no_word_line, unknown_text, scalar_by, meaning_by, called_by, member_by, rule_access, reference_text, read_text, index_text, argument_text, short_form_text, function_text, instruction_text, form_text, type_text, global_text, external_text, externals_text, types_text, unit_text, unknown_lines}
 use Rattle.il_reasons.specs.NamesTold.{HasLine}
 use Rattle.il_reasons.specs.TreeReasons.{instruction_lines, step_lines, unit_lines, place_lines, tree_lines, AreToldOfTree}
 
@@ -67,6 +67,13 @@ variable_is : (config : Config) (unit : ProgramUnit) (name : Spelling) → HasLi
 variable_is config unit name = by_test (is_predeclared config name)
   where
     by_test : (b : Bool) → HasLine (if b then unseen_line name else unknown_text name (variables_near config unit))
+    by_test true = unseen_is name
+    by_test false = unknown_is name _
+
+unknown_instance_is : (config : Config) (unit : ProgramUnit) (name : Spelling) → HasLine (unknown_instance config unit name)
+unknown_instance_is config unit name = by_test (is_predeclared config name)
+  where
+    by_test : (b : Bool) → HasLine (if b then unseen_line name else unknown_text name (instances_near unit))
     by_test true = unseen_is name
     by_test false = unknown_is name _
 
@@ -126,11 +133,11 @@ called_form_told (OfScalar s) h = other h
 called_form_told (OfArray b e) h = other h
 called_form_told (OfBlock n) h = absurd (none_in 21 h)
 
-called_told : (config : Config) (unit : ProgramUnit) (name : Spelling) (m : Option Meaning) → Contains (called_numbers m) 21 → HasLine (meaning_by config unit name (meant_by m))
+called_told : (config : Config) (unit : ProgramUnit) (name : Spelling) (m : Option Meaning) → Contains (called_numbers m) 21 → HasLine (called_by config unit name (meant_by m))
 called_told config unit name (Some (MeansVariable v)) h = called_form_told v.form h
 called_told config unit name (Some (MeansUnit u)) h = other h
 called_told config unit name (Some MeansStandard) h = other h
-called_told config unit name None h = variable_is config unit name
+called_told config unit name None h = unknown_instance_is config unit name
 
 -- a word behind an instance
 word_told : (access : Access) (name word : Spelling) (b : Bool) → Contains (unless b 21) 21 → HasLine (if b then [] else no_word_line access name word)
@@ -147,7 +154,7 @@ member_told : (config : Config) (unit : ProgramUnit) (access : Access) (name wor
 member_told config unit access name word (Some (MeansVariable v)) e h = member_form_told config unit access name word v.form (ap (λ m. option_and_then (λ x. block_of config x.form) (meant_variable m)) e) h
 member_told config unit access name word (Some (MeansUnit u)) e h = no_instance_is name
 member_told config unit access name word (Some MeansStandard) e h = no_instance_is name
-member_told config unit access name word None e h = variable_is config unit name
+member_told config unit access name word None e h = unknown_instance_is config unit name
 
 index_told : (config : Config) (unit : ProgramUnit) (i : Index) → Contains (index_name_numbers config unit i) 21 → HasLine (index_text config unit i)
 index_told config unit (NumberIndex n) h = absurd (none_in 21 h)
