@@ -23,6 +23,7 @@ fn motor_number(motor: Motor) -> i64
 }
 
 // Writes what a program sees of the calls from a slot on.
+#[inline(always)]
 fn write_calls(rows: &mut Rows, at: usize, calls: &CallBook)
     requires numbers { at + 4 * length calls.now.slots ≤ length rows.old.numbers }
     requires flags { at + 4 * length calls.now.slots ≤ length rows.old.flags }
@@ -33,6 +34,7 @@ fn write_calls(rows: &mut Rows, at: usize, calls: &CallBook)
 }
 
 // Writes what each program sees of the group from a slot on.
+#[inline(always)]
 fn write_group(rows: &mut Rows, at: usize, sizes: Sizes, fields: &Fields)
     requires numbers { at + 6 ≤ length rows.old.numbers }
     requires flags { at + 6 ≤ length rows.old.flags }
@@ -54,6 +56,7 @@ fn write_group(rows: &mut Rows, at: usize, sizes: Sizes, fields: &Fields)
 pub const CAR_VALUES: usize = 10;
 
 // Writes what a car's program sees of its car from a slot on.
+#[inline(always)]
 fn write_car(rows: &mut Rows, at: usize, car: u8, fields: CarFields, outputs: CarOutputs)
     requires numbers { at + CAR_VALUES ≤ length rows.old.numbers }
     requires flags { at + CAR_VALUES ≤ length rows.old.flags }
@@ -147,6 +150,7 @@ fn write_zeros(rows: &mut Rows, at: usize, count: usize)
 }
 
 // Writes what the group's program sees of the cars from a slot on, and ASSIGN.
+#[inline(always)]
 fn write_cars(rows: &mut Rows, at: usize, image: &Image, slots: usize)
     requires few { slots ≤ SLOT_PLACES }
     requires numbers { at + length (cars_values image.now slots) ≤ length rows.old.numbers }
@@ -162,6 +166,7 @@ fn write_cars(rows: &mut Rows, at: usize, image: &Image, slots: usize)
 }
 
 // Writes what programs of the task's role see from a slot on.
+#[inline(always)]
 fn write_role(rows: &mut Rows, at: usize, task: u8, image: &Image, slots: usize)
     requires few { slots ≤ SLOT_PLACES }
     requires fields { task ≤ length image.now.fields.cars }
@@ -180,6 +185,7 @@ fn write_role(rows: &mut Rows, at: usize, task: u8, image: &Image, slots: usize)
 }
 
 /// Writes the image, as a task sees it, from a slot on.
+#[inline(always)]
 pub fn write_image(
     rows: &mut Rows,
     at: usize,

@@ -42,6 +42,7 @@ pub fn ways(alloc: Global, names: &Scoped, at: usize, unit: &Unit) -> Result<Ite
 }
 
 /// The way of an instruction.
+#[inline(always)]
 pub fn way_of(names: &Scoped, at: usize, instruction: &Instruction) -> Way
     ensures { (unit : ProgramUnit) → slice_get names.now.units at ≡ Some unit → result
         ≡ way_of names.now unit instruction.now }

@@ -83,6 +83,7 @@ fn clear(denials: &mut Bounded<Denial, DENIAL_PLACES>)
 /// A refresh, in place: what is left of the outputs of all cars under new fields of as
 /// many (own rule). Running cars that fail rule 2, 3 or 6 stop, by the first that they fail; of the rest the RUNLIMIT
 /// lowest-numbered run on, and the others stop by 5. Open commands stay exactly at a level, otherwise they end by 4.
+#[inline(always)]
 #[tactic(auto, unfolding(lift_spec::specs::Settle::settled_all))]
 pub fn settle_each(
     outputs: &mut Outputs,

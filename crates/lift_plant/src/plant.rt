@@ -104,6 +104,7 @@ impl Plant {
     }
 
     /// 100 ms go by, under the outputs of all its cars, in its place. What it then reports.
+    #[inline(always)]
     pub fn step(&mut self, outputs: &Outputs) -> Fields
         requires { length outputs.now ≡ length self.old.cars }
         ensures plant { self.new ≡ plant_after self.old outputs.now }

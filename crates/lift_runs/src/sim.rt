@@ -77,6 +77,7 @@ fn press_all(world: &mut World, presses: &[Press], report: &mut Report)
 }
 
 // The presses of a round, and the gatherings. Where nothing was pressed so far, there is nothing to gather.
+#[inline(always)]
 fn desk(world: &mut World, due: Due<'_>, report: &mut Report)
     requires calls { ArePressed (sizes_of world.old.program.config) due.presses.now }
     requires idle { due.idle ≡ true → world.old.world.desk ≡ [] }
@@ -95,6 +96,7 @@ fn desk(world: &mut World, due: Due<'_>, report: &mut Report)
 }
 
 // A refresh with fields in range, and its entry.
+#[inline(always)]
 fn refresh(
     world: &mut World,
     fields: Fields,

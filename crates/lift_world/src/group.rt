@@ -352,6 +352,7 @@ impl Core {
     }
 
     /// The same where no call is in the hand.
+    #[inline(always)]
     pub(crate) fn refresh_alone(&mut self, fields: &Fields, report: &mut Report)
         requires { FieldsInRange (sizes_of self.old.config) fields.now }
         ensures config { self.new.config ≡ self.old.config }

@@ -78,6 +78,7 @@ impl Held {
 }
 
 /// The image takes fields in their ranges, the outputs are settled under them, and calls of the hand enter. No allocation.
+#[inline(always)]
 pub fn refresh(core: &mut Core, fields: &Fields, hand: &mut Held, report: &mut Report)
     requires fields { FieldsInRange (sizes_of core.old.config) fields.now }
     requires calls { All (IsCall (sizes_of core.old.config)) hand.old }

@@ -206,6 +206,7 @@ fn tell_assigned(
 }
 
 /// The image takes fields of as many cars, and the outputs of all are settled under them, and reported.
+#[inline(always)]
 pub fn settle_cars(image: &mut Image, fields: &Fields, report: &mut Report)
     requires { length image.old.outputs ≡ length fields.now.cars }
     ensures image { image.new
