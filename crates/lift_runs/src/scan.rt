@@ -48,6 +48,7 @@ pub fn finish_and_commit(world: &mut World, task: u8, report: &mut Report) -> Re
 }
 
 /// A whole scan of a task of the group, of which none is open.
+#[inline(always)]
 pub fn scan(world: &mut World, task: u8, report: &mut Report)
     requires task { HasTask world.old.program.config task }
     requires closed { IsClosed world.old.world }
