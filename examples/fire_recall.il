@@ -4,12 +4,13 @@
    FIRE holds, each car drives to floor 1 and stands there with its door open, and GROUP
    assigns no call. Interlock rule 6 lets no car run up while FIRE holds, whatever a
    program asks for; these programs ask for down only. After the recall the cars go on
-   with their calls.
+   with their calls. A car without one that is between two landings then goes to the next
+   one, and opens its door.
    Try `sim fire_recall.il 300 1:3:5 --fire 50`: fire from round 50 on. *)
 
 (* The car program. Both cars run it, each with variables of its own. Without fire a car
-   carries one call at a time: it fetches the passenger at the landing and takes him to
-   his floor. While FIRE holds, SLOT, BUSY and ABOARD stay as they are: so a car keeps
+   carries one call at a time: it fetches the passenger at the landing and takes them to
+   their floor. While FIRE holds, SLOT, BUSY and ABOARD stay as they are: so a car keeps
    its call, and goes on with it after the recall. *)
 PROGRAM RECALLED_CAR
 VAR
@@ -17,6 +18,7 @@ VAR
   BUSY : BOOL;             (* the car has a call *)
   ABOARD : BOOL;           (* the passenger of this call is in the car *)
   TARGET : INT (0..8);     (* the floor to which the car drives *)
+  ASTRAY : BOOL;           (* a start or a recall has left the car, without a call, on its way *)
 END_VAR
 
 (* Fire recall goes before all calls. *)
@@ -27,13 +29,32 @@ JMPC RECALL
 LD BUSY
 JMPC DRIVE
 
-(* Without a call the door is asked to shut, and the car stands. A car that a recall has
-   left between two landings runs down to the next one. *)
+(* Without a call a car that a start or a recall has left between two landings runs to the
+   next one: down, or up from below floor 1. *)
+LD LEVEL
+JMPC LANDED
+LD TRUE
+ST ASTRAY
+LD BOTTOM
+SEL -1, 1
+ST MOTOR
+RET
+
+(* There it stops and opens its door once, since somebody may be aboard. *)
+LANDED:
+LD ASTRAY
+JMPCN STANDS
+LD 0
+ST MOTOR
+LD OPENED
+STN ASTRAY
+STN OPEN
+RETCN
+
+(* Otherwise it stands already, and its door is asked to shut. *)
+STANDS:
 LD FALSE
 ST OPEN
-LD LEVEL
-SEL -1, 0
-ST MOTOR
 
 (* Without a call it looks at the next call slot; after slot 16 it is slot 1 again. *)
 LD SLOT
@@ -120,9 +141,12 @@ EQ 1
 AND LEVEL
 JMPC AT_FLOOR_1
 
-(* Elsewhere the door is asked to shut, and the car runs down. *)
+(* Elsewhere the door is asked to shut, and the car runs down. If the recall ends on the way,
+   a car without a call opens its door at the next landing. *)
 LD FALSE
 ST OPEN
+LDN BUSY
+ST ASTRAY
 LD -1
 ST MOTOR
 RET

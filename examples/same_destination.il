@@ -7,20 +7,48 @@
    call, and car 2 is nearer; but car 1 got the last call to floor 5. *)
 
 (* The car program. Both cars run it, each with variables of its own. A car carries one
-   call at a time: it fetches the passenger at the landing and takes him to his floor. *)
+   call at a time: it fetches the passenger at the landing and takes them to their floor.
+   After a start between two landings it first goes to the next one, and opens its door. *)
 PROGRAM LIFT_CAR
 VAR
   SLOT : INT (1..16);      (* the call slot that is looked at; while BUSY, that of the car's call *)
   BUSY : BOOL;             (* the car has a call *)
   ABOARD : BOOL;           (* the passenger of this call is in the car *)
   TARGET : INT (0..8);     (* the floor to which the car drives *)
+  READY : BOOL;            (* it takes calls: it was level at its first scan, or has opened since *)
+  ASTRAY : BOOL;           (* at its first scan it was between two landings *)
 END_VAR
 
 (* A car with a call goes on with it. *)
 LD BUSY
 JMPC DRIVE
 
+(* A car that is between two landings at its first scan runs to the next one: down, or up
+   from below floor 1. *)
+LD READY
+JMPC LOOK
+LD LEVEL
+JMPC LANDED
+LD TRUE
+ST ASTRAY
+LD BOTTOM
+SEL -1, 1
+ST MOTOR
+RET
+
+(* There it stops and opens its door once, since somebody may be aboard. A car that is level
+   with a landing at its first scan is ready at once. *)
+LANDED:
+LD 0
+ST MOTOR
+LD OPENED
+ORN ASTRAY
+ST READY
+STN OPEN
+RETCN
+
 (* Without a call it looks at the next call slot; after slot 16 it is slot 1 again. *)
+LOOK:
 LD SLOT
 MOD 16
 ADD 1
