@@ -3,5 +3,4 @@ pub mod Listed
 pub mod Refusing
 pub mod Resting
 pub mod Slots
-pub mod Taken
 pub mod Traces

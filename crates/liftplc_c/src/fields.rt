@@ -1,9 +1,9 @@
 // What C reports of the plant.
 
-ghost use Rattle.std.specs.Prelude.{◌≡◌, ◌≤◌, is_some, IfSome};
-ghost use Rattle.liftplc_c.specs.Inputs.{are_taken, car_of, fields_of};
+ghost use Rattle.std.specs.Prelude.{◌≡◌, ◌≤◌, [], map, take};
+ghost use Rattle.liftplc_c.specs.Inputs.{car_of, fields_of};
 
-use lift_spec::{Bounded, CAR_PLACES, CarFields, Fields, MOST_CARS, Sizes, in_range};
+use lift_spec::{Bounded, CAR_PLACES, CarFields, Fields, MOST_CARS};
 
 /// What C reports of a car: the floor that it is at or next to, and its five sensors.
 #[repr(C)]
@@ -41,35 +41,29 @@ fn car_of(car: CarInput) -> CarFields
     }
 }
 
-// The fields of so many cars as are counted.
-fn fields_of(fields: &FieldsInput) -> Fields
-    requires { fields.now.car_count ≤ MOST_CARS }
-    ensures { result ≡ fields_of fields.now }
+// The fields of so many cars as are counted, in a list that has none. It stays a call, so that the list is filled where it lies.
+#[inline(never)]
+fn add_cars(cars: &mut Bounded<CarFields, CAR_PLACES>, fields: &FieldsInput)
+    requires few { fields.now.car_count ≤ MOST_CARS }
+    requires none { cars.old ≡ [] }
+    ensures { cars.new ≡ map car_of (take fields.now.car_count fields.now.cars) }
 {
-    let mut cars = Bounded::new();
     'cars: for index in 0..usize::from(fields.car_count) {
         cars.push(car_of(fields.cars[index]));
     }
-    Fields {
+}
+
+/// The fields, of so many cars as are counted.
+pub fn fields_of(fields: &FieldsInput) -> Fields
+    requires { fields.now.car_count ≤ MOST_CARS }
+    ensures { result ≡ fields_of fields.now }
+{
+    let mut taken = Fields {
         time: fields.time,
         run_limit: fields.run_limit,
         fire: fields.fire,
-        cars,
-    }
-}
-
-/// The fields, if they lie in their ranges in a group of these sizes.
-pub fn fields_in(fields: &FieldsInput, sizes: Sizes) -> Option<Fields>
-    ensures test { is_some result ≡ are_taken sizes fields.now }
-    ensures some { IfSome result (λ taken. taken ≡ fields_of fields.now) }
-{
-    if fields.car_count > MOST_CARS {
-        return None;
-    }
-    let taken = fields_of(fields);
-    if in_range(&taken, sizes) {
-        Some(taken)
-    } else {
-        None
-    }
+        cars: Bounded::new(),
+    };
+    add_cars(&mut taken.cars, fields);
+    taken
 }

@@ -40,6 +40,15 @@ pub struct RoundOutputs {
     pub notices: [NoticeOutput; MOST_NOTICES],
 }
 
+// What C is told of a free slot.
+const FREE: SlotOutput = SlotOutput {
+    ticket: 0,
+    state: 0,
+    from: 0,
+    to: 0,
+    car: 0,
+};
+
 fn car_output(car: CarOutputs) -> CarOutput
     ensures { result ≡ car_output car }
 {
@@ -54,31 +63,31 @@ fn car_output(car: CarOutputs) -> CarOutput
     }
 }
 
-fn slot_output(slot: Slot) -> SlotOutput
-    ensures { result ≡ slot_output slot }
+// The output of a slot. Most slots are free, so that their output is written first.
+fn put_slot(room: &mut SlotOutput, slot: Slot)
+    ensures { room.new ≡ slot_output slot }
 {
+    *room = FREE;
     match slot {
-        Slot::Free => SlotOutput {
-            ticket: 0,
-            state: 0,
-            from: 0,
-            to: 0,
-            car: 0,
-        },
-        Slot::Waiting { ticket, call } => SlotOutput {
-            ticket,
-            state: 1,
-            from: call.from,
-            to: call.to,
-            car: 0,
-        },
-        Slot::Told { ticket, call, car } => SlotOutput {
-            ticket,
-            state: 2,
-            from: call.from,
-            to: call.to,
-            car,
-        },
+        Slot::Free => {}
+        Slot::Waiting { ticket, call } => {
+            *room = SlotOutput {
+                ticket,
+                state: 1,
+                from: call.from,
+                to: call.to,
+                car: 0,
+            };
+        }
+        Slot::Told { ticket, call, car } => {
+            *room = SlotOutput {
+                ticket,
+                state: 2,
+                from: call.from,
+                to: call.to,
+                car,
+            };
+        }
     }
 }
 
@@ -109,7 +118,10 @@ fn put_slots(room: &mut [SlotOutput], world: &World, count: u8)
     ensures { take count room.new ≡ map slot_output world.now.world.group.calls.slots }
 {
     'slots: for index in 0..count {
-        room[usize::from(index)] = slot_output(world.slot(index + 1).unwrap());
+        put_slot(
+            &mut room[usize::from(index)],
+            world.slot(index + 1).unwrap(),
+        );
     }
 }
 

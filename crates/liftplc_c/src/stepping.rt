@@ -1,19 +1,19 @@
 // Rounds.
 
-ghost use Rattle.std.specs.Prelude.{◌≡◌, ◌≢◌, Option, Some, None, true, false, IfSome, MatchOption};
+ghost use Rattle.std.specs.Prelude.{◌≡◌, ◌≢◌, ◌≤◌, Option, Some, None, true, false, IfSome, MatchOption};
 ghost use Rattle.lift_spec.specs.Image.{sizes_of, FieldsInRange};
 ghost use Rattle.lift_world.specs.Worlds.{WorldOf};
 ghost use Rattle.liftplc_c.specs.Handles.{IsLed, Rests};
 ghost use Rattle.liftplc_c.specs.Inputs.{are_taken, fields_of, round_status};
 ghost use Rattle.liftplc_c.specs.Rounds.{GoesRound};
 
-use crate::fields::{FieldsInput, fields_in};
+use crate::fields::{FieldsInput, fields_of};
 use crate::handle::Handle;
 use crate::history::led;
 use crate::outputs::{RoundOutputs, put};
 use crate::status::Status;
 use lift_runs::kept::Rounds;
-use lift_spec::Fields;
+use lift_spec::{Fields, MOST_CARS, in_range};
 use std::alloc::Global;
 
 // A round under fields in their ranges, and what it left.
@@ -27,6 +27,25 @@ fn go_round(rounds: &mut Rounds, fields: Fields, outputs: &mut RoundOutputs)
     put(outputs, &rounds.world, &rounds.notices);
 }
 
+// A round, if the fields of no more cars than a group may have lie in their ranges: whether they did.
+fn step_counted(rounds: &mut Rounds, fields: &FieldsInput, outputs: &mut RoundOutputs) -> bool
+    requires few { fields.now.car_count ≤ MOST_CARS }
+    requires rests { Rests rounds.old.world.world }
+    ensures answered { result ≡ are_taken (sizes_of rounds.old.world.program.config) fields.now }
+    ensures round { result ≡ true → GoesRound (fields_of fields.now) rounds.old.world
+        rounds.new.world outputs.new }
+    ensures kept { result ≡ false → (rounds.new.world ≡ rounds.old.world)
+        × (outputs.new ≡ outputs.old) }
+    ensures rests { Rests rounds.new.world.world }
+{
+    let taken = fields_of(fields);
+    if !in_range(&taken, rounds.world.sizes()) {
+        return false;
+    }
+    go_round(rounds, taken, outputs);
+    true
+}
+
 // A round, if the fields lie in their ranges: whether they did.
 fn step(rounds: &mut Rounds, fields: &FieldsInput, outputs: &mut RoundOutputs) -> bool
     requires { Rests rounds.old.world.world }
@@ -38,17 +57,13 @@ fn step(rounds: &mut Rounds, fields: &FieldsInput, outputs: &mut RoundOutputs) -
         × (outputs.new ≡ outputs.old) }
     ensures rests { Rests rounds.new.world.world }
 {
-    match fields_in(fields, rounds.world.sizes()) {
-        Some(taken) => {
-            go_round(rounds, taken, outputs);
-            led(&rounds.world);
-            true
-        }
-        None => {
-            led(&rounds.world);
-            false
-        }
+    if fields.car_count > MOST_CARS {
+        led(&rounds.world);
+        return false;
     }
+    let done = step_counted(rounds, fields, outputs);
+    led(&rounds.world);
+    done
 }
 
 /// A round of the controller: 0. 4: the handle isn't open. 5: a field is out of range. But for 0 nothing is changed.

@@ -9,4 +9,4 @@ slots-preserved c =
     let slots = c.args.world.now.world.group.calls.slots in
     let at : slice_get slots c.slots.index ≡ Some c.unwrap.result = sym (slot_behind slots c.slots.index) ∙ sym c.slot.ensures ∙ c.unwrap.ensures in
     let low : c.slots.index < length c.slots.room = search rules in
-    rw c.from.ensures (rw c.slot_output.ensures (written_next slot_output c.slots.room slots c.slots.index c.unwrap.result at low c.slots.invariant))
+    rw c.from.ensures (rw c.put_slot.ensures (written_next slot_output c.slots.room slots c.slots.index c.unwrap.result at low c.slots.invariant))
