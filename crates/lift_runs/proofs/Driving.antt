@@ -1,5 +1,5 @@
 -- Rounds, step by step.
-use Rattle.std.proofs.Common.{◌≡◌, ℕ, zero, suc, ◌+◌, ◌<◌, ◌≤◌, Bool, true, false, ◌==◌, List, [], ◌∷◌, ◌++◌, map, flat_map, filter, take, length, Option, Some, None, Ok, refl, sym, ap, ◌∙◌, subst, arith, if◌then◌else◌, eqb-true, length-append}
+use Rattle.std.proofs.Common.{◌≡◌, ℕ, zero, suc, ◌+◌, ◌≤◌, Bool, true, false, ◌==◌, List, [], ◌∷◌, ◌++◌, map, flat_map, filter, take, length, Option, Some, None, Ok, refl, sym, ap, ◌∙◌, subst, arith, if◌then◌else◌, eqb-true, length-append}
 use Rattle.std.specs.Prelude.{slice_get, is_some}
 use Rattle.std.proofs.lemmas.List.{append_assoc}
 use Rattle.il_spec.specs.declared.tree.Config.{Config}
@@ -15,7 +15,7 @@ use Rattle.lift_spec.specs.Snapshot.{program_of, has_task}
 use Rattle.lift_spec.specs.World.{World, happens, opening}
 use Rattle.lift_run_laws.specs.Tasks.{IsTaskOf}
 use Rattle.lift_journal.specs.Rounds.{Happen, Scans, ScanEach, counting_from, scan_entries, tasks_in_order}
-use Rattle.lift_journal.proofs.Taking.{happen_one, happen_more, press_taken, gather_taken}
+use Rattle.lift_journal.proofs.Taking.{happen_one, happen_more, press_taken}
 use Rattle.lift_runs.specs.Driven.{call_of, ArePressed, AreTasks}
 pub use Rattle.lift_runs.proofs.Fronts.{take_next, read}
 use Rattle.lift_spec.proofs.Interlock.{filter_fits as filtered_length}
@@ -69,13 +69,13 @@ press_next c w m v presses i p r are at before here =
 
 -- GATHERINGS
 
-pub gather_more : (c : Config) (w m v : World) (k : ℕ) (r : Reply) → k < (sizes_of c).floors → Happen c w (map Gather (counting_from 1 k)) m → happens c m (Gather (k + 1)) ≡ Ok (v, r) → Happen c w (map Gather (counting_from 1 (k + 1))) v
-gather_more c w m v k r low before here =
+pub gather_more : (c : Config) (w m v : World) (k : ℕ) → Happen c w (map Gather (counting_from 1 k)) m → Happen c m (Gather (k + 1) ∷ []) v → Happen c w (map Gather (counting_from 1 (k + 1))) v
+gather_more c w m v k before here =
     let floor : 1 + k ≡ k + 1 = omega arith in
     let all : map Gather (counting_from 1 (k + 1)) ≡ map Gather (counting_from 1 k) ++ Gather (k + 1) ∷ [] =
     ap (map Gather) (counting_next 1 k ∙ ap (λ n. counting_from 1 k ++ n ∷ []) floor) ∙ map_append Gather (counting_from 1 k) ((k + 1) ∷ [])
     in
-    subst (λ es. Happen c w es v) (sym all) (happen_more c w m v _ _ before (happen_one c m v (Gather (k + 1)) r here (gather_taken c m v (k + 1) r (omega arith) (omega (arith, low)) here)))
+    subst (λ es. Happen c w es v) (sym all) (happen_more c w m v _ _ before here)
 
 -- TASKS
 

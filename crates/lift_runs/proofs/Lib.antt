@@ -2,6 +2,7 @@ pub mod Doing
 pub mod Driving
 pub mod Few
 pub mod Fronts
+pub mod Gathering
 pub mod Grouping
 pub mod Showing
 pub mod Stepping

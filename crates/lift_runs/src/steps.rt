@@ -1,7 +1,8 @@
 // What rounds have in common: the tasks, and the gathering of each floor.
 
-ghost use Rattle.std.specs.Prelude.{◌≡◌, map};
+ghost use Rattle.std.specs.Prelude.{◌≡◌, ◌≤◌, [], ◌∷◌, map};
 ghost use Rattle.lift_spec.specs.declared.event.Event.TheVariants.{Gather as GatherOf};
+ghost use Rattle.lift_spec.specs.Image.{sizes_of};
 ghost use Rattle.lift_journal.specs.Rounds.{Happen, floors_rising, tasks_in_order};
 
 use il_machine::Verified;
@@ -28,6 +29,21 @@ pub fn tasks_in(verified: &Verified) -> Bounded<u8, TASK_PLACES>
     tasks
 }
 
+// What the desk has from a floor is gathered. Where it has none, the world stays as it is.
+fn gather_from(world: &mut World, floor: u8, report: &mut Report)
+    requires first { 1 ≤ floor }
+    requires last { floor ≤ (sizes_of world.old.program.config).floors }
+    ensures taken { Happen world.old.program.config world.old.world (GatherOf floor ∷ [])
+        world.new.world }
+    ensures same { world.new.program ≡ world.old.program }
+{
+    let _config = world.verified().config();
+    if !world.desk().has_from(floor) {
+        return;
+    }
+    world.apply(&Event::Gather(floor), report);
+}
+
 /// What the desk has from each floor is gathered.
 pub fn gather_all(world: &mut World, report: &mut Report)
     ensures taken { Happen world.old.program.config world.old.world
@@ -37,6 +53,6 @@ pub fn gather_all(world: &mut World, report: &mut Report)
     let _config = world.verified().config();
     let Sizes { floors, .. } = world.sizes();
     'floors: for below in 0..floors {
-        world.apply(&Event::Gather(below + 1), report);
+        gather_from(world, below + 1, report);
     }
 }

@@ -1,17 +1,21 @@
-use Rattle.std.proofs.Common.{rules, ◌≡◌, ◌<◌, ◌+◌, subst, ◌∙◌, Ok}
+use Rattle.std.proofs.Common.{rules, ◌<◌, ◌≤◌, ◌+◌, ◌∷◌, [], subst, sym, ◌∙◌, arith}
 use Rattle.il_machine.specs.Scanning.{Program}
 use Rattle.lift_spec.specs.declared.event.Event.TheVariants.{Gather}
 use Rattle.lift_spec.specs.declared.image.Sizes.{Sizes}
-use Rattle.lift_spec.specs.Replies.{reply_with}
-use Rattle.lift_spec.specs.World.{happens}
+use Rattle.lift_spec.specs.Image.{sizes_of}
+use Rattle.lift_journal.specs.Rounds.{Happen}
 use Rattle.lift_runs.proofs.Driving.{gather_more}
 use Rattle.lift_runs.proofs.steps.gather_all.Goals as goal
 
-pub floors-preserved : goal.floors-preserved
-floors-preserved c =
+pub gather_from-requires-clause-last : goal.gather_from-requires-clause-last
+gather_from-requires-clause-last c =
     let low : c.floors.below < c.sizes-floors.result.floors = search rules in
-    let reply = reply_with c.apply.result c.apply.new.report in (
-      gather_more c.args.world.now.program.config c.args.world.now.world c.floors.world.world c.apply.new.self.world c.floors.below reply (subst (λ (s : Sizes). c.floors.below < s.floors) c.sizes-floors.ensures low) c.floors.invariant.0
-          (subst (λ (p : Program). happens p.config c.floors.world.world (Gather (c.floors.below + 1)) ≡ Ok (c.apply.new.self.world, reply)) c.floors.invariant.1 c.apply.ensures.model),
-      c.apply.ensures.same ∙ c.floors.invariant.1,
-    )
+    let last = subst (λ (s : Sizes). c.floors.below < s.floors) c.sizes-floors.ensures low in
+    subst (λ (p : Program). c.floors.below + 1 ≤ (sizes_of p.config).floors) (sym c.floors.invariant.1) (omega (arith, last))
+
+pub floors-preserved : goal.floors-preserved
+floors-preserved c = (
+  gather_more c.args.world.now.program.config c.args.world.now.world c.floors.world.world c.gather_from.new.world.world c.floors.below c.floors.invariant.0
+      (subst (λ (p : Program). Happen p.config c.floors.world.world (Gather (c.floors.below + 1) ∷ []) c.gather_from.new.world.world) c.floors.invariant.1 c.gather_from.ensures.taken),
+  c.gather_from.ensures.same ∙ c.floors.invariant.1,
+)
