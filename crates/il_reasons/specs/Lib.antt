@@ -7,5 +7,6 @@ pub mod TokenReasons
 pub mod TreeReasons
 pub mod TaskReasons
 pub mod LeftOut
+pub mod Instead
 pub mod LimitReasons
 pub mod Parentheses

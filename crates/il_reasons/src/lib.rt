@@ -15,6 +15,7 @@ mod chains;
 mod costs;
 mod expected;
 mod expected_search;
+mod instead;
 mod left_out;
 mod limits;
 mod parentheses;
