@@ -8,5 +8,6 @@ pub mod TreeReasons
 pub mod TaskReasons
 pub mod LeftOut
 pub mod Instead
+pub mod Fractions
 pub mod LimitReasons
 pub mod Parentheses
