@@ -75,9 +75,13 @@ are_two (w ∷ ws) = list_any (is_other w.task) ws
 unfoldable pub store_of_task : Spelling → TaskStore → List ℕ
 store_of_task name w = name ++ (codes " is stored by task " ++ (w.task ++ (codes " in line " ++ (decimal w.line ++ codes "\n"))))
 
+-- what to do about it
+unfoldable pub own_line : Spelling → List ℕ
+own_line name = codes "let one task store into " ++ (name ++ codes ", or declare it in VAR, where each task has its own\n")
+
 -- the tasks that store into a global, if there are two
 abbrev pub writers_text : Spelling → List TaskStore → List ℕ
-writers_text name ws = if are_two ws then flat_map (store_of_task name) ws else []
+writers_text name ws = if are_two ws then flat_map (store_of_task name) ws ++ own_line name else []
 
 -- a name that is stored into, if it is a global
 abbrev pub stored_text : Config → ProgramUnit → Spelling → List ℕ

@@ -1,7 +1,10 @@
 -- What is told of a name that is unknown where it stands (own rules).
-use Rattle.std.specs.Prelude.{ℕ, if◌then◌else◌, List, [], ◌++◌, flat_map, Option, Some, None, is_some, codes}
+use Rattle.std.specs.Prelude.{ℕ, nat_eq, Bool, ◌||◌, if◌then◌else◌, List, [], ◌++◌, flat_map, Option, Some, None, is_some, codes}
+use Rattle.std.specs.List.{starts_with, ends_with}
 use Rattle.il_spec.specs.declared.tree.Config.{Config}
 use Rattle.il_spec.specs.declared.tree.Unit.{Unit as ProgramUnit}
+use Rattle.il_spec.specs.declared.tree.UnitKind.{UnitKind}
+use Rattle.il_spec.specs.declared.tree.UnitKind.TheVariants.{Function, FunctionBlock, Program}
 use Rattle.il_spec.specs.declared.tree.Declaration.{Declaration}
 use Rattle.il_spec.specs.declared.tree.Named.{Named}
 use Rattle.il_spec.specs.declared.tree.Place.{Place}
@@ -73,9 +76,34 @@ unknown_line name near = name ++ (codes " is unknown here" ++ ending near)
 unfoldable pub unseen_line : Spelling → List ℕ
 unseen_line name = name ++ codes " is a predeclared name that this unit does not see\n"
 
+-- `programs alone see it ..`
+unfoldable pub programs_line : List ℕ
+programs_line = codes "programs alone see it: hand it in as an input, and store it in the program\n"
+
+-- of a unit that is no program (2.5)
+abbrev pub programs_by : UnitKind → List ℕ
+programs_by (Function result written) = programs_line
+programs_by FunctionBlock = programs_line
+programs_by Program = []
+
+-- a predeclared name that a unit does not see
+abbrev pub unseen_text : ProgramUnit → Spelling → List ℕ
+unseen_text unit name = unseen_line name ++ programs_by unit.kind
+
 -- `NAME is no function`, and a name that is near
 unfoldable pub no_function_line : Spelling → Option Nearest → List ℕ
 no_function_line name near = name ++ (codes " is no function" ++ ending near)
+
+-- a conversion from TIME or to it (2.5.1.5.1)
+unfoldable pub is_of_time : Spelling → Bool
+is_of_time name = starts_with nat_eq name (codes "TIME_TO_") || ends_with nat_eq name (codes "_TO_TIME")
+
+-- `TIME has no conversions ..`
+unfoldable pub time_line : List ℕ
+time_line = codes "TIME has no conversions: compare it with a duration, as in GT T#3s\n"
+
+abbrev pub time_lines : Spelling → List ℕ
+time_lines name = if is_of_time name then time_line else []
 
 -- `NAME is an instance, no scalar variable`
 unfoldable pub instance_line : Spelling → List ℕ
@@ -110,7 +138,7 @@ unknown_text name known = unknown_line name (nearest name known)
 
 -- a name that means nothing in a unit: of the image where it is predeclared, since standard functions and blocks mean something everywhere
 abbrev pub unknown_variable : Config → ProgramUnit → Spelling → List ℕ
-unknown_variable config unit name = if is_predeclared config name then unseen_line name else unknown_text name (variables_near config unit)
+unknown_variable config unit name = if is_predeclared config name then unseen_text unit name else unknown_text name (variables_near config unit)
 
 -- a name that means nothing where an instance stands: only instances could have been meant
 abbrev pub unknown_instance : Config → ProgramUnit → Spelling → List ℕ
@@ -199,10 +227,14 @@ abbrev pub argument_text : Config → ProgramUnit → Argument → List ℕ
 argument_text config unit (Input word operand) = read_text config unit operand
 argument_text config unit (Output word target) = scalar_text config unit target.name
 
+-- a name that no function has
+abbrev pub no_function_text : Config → Spelling → List ℕ
+no_function_text config name = no_function_line name (nearest name (functions_near config)) ++ time_lines name
+
 -- a function's name (2.5.1)
 unfoldable pub function_text : Config → Spelling → List ℕ
 function_text config name =
-    if is_some (standard_function name) then [] else (if is_some (function_named config name) then [] else no_function_line name (nearest name (functions_near config)))
+    if is_some (standard_function name) then [] else (if is_some (function_named config name) then [] else no_function_text config name)
 
 -- 21: the names of an instruction; labels are no such names (3.2.1)
 abbrev pub instruction_text : Config → ProgramUnit → Instruction → List ℕ

@@ -5,11 +5,11 @@ ghost use Rattle.std.specs.List.{list_any};
 ghost use Rattle.base_texts.specs.Puts.{Puts};
 ghost use Rattle.il_rules.specs.Names.{is_one_of, program_named};
 ghost use Rattle.il_rules.specs.Types.{stored_names, named_variable, argument_targets};
-ghost use Rattle.il_name_reasons.specs.NamesTasks.{writer_shown, is_external, store_line, first_store, writer_at, writer_of, writers, is_other, are_two, store_of_task, writers_text, stored_text};
+ghost use Rattle.il_name_reasons.specs.NamesTasks.{writer_shown, is_external, store_line, first_store, writer_at, writer_of, writers, is_other, are_two, store_of_task, own_line, writers_text, stored_text};
 
 use crate::names_spots::unit_at;
 use crate::names_stores::origin_named;
-use crate::writing::{put_in_line, put_two};
+use crate::writing::{put_in_line, put_three, put_two};
 use il_rules::names::Origin;
 use il_scope::{Scoped, UnitScope};
 use il_spec::tree::{Argument, Instruction, ProgramLine, Reference, Step};
@@ -45,10 +45,31 @@ fn put_writers(text: &mut String, name: &str, writers: &[Writer<'_>]) -> Result<
         (writers_text name.now (map writer_shown writers.now))) }
 {
     if are_two(writers) {
-        put_each_writer(text, name, writers)
+        put_all_writers(text, name, writers)
     } else {
         Ok(())
     }
+}
+
+// The tasks that store into a global, and what to do about it.
+fn put_all_writers(text: &mut String, name: &str, writers: &[Writer<'_>]) -> Result<(), AllocError>
+    ensures { OnOk result (Puts text.old text.new
+        (flat_map (store_of_task name.now) (map writer_shown writers.now) ++ own_line name.now)) }
+{
+    put_each_writer(text, name, writers)?;
+    put_own_line(text, name)
+}
+
+#[tactic(auto, unfolding(crate::specs::NamesTasks::own_line))]
+fn put_own_line(text: &mut String, name: &str) -> Result<(), AllocError>
+    ensures { OnOk result (Puts text.old text.new (own_line name.now)) }
+{
+    put_three(
+        text,
+        "let one task store into ",
+        name,
+        ", or declare it in VAR, where each task has its own\n",
+    )
 }
 
 fn put_each_writer(text: &mut String, name: &str, writers: &[Writer<'_>]) -> Result<(), AllocError>

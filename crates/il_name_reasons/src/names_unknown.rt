@@ -1,11 +1,12 @@
 // What is told of a name that is unknown where it stands (21).
 
-ghost use Rattle.std.specs.Prelude.{◌≡◌, OnOk, flat_map, is_some, map, option_map};
+ghost use Rattle.std.specs.Prelude.{◌≡◌, ◌++◌, OnOk, codes, flat_map, is_some, map, nat_eq, option_map};
+ghost use Rattle.std.specs.List.{ends_with, starts_with};
 ghost use Rattle.base_texts.specs.Puts.{Puts};
 ghost use Rattle.il_rules.specs.Names.{block_variables, function_named};
 ghost use Rattle.il_name_reasons.specs.NamesNear.{near_shown, candidate_shown, nearest};
 ghost use Rattle.il_name_reasons.specs.NamesKnown.{functions_near};
-ghost use Rattle.il_name_reasons.specs.NamesUnknown.{unknown_line, unseen_line, no_function_line, instance_line, unit_line, standard_line, no_instance_line, no_word, unknown_text, unknown_variable, unknown_instance, scalar_text, meaning_text, called_text, index_text, word_text, member_text, reference_text, read_text, argument_text, function_text, instruction_text, block_text, type_text, global_text, external_text, externals_text, types_text, unit_text, unknown_lines};
+ghost use Rattle.il_name_reasons.specs.NamesUnknown.{unknown_line, unseen_line, no_function_line, programs_line, programs_by, unseen_text, is_of_time, time_line, time_lines, no_function_text, instance_line, unit_line, standard_line, no_instance_line, no_word, unknown_text, unknown_variable, unknown_instance, scalar_text, meaning_text, called_text, index_text, word_text, member_text, reference_text, read_text, argument_text, function_text, instruction_text, block_text, type_text, global_text, external_text, externals_text, types_text, unit_text, unknown_lines};
 
 use crate::names_known::{
     functions_near, globals_near, instances_near, types_near, variables_near,
@@ -18,6 +19,7 @@ use il_scope::functions::standard_function;
 use il_scope::{Scoped, UnitScope};
 use il_spec::tree::{
     Argument, Declaration, Form, Index, Instruction, Named, Operand, Place, Reference, Unit,
+    UnitKind,
 };
 use std::alloc::{AllocError, Global};
 
@@ -324,6 +326,19 @@ fn put_no_function(
     names: &Scoped,
     name: &str,
 ) -> Result<(), AllocError>
+    ensures { OnOk result (Puts text.old text.new (no_function_text names.now name.now)) }
+{
+    put_no_near_function(alloc, text, names, name)?;
+    put_time(text, name)
+}
+
+// The same, with a name that is near.
+fn put_no_near_function(
+    alloc: Global,
+    text: &mut String,
+    names: &Scoped,
+    name: &str,
+) -> Result<(), AllocError>
     ensures { OnOk result (Puts text.old text.new
         (no_function_line name.now (nearest name.now (functions_near names.now)))) }
 {
@@ -481,7 +496,7 @@ fn put_unknown_variable(
         (unknown_variable here.now.config here.now.unit name.now)) }
 {
     if here.names().is_predeclared(name) {
-        return put_unseen_line(text, name);
+        return put_unseen(text, here, name);
     }
     let known = variables_near(alloc, here)?;
     put_unknown(alloc, text, name, known.as_slice())
@@ -535,6 +550,72 @@ fn put_unseen_line(text: &mut String, name: &str) -> Result<(), AllocError>
         name,
         " is a predeclared name that this unit does not see\n",
     )
+}
+
+// A predeclared name that a unit does not see.
+fn put_unseen(text: &mut String, here: &UnitScope<'_>, name: &str) -> Result<(), AllocError>
+    ensures { OnOk result (Puts text.old text.new (unseen_text here.now.unit name.now)) }
+{
+    put_unseen_line(text, name)?;
+    put_programs(text, here.tree().kind)
+}
+
+// Of a unit that is no program.
+fn put_programs(text: &mut String, kind: UnitKind) -> Result<(), AllocError>
+    ensures { OnOk result (Puts text.old text.new (programs_by kind)) }
+{
+    match kind {
+        UnitKind::Function(_, _) => put_programs_line(text),
+        UnitKind::FunctionBlock => put_programs_line(text),
+        UnitKind::Program => Ok(()),
+    }
+}
+
+#[tactic(auto, unfolding(crate::specs::NamesUnknown::programs_line))]
+fn put_programs_line(text: &mut String) -> Result<(), AllocError>
+    ensures { OnOk result (Puts text.old text.new programs_line) }
+{
+    text.push_str("programs alone see it: hand it in as an input, and store it in the program\n")
+}
+
+// A conversion from TIME.
+fn is_from_time(name: &str) -> bool
+    ensures { result ≡ starts_with nat_eq name.now (codes "TIME_TO_") }
+{
+    name.starts_with("TIME_TO_")
+}
+
+// A conversion to TIME.
+fn is_to_time(name: &str) -> bool
+    ensures { result ≡ ends_with nat_eq name.now (codes "_TO_TIME") }
+{
+    name.ends_with("_TO_TIME")
+}
+
+// Whether a name is that of a conversion from TIME or to it.
+#[tactic(auto, unfolding(crate::specs::NamesUnknown::is_of_time))]
+fn is_of_time(name: &str) -> bool
+    ensures { result ≡ is_of_time name.now }
+{
+    is_from_time(name) || is_to_time(name)
+}
+
+#[tactic(auto, unfolding(crate::specs::NamesUnknown::time_line))]
+fn put_time_line(text: &mut String) -> Result<(), AllocError>
+    ensures { OnOk result (Puts text.old text.new time_line) }
+{
+    text.push_str("TIME has no conversions: compare it with a duration, as in GT T#3s\n")
+}
+
+// Of the conversions of TIME.
+fn put_time(text: &mut String, name: &str) -> Result<(), AllocError>
+    ensures { OnOk result (Puts text.old text.new (time_lines name.now)) }
+{
+    if is_of_time(name) {
+        put_time_line(text)
+    } else {
+        Ok(())
+    }
 }
 
 #[tactic(auto, unfolding(crate::specs::NamesUnknown::no_function_line))]

@@ -39,7 +39,7 @@ use Rattle.il_name_reasons.specs.NamesNear.{Nearest, hint, ending, nearest}
 use Rattle.il_name_reasons.specs.NameSpots.{is_at}
 use Rattle.il_name_reasons.specs.NamesKnown.{variables_near, instances_near, functions_near, types_near, globals_near}
 use Rattle.il_name_reasons.specs.NamesLabels.{missing_line, missing_text, labels_near, jump_text}
-use Rattle.il_name_reasons.specs.NamesUnknown.{unknown_variable, unknown_instance, meant_by, meant_by_form, unknown_line, unseen_line, no_function_line, instance_line, unit_line, standard_line, no_instance_line, no_word, no_word_line, unknown_text, scalar_by, meaning_by, called_by, member_by, rule_access, reference_text, read_text, index_text, argument_text, short_form_text, function_text, instruction_text, form_text, type_text, global_text, external_text, externals_text, types_text, unit_text, unknown_lines}
+use Rattle.il_name_reasons.specs.NamesUnknown.{unknown_variable, unknown_instance, meant_by, meant_by_form, unknown_line, unseen_line, unseen_text, no_function_line, time_lines, instance_line, unit_line, standard_line, no_instance_line, no_word, no_word_line, unknown_text, scalar_by, meaning_by, called_by, member_by, rule_access, reference_text, read_text, index_text, argument_text, short_form_text, function_text, instruction_text, form_text, type_text, global_text, external_text, externals_text, types_text, unit_text, unknown_lines}
 use Rattle.il_reasons.specs.NamesTold.{HasLine}
 use Rattle.il_reasons.specs.TreeReasons.{instruction_lines, step_lines, unit_lines, place_lines, tree_lines, AreToldOfTree}
 
@@ -63,11 +63,15 @@ unseen_is : (name : Spelling) → HasLine (unseen_line name)
 unfolding unseen_line
 unseen_is name = behind name _ (ends (codes " is a predeclared name that this unit does not see"))
 
+-- with more behind it
+ahead : (text rest : List ℕ) → HasLine text → HasLine (text ++ rest)
+ahead text rest h = Contains-append_left text rest 10 h
+
 variable_is : (config : Config) (unit : ProgramUnit) (name : Spelling) → HasLine (unknown_variable config unit name)
 variable_is config unit name = by_test (is_predeclared config name)
   where
-    by_test : (b : Bool) → HasLine (if b then unseen_line name else unknown_text name (variables_near config unit))
-    by_test true = unseen_is name
+    by_test : (b : Bool) → HasLine (if b then unseen_text unit name else unknown_text name (variables_near config unit))
+    by_test true = ahead (unseen_line name) _ (unseen_is name)
     by_test false = unknown_is name _
 
 unknown_instance_is : (config : Config) (unit : ProgramUnit) (name : Spelling) → HasLine (unknown_instance config unit name)
@@ -183,10 +187,10 @@ short_form_told : (config : Config) (unit : ProgramUnit) (o : Option Operand) �
 short_form_told config unit None h = absurd (none_in 21 h)
 short_form_told config unit (Some operand) h = reference_told config unit Reads operand.reference h
 
-no_function_told : (name : Spelling) (near : Option Nearest) (a b : Bool) → Contains (if a then [] else unless b 21) 21 → HasLine (if a then [] else (if b then [] else no_function_line name near))
+no_function_told : (name : Spelling) (near : Option Nearest) (a b : Bool) → Contains (if a then [] else unless b 21) 21 → HasLine (if a then [] else (if b then [] else no_function_line name near ++ time_lines name))
 no_function_told name near true b h = absurd (none_in 21 h)
 no_function_told name near false true h = absurd (none_in 21 h)
-no_function_told name near false false h = no_function_is name near
+no_function_told name near false false h = ahead (no_function_line name near) _ (no_function_is name near)
 
 -- of each unknown name of an instruction something is told
 instruction_told : (config : Config) (unit : ProgramUnit) (i : Instruction) → Contains (name_numbers config unit i) 21 → HasLine (instruction_text config unit i)

@@ -6,6 +6,7 @@ use Rattle.il_spec.specs.declared.token.Token.{Token}
 use Rattle.il_spec.specs.declared.tree.Place.{Place}
 use Rattle.il_reasons.specs.declared.expected.Expected.{Expected}
 use Rattle.il_reasons.specs.ExpectedKinds.{ExpectedKind, kind_of, expected_kinds}
+use Rattle.il_reasons.specs.Instead.{instead_lines}
 use Rattle.il_reasons.specs.LeftOut.{left_out_lines}
 use Rattle.il_reasons.specs.Parentheses.{open_lines}
 use Rattle.il_reasons.specs.TokenReasons.{IsOfLanguage, going_on, CanStand, CanStandOf, token_at, found_line, expected_line, AreToldOfToken, AddsKind}
@@ -62,17 +63,19 @@ one_more_row text offset kinds new all i any low (inr added) few can =
 pub stands : (text : List ℕ) (offset : ℕ) (kind : ExpectedKind) (rest whole : List ℕ) → whole ≡ going_on text offset kind rest → (kind.sample ≡ [] → rest ≡ []) → IsOfLanguage whole → CanStand text offset kind
 stands text offset kind rest whole is ends spelled = record { rest = rest; spelled = subst IsOfLanguage is spelled; ends = ends }
 
--- what is told of a token: what stands there, then the kinds, what is left out, and what is open
-pub all_told : (text : List ℕ) (tokens : List Token) (place : Place) (rows shown : List Expected) (start found kinds out lines : List ℕ) → shown ≡ rows → length rows ≤ 8 → CanStandOf text place.offset (map kind_of rows) expected_kinds
+-- what is told of a token: what stands there, then the kinds, what is left out, what to write instead, and what is open
+pub all_told : (text : List ℕ) (tokens : List Token) (place : Place) (rows shown : List Expected) (start found kinds out instead lines : List ℕ) → shown ≡ rows → length rows ≤ 8 → CanStandOf text place.offset (map kind_of rows) expected_kinds
     → start ≡ [] → found ≡ start ++ found_line text place.offset (token_at place.offset tokens) → kinds ≡ found ++ expected_line (map kind_of shown)
-    → out ≡ kinds ++ left_out_lines text tokens (token_at place.offset tokens) place.offset → lines ≡ out ++ open_lines tokens place → AreToldOfToken text tokens place lines
-all_told text tokens place rows shown start found kinds out lines same few can empty first last left more =
+    → out ≡ kinds ++ left_out_lines text tokens (token_at place.offset tokens) place.offset → instead ≡ out ++ instead_lines text tokens (token_at place.offset tokens) place
+    → lines ≡ instead ++ open_lines tokens place → AreToldOfToken text tokens place lines
+all_told text tokens place rows shown start found kinds out instead lines same few can empty first last left other more =
     record {
       kinds = map kind_of rows;
       few = subst (λ n. n ≤ 8) (sym (length-map rows kind_of)) few;
       can = can;
       are = more ∙ ap (λ l. l ++ open_lines tokens place)
+          (other ∙ ap (λ l. l ++ instead_lines text tokens (token_at place.offset tokens) place)
           (left ∙ ap (λ l. l ++ left_out_lines text tokens (token_at place.offset tokens) place.offset)
           (last ∙ ap (λ (ks : List Expected). found ++ expected_line (map kind_of ks)) same
-          ∙ ap (λ l. l ++ expected_line (map kind_of rows)) (first ∙ ap (λ l. l ++ found_line text place.offset (token_at place.offset tokens)) empty)));
+          ∙ ap (λ l. l ++ expected_line (map kind_of rows)) (first ∙ ap (λ l. l ++ found_line text place.offset (token_at place.offset tokens)) empty))));
     }

@@ -7,5 +7,7 @@ pub mod TokenReasons
 pub mod TreeReasons
 pub mod TaskReasons
 pub mod LeftOut
+pub mod Instead
+pub mod Fractions
 pub mod LimitReasons
 pub mod Parentheses

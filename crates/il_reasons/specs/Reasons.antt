@@ -9,6 +9,7 @@ use Rattle.lift_load.specs.Loading.{SpellsNone, HasTokens}
 use Rattle.il_reasons.specs.ChainReasons.{AreToldOfChains}
 use Rattle.il_reasons.specs.CostReasons.{AreToldOfCosts}
 use Rattle.il_range_reasons.specs.RangeReasons.{AreToldOfRanges}
+use Rattle.il_reasons.specs.Fractions.{literal_lines}
 use Rattle.il_reasons.specs.LeftOut.{stray_at, stray_lines, named_lines}
 use Rattle.il_reasons.specs.LimitReasons.{size_line}
 use Rattle.il_reasons.specs.TokenReasons.{AreToldOfToken, token_at}
@@ -41,11 +42,13 @@ pub record AreToldOfText (text : List ℕ) (tokens : List Token) (c : Config) (n
   pub are : lines ≡ told ++ left_out_of text tokens number place
 
 -- These lines are told of the refusal of a text: those of its ranges, or those of the configuration that it spells. Where it spells none, those of the
--- unexpected token (10), of the byte that has no place (1) or of what is too many (12), and nothing of another fault or where it has no tokens.
+-- unexpected token (10), of the byte that has no place (1), of the literal that is not well formed (3) or of what is too many (12), and nothing of another fault or where
+-- it has no tokens.
 pub data IsReason (text : List ℕ) (number : ℕ) (place : Place) (lines : List ℕ) : Type 0 where
   of_ranges : is_of_ranges number ≡ true → AreToldOfRanges text number place lines → IsReason text number place lines
   unexpected : number ≡ 10 → SpellsNone text → (tokens : List Token) → AreTokens text 0 tokens → AreToldOfToken text tokens place lines → IsReason text number place lines
   of_byte : number ≡ 1 → SpellsNone text → lines ≡ stray_lines (stray_at text place.offset) → IsReason text number place lines
+  of_literal : number ≡ 3 → SpellsNone text → lines ≡ literal_lines text place.offset → IsReason text number place lines
   too_many : number ≡ 12 → SpellsNone text → lines ≡ size_line → IsReason text number place lines
-  unspelled : is_of_ranges number ≡ false → (number ≡ 10 → HasTokens text → ⊥) → (number ≡ 1 → ⊥) → (number ≡ 12 → ⊥) → SpellsNone text → lines ≡ [] → IsReason text number place lines
+  unspelled : is_of_ranges number ≡ false → (number ≡ 10 → HasTokens text → ⊥) → (number ≡ 1 → ⊥) → (number ≡ 3 → ⊥) → (number ≡ 12 → ⊥) → SpellsNone text → lines ≡ [] → IsReason text number place lines
   spelled : is_of_ranges number ≡ false → (c : Config) → Spells text c → (tokens : List Token) → AreTokens text 0 tokens → AreToldOfText text tokens c number place lines → IsReason text number place lines

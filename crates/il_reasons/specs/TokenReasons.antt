@@ -11,6 +11,7 @@ use Rattle.il_spec.specs.Words.{keyword_of}
 use Rattle.il_spec.specs.Grammar.{Spells}
 use Rattle.il_reasons.specs.declared.expected.Expected.{Expected}
 use Rattle.il_reasons.specs.ExpectedKinds.{ExpectedKind, kind_of, expected_kinds}
+use Rattle.il_reasons.specs.Instead.{instead_lines}
 use Rattle.il_reasons.specs.LeftOut.{left_out_lines}
 use Rattle.il_reasons.specs.Parentheses.{open_lines}
 
@@ -66,12 +67,13 @@ expected_line [] = []
 expected_line (kind ∷ kinds) = codes "there could stand: " ++ kind.words ++ (other_words kinds ++ codes "\n")
 
 -- What is told of the token at a place of a text with these tokens: what stands there, at most eight kinds that can stand there, what the
--- language leaves out, and a parenthesis that is open.
+-- language leaves out, what to write instead, and a parenthesis that is open.
 pub record AreToldOfToken (text : List ℕ) (tokens : List Token) (place : Place) (lines : List ℕ) : Type 0 where
   pub kinds : List ExpectedKind
   pub few : length kinds ≤ 8
   pub can : CanStandOf text place.offset kinds expected_kinds
-  pub are : lines ≡ ((found_line text place.offset (token_at place.offset tokens) ++ expected_line kinds) ++ left_out_lines text tokens (token_at place.offset tokens) place.offset) ++ open_lines tokens place
+  pub are : lines ≡ (((found_line text place.offset (token_at place.offset tokens) ++ expected_line kinds) ++ left_out_lines text tokens (token_at place.offset tokens) place.offset)
+      ++ instead_lines text tokens (token_at place.offset tokens) place) ++ open_lines tokens place
 
 -- AS THE CODE FINDS THEM
 

@@ -15,6 +15,8 @@ mod chains;
 mod costs;
 mod expected;
 mod expected_search;
+mod fractions;
+mod instead;
 mod left_out;
 mod limits;
 mod parentheses;
@@ -22,6 +24,7 @@ mod tasks;
 mod tree;
 mod unexpected;
 
+use crate::fractions::put_literal;
 use crate::left_out::put_stray;
 use il_parse::parse;
 use il_rules::Written;
@@ -65,6 +68,8 @@ fn unspelled(alloc: Global, text: &[u8], number: u16, place: Place) -> Result<Ve
         token_told(alloc, text, number, place)
     } else if number == 1 {
         byte_told(alloc, text, number, place)
+    } else if number == 3 {
+        literal_told(alloc, text, number, place)
     } else if number == 12 {
         size_told(alloc, text, number, place)
     } else {
@@ -94,6 +99,22 @@ fn byte_told(alloc: Global, text: &[u8], number: u16, place: Place) -> Result<Ve
 {
     let mut lines = Vec::new(alloc);
     put_stray(&mut lines, text, place.offset)?;
+    Ok(lines)
+}
+
+// What is told of a literal that is not well formed.
+fn literal_told(
+    alloc: Global,
+    text: &[u8],
+    number: u16,
+    place: Place,
+) -> Result<Vec<u8>, AllocError>
+    requires spelled { SpellsNone text.now }
+    requires number { number ≡ 3 }
+    ensures { IfOk result (λ lines. IsReason text.now number place lines.items) }
+{
+    let mut lines = Vec::new(alloc);
+    put_literal(&mut lines, text, place.offset)?;
     Ok(lines)
 }
 

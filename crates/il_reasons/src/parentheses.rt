@@ -7,8 +7,12 @@ use il_spec::token::{Kind, Sign, Token};
 use il_spec::tree::Place;
 use std::alloc::{AllocError, Global};
 
-// The innermost parenthesis that is open before the token at a place.
-fn open_at(alloc: Global, tokens: &[Token], offset: u32) -> Result<Option<Token>, AllocError>
+/// The innermost parenthesis that is open before the token at a place.
+pub(crate) fn open_at(
+    alloc: Global,
+    tokens: &[Token],
+    offset: u32,
+) -> Result<Option<Token>, AllocError>
     ensures { IfOk result (λ found. found ≡ open_at offset tokens.now) }
 {
     let mut stack = Vec::new(alloc);

@@ -9,6 +9,7 @@ ghost use Rattle.il_reasons.specs.TokenReasons.{IsOfLanguage, CanStand, CanStand
 
 use crate::expected::{Expected, kinds};
 use crate::expected_search::Search;
+use crate::instead::put_instead;
 use crate::left_out::{put_named, put_words, token_before};
 use crate::parentheses::put_open;
 use crate::spelled;
@@ -178,7 +179,7 @@ fn kinds_at(
 }
 
 // A text in upper case.
-fn in_upper_case(alloc: Global, text: &[u8]) -> Result<Vec<u8>, AllocError>
+pub(crate) fn in_upper_case(alloc: Global, text: &[u8]) -> Result<Vec<u8>, AllocError>
     ensures { IfOk result (λ upper. upper.items ≡ upper_case text.now) }
 {
     let mut upper = Vec::new(alloc);
@@ -232,7 +233,7 @@ fn put_token(lines: &mut Vec<u8>, source: &Source, token: &Token) -> Result<(), 
 }
 
 // The token that begins at a place.
-fn token_at(tokens: &[Token], offset: u32) -> Option<Token>
+pub(crate) fn token_at(tokens: &[Token], offset: u32) -> Option<Token>
     ensures { result ≡ token_at offset tokens.now }
 {
     for token in tokens {
@@ -354,7 +355,7 @@ fn word<'s>(source: &'s Source<'_>, token: &Token) -> Option<&'s str>
 }
 
 // That of a token that may not be there.
-fn word_of<'s>(source: &'s Source<'_>, token: &Option<Token>) -> Option<&'s str>
+pub(crate) fn word_of<'s>(source: &'s Source<'_>, token: &Option<Token>) -> Option<&'s str>
     ensures { option_map (λ w. w.now) result ≡ word_of source.now token.now }
 {
     match token {
@@ -401,7 +402,7 @@ pub(crate) fn put_named_at(
 }
 
 /// What is told of a token with which no text of the language goes on (own rule): what stands there, at most eight kinds that
-/// can stand there, each with some rest behind it, what the language leaves out, and a parenthesis that is open.
+/// can stand there, each with some rest behind it, what the language leaves out, what to write instead, and a parenthesis that is open.
 pub(crate) fn told(
     alloc: Global,
     text: &[u8],
@@ -416,6 +417,7 @@ pub(crate) fn told(
     put_found(alloc, &mut lines, text, tokens, place.offset)?;
     put_expected(&mut lines, &kinds)?;
     put_left_out(alloc, &mut lines, text, tokens, place.offset)?;
+    put_instead(alloc, &mut lines, text, tokens, place)?;
     put_open(alloc, &mut lines, tokens, place)?;
     Ok(lines)
 }
