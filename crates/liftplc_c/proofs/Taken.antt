@@ -1,11 +1,11 @@
 -- Fields that are taken.
 use Rattle.std.proofs.Common.{◌≡◌, Bool, true, false, ◌&&◌, sym, subst}
 use Rattle.std.specs.Prelude.{nat_le}
-use Rattle.lift_spec.specs.declared.image.Fields.{Fields}
-use Rattle.lift_spec.specs.declared.image.Sizes.{Sizes}
-use Rattle.lift_spec.specs.Image.{fields_in_range, FieldsInRange}
-use Rattle.lift_spec.specs.Limits.{most_cars}
-use Rattle.lift_spec.proofs.Laws.{range_test}
+use Rattle.group_spec.specs.declared.image.Fields.{Fields}
+use Rattle.group_spec.specs.declared.image.Sizes.{Sizes}
+use Rattle.group_spec.specs.Image.{fields_in_range, FieldsInRange}
+use Rattle.group_spec.specs.Limits.{most_cars}
+use Rattle.group_spec.proofs.Laws.{range_test}
 use Rattle.liftplc_c.specs.declared.fields.FieldsInput.{FieldsInput}
 use Rattle.liftplc_c.specs.Inputs.{are_taken, fields_of}
 

@@ -3,7 +3,7 @@
 ghost use Rattle.std.specs.Prelude.{◌≡◌, ◌≤◌, is_some, IfSome};
 ghost use Rattle.liftplc_c.specs.Inputs.{are_taken, car_of, fields_of};
 
-use lift_spec::{Bounded, CAR_PLACES, CarFields, Fields, MOST_CARS, Sizes, in_range};
+use group_spec::{Bounded, CAR_PLACES, CarFields, Fields, MOST_CARS, Sizes, in_range};
 
 /// What C reports of a car: the floor that it is at or next to, and its five sensors.
 #[repr(C)]

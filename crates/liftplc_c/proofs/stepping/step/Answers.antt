@@ -1,6 +1,6 @@
 use Rattle.std.proofs.Common.{subst}
-use Rattle.lift_spec.specs.declared.image.Sizes.{Sizes}
-use Rattle.lift_spec.specs.Image.{FieldsInRange}
+use Rattle.group_spec.specs.declared.image.Sizes.{Sizes}
+use Rattle.group_spec.specs.Image.{FieldsInRange}
 use Rattle.liftplc_c.proofs.Taken.{inside}
 use Rattle.liftplc_c.proofs.stepping.step.Goals as goal
 
