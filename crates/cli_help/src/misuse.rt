@@ -192,7 +192,7 @@ impl Seen {
         }
     }
 
-    // The same, and a word more.
+    // What was seen, and a word more.
     fn with(self, word: &str) -> Result<Seen, Wrong> {
         let seen = self.with_word(word)?;
         Ok(Seen {
@@ -299,7 +299,7 @@ fn misuse_of_seen(command: Option<Simulating>, words: &[String]) -> Misuse<'_> {
     }
 }
 
-// The same, where each option is well formed.
+// What is wrong with the words of a simulation, each option of which is well formed.
 fn misuse_of_rounds(command: Simulating, seen: Seen, words: &[String]) -> Misuse<'_> {
     let Some(second) = word_at(words, seen.second) else {
         return Misuse::Missing;
@@ -338,7 +338,7 @@ struct Served {
 }
 
 impl Served {
-    // The same, and a word more.
+    // What was seen of `serve`, and a word more.
     fn with(self, word: &str) -> Result<Served, Wrong> {
         if let Some(option) = self.needs_value {
             return self.with_value(option, word);

@@ -15,43 +15,43 @@ pub const MOST_ROUNDS: u16 = 50_000;
 /// The option of a simulation whose value is the round from which on fire recall is on.
 pub const FIRE: &str = "--fire";
 
-// The same option, where its value stands in one word with it.
+// `--fire` with its value in one word.
 const FIRE_IS: &str = "--fire=";
 
 /// The option of a simulation whose value is the name of a file with presses and settings.
 pub const CALLS: &str = "--calls";
 
-// The same option, where its value stands in one word with it.
+// `--calls` with its value in one word.
 const CALLS_IS: &str = "--calls=";
 
 /// The option of `draw` whose value is which rounds are drawn.
 pub const ROUNDS: &str = "--rounds";
 
-// The same option, where its value stands in one word with it.
+// `--rounds` with its value in one word.
 const ROUNDS_IS: &str = "--rounds=";
 
 /// The option of `scan` whose value is the round in which the scan was committed.
 pub const ROUND: &str = "--round";
 
-// The same option, where its value stands in one word with it.
+// `--round` with its value in one word.
 const ROUND_IS: &str = "--round=";
 
 /// The option of `scan` whose value is the line behind which nothing more is shown.
 pub const UNTIL: &str = "--until";
 
-// The same option, where its value stands in one word with it.
+// `--until` with its value in one word.
 const UNTIL_IS: &str = "--until=";
 
 /// The option of `serve` whose value is the name of the trace that it writes.
 pub const TRACE: &str = "--trace";
 
-// The same option, where its value stands in one word with it.
+// `--trace` with its value in one word.
 const TRACE_IS: &str = "--trace=";
 
 /// The option of `serve` whose value is the name of the trace that the group goes on from.
 pub const FROM: &str = "--from";
 
-// The same option, where its value stands in one word with it.
+// `--from` with its value in one word.
 const FROM_IS: &str = "--from=";
 
 /// The flag of `watch` that has it leave out a round whose values are those of the round before.
@@ -355,7 +355,7 @@ impl<'w> Words<'w> {
 }
 
 impl<'w> Request<'w> {
-    /// The same, with the flags of its command or without.
+    /// The request, with the flags of its command or without.
     pub fn with_flags(self, flags: Flags) -> Request<'w>
         ensures { result ≡ with_flags flags self.entry }
     {
@@ -810,7 +810,7 @@ fn rounds_given(rest: &[String]) -> Option<Rounds<'_>>
     })
 }
 
-// The same, with a name behind ROUNDS where the command needs one.
+// FILE, ROUNDS and, where the command needs one, a name after them.
 fn simulation_given(command: Simulating, rest: &[String]) -> Option<Rounds<'_>>
     ensures some { IfSome result (λ rounds. GiveRounds (map string_bytes rest.now) rounds
         × NeedsName command (words_of rounds.presses)) }
@@ -1172,7 +1172,7 @@ fn own_json(words: &[String]) -> Option<&'static str>
     None
 }
 
-// The same, where no flag is one of the words that has no JSON.
+// `--json`, where the words' command takes it and no flag among them has no JSON.
 fn asked_json(words: &[String]) -> Option<&'static str>
     ensures { option_map (λ f. f.now) result ≡ asked_json (map string_bytes words.now) }
 {
@@ -1414,7 +1414,7 @@ fn value_within(word: &str) -> Option<Valued<'_>>
     of_serve_within(word)
 }
 
-// The same of an option of `serve` or of `scan`.
+// The option of `serve` or of `scan`, and the value, in one word.
 fn of_serve_within(word: &str) -> Option<Valued<'_>>
     ensures { MatchOption result (cut_serve_word word.now ≡ word.now ∷ [])
         (λ valued. cut_serve_word word.now ≡ valued.option.now ∷ valued.value.now ∷ []) }
@@ -1434,7 +1434,7 @@ fn of_serve_within(word: &str) -> Option<Valued<'_>>
     of_scan_within(word)
 }
 
-// The same of an option of `scan`.
+// The option of `scan` and the value in one word.
 fn of_scan_within(word: &str) -> Option<Valued<'_>>
     ensures { MatchOption result (cut_scan_word word.now ≡ word.now ∷ [])
         (λ valued. cut_scan_word word.now ≡ valued.option.now ∷ valued.value.now ∷ []) }

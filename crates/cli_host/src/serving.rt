@@ -96,7 +96,7 @@ impl<'w> Given<'w> {
         }
     }
 
-    // The same with a word alone, if it gives something that isn't there yet.
+    // What was given and a word alone, if it gives something new.
     fn with_word(self, word: &'w str) -> Option<Given<'w>>
         ensures some { IfSome result (λ next. GiveWord word.now (given_of self.entry)
             (given_of next)) }
@@ -121,7 +121,7 @@ impl<'w> Given<'w> {
         }
     }
 
-    // The same with an option and its value, if they give something that isn't there yet.
+    // What was given and an option with its value, if they give something new.
     fn with_value(self, option: &str, value: &'w str) -> Option<Given<'w>>
         ensures some { IfSome result (λ next. GiveValue option.now value.now
             (given_of self.entry) (given_of next)) }

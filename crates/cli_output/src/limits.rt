@@ -420,7 +420,7 @@ fn chains(alloc: Global, used: &Relation, count: usize) -> Result<Items<usize>, 
     Ok(lengths)
 }
 
-// The same, of one unit more.
+// The longest chains of one unit more, from each unit on.
 fn longer(
     alloc: Global,
     used: &Relation,

@@ -50,7 +50,7 @@ pub fn run<R: Threads + Wait + Sync, F: TextFiles, C: Commands, O: Sink, E: Sink
     show(answer.outcome, &answer.below, out, err)
 }
 
-/// The same without threads. `None`: the words ask for `run`, and nothing was read or written.
+/// Runs one command without threads. `None`: the words ask for `run`, and nothing was read or written.
 pub fn run_alone<F: TextFiles, C: Commands, O: Sink, E: Sink>(
     alloc: Global,
     words: &Plain,

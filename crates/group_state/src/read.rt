@@ -127,7 +127,7 @@ fn take_task<'a>(
     Ok(Behind { rest, line })
 }
 
-// The same, where the group may not have the task.
+// The lines of a task's variables, where the group may not have the task.
 fn take_if_there<'a>(
     core: &mut Core,
     verified: &Verified,

@@ -108,7 +108,7 @@ impl<'t> Source<'t> {
         self.take_word(tokens, lead, keyword)
     }
 
-    /// The same, where the tokens begin so.
+    /// Takes this word where the tokens begin with it, and says whether they do.
     pub fn take_word(&self, tokens: &mut Tokens, lead: Lead, keyword: Keyword) -> bool
         requires { lead ≡ lead_at self.now tokens.old }
         ensures eaten { Eats (TheWord self.now keyword) tokens.old result tokens.new }

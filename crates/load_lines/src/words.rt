@@ -34,7 +34,7 @@ fn two_letter_word(word: &str) -> Option<Keyword>
     }
 }
 
-// The same of all of them.
+// A reserved word of two letters, of all of them.
 #[tactic(auto, unfolding(il_syntax::specs::Text::entry_of))]
 fn any_two_letter_word(word: &str) -> Option<Keyword>
     ensures { result ≡ entry_of two_letter_words word.now }

@@ -23,7 +23,7 @@ pub fn difference(found: Elementary, wanted: Elementary) -> LowestFault
     }
 }
 
-/// The same, where there is a type.
+/// How a type differs from the wanted one, where there is a type.
 pub fn any_difference(found: Option<Elementary>, wanted: Elementary) -> LowestFault
     ensures { result ≡ lowest (any_difference_numbers found wanted) }
 {

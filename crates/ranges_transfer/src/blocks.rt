@@ -74,7 +74,7 @@ fn copy_output<S: Scope>(scope: &S, row: &mut Row, output: Option<Scalar>, targe
     }
 }
 
-// The same of an argument.
+// Gives the target of an argument the declared range of the output.
 fn copy_argument<S: Scope>(scope: &S, row: &mut Row, instance: &str, argument: &Argument)
     ensures { (block : Text) → form_in (S.names scope.now) instance.now ≡ Some (BlockForm block)
         → row.new ≡ argument_row (S.names scope.now) block argument.now row.old }

@@ -30,7 +30,7 @@ pub fn named_at<'c>(spots: &[Spot<'c>], place: Place) -> Option<Spot<'c>>
     find_at(spots, place)
 }
 
-// The same, as it stands in the list.
+// The first name at a place, as a spot of the list.
 fn find_at<'c>(spots: &[Spot<'c>], place: Place) -> Option<Spot<'c>>
     ensures { result ≡ find (λ s. is_at s.place place) spots.now }
 {
@@ -50,7 +50,7 @@ pub fn first_of<'c>(spots: &[Spot<'c>], name: &str) -> Option<Spot<'c>>
     find_named(spots, name)
 }
 
-// The same, as it stands in the list.
+// The first place of a name, as a spot of the list.
 fn find_named<'c>(spots: &[Spot<'c>], name: &str) -> Option<Spot<'c>>
     ensures { result ≡ find (λ s. bytes_eq s.name.now name.now) spots.now }
 {

@@ -72,7 +72,7 @@ fn is_division(operator: Operator) -> bool
     )
 }
 
-// The same of an operator that divides, where there is a range.
+// The line of a divisor, of an operator that divides, where there is a range.
 fn put_divided_by(
     text: &mut String,
     operator: Operator,

@@ -31,7 +31,7 @@ fn put_first_input(
     put_range(text, ", and the result is ", range, "\n")
 }
 
-// The same, where both have a range, and the current result may leave the input.
+// The line of a first input, where it and the current result have a range, and the result may leave the input's.
 fn put_first(
     text: &mut String,
     name: &str,
@@ -68,7 +68,7 @@ fn put_further_input(
     put_value(text, reference, range)
 }
 
-// The same, where both have a range, and the operand may leave the input.
+// The line of a further input, where it and the operand have a range, and the operand may leave the input's.
 fn put_further(
     text: &mut String,
     name: &str,

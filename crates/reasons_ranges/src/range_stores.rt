@@ -45,7 +45,7 @@ fn put_stored(
     put_into(text, unit, target, scalar)
 }
 
-// The same, where the current result has a range, and the target a scalar type.
+// The line of a store, where the current result has a range and the target a scalar type.
 fn put_result(
     text: &mut String,
     unit: &UnitScope,

@@ -149,7 +149,7 @@ fn units_told(
     Ok(text)
 }
 
-// The same of a configuration of which no earlier rule is broken.
+// What is told of a fault of ranges, in a configuration that breaks no earlier rule.
 fn ordered_told(
     alloc: Global,
     ordered: &Ordered,

@@ -46,7 +46,7 @@ fn put_initial(
     }
 }
 
-// The same of a value.
+// The line of an initial value, where that is the one.
 fn put_value(
     text: &mut String,
     offset: u32,

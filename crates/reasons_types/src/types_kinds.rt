@@ -49,7 +49,7 @@ fn is_no_instance(binding: Option<Binding>) -> bool
     }
 }
 
-// The same of a name.
+// Whether a name means an array.
 fn names_array(scope: &UnitScope<'_>, name: &str) -> bool
     ensures { result ≡ is_other_kind
         (scalar_numbers (meaning scope.now.config scope.now.unit name.now)) }

@@ -95,7 +95,7 @@ fn put_jump_line(text: &mut String, line: u32) -> Result<(), AllocError>
     text.push_str(" leads here, and a JMP brings no current result\n")
 }
 
-// The same, where a JMP leads to the place.
+// That a JMP leads to the place, where one does.
 fn put_jump(text: &mut String, jump: Option<u32>) -> Result<(), AllocError>
     ensures { OnOk result (Puts text.old text.new (jump_lines jump)) }
 {
@@ -147,7 +147,7 @@ fn put_aside(text: &mut String, found: Option<Elementary>) -> Result<(), AllocEr
     }
 }
 
-// The same, where one was set aside.
+// What the result before the parenthesis is, where one was set aside.
 fn put_deferred(
     text: &mut String,
     deferred: Option<(Operator, Option<Elementary>)>,

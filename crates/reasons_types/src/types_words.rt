@@ -137,7 +137,7 @@ fn put_unit_words(
     put_outputs(text, instance, outputs.as_slice())
 }
 
-// The same by the number of its unit.
+// The inputs and outputs of an own block, by the number of its unit.
 fn put_own(
     alloc: Global,
     text: &mut String,

@@ -50,7 +50,7 @@ pub struct Pair {
     pub left: Content,
 }
 
-// The same in 16 bytes, with the result in parts.
+// A deferred operation in 16 bytes, with the result in parts.
 #[derive(Clone, Copy)]
 struct Kept {
     operator: Operator,

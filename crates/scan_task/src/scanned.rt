@@ -153,7 +153,7 @@ fn same_values(rows: &Rows, others: &Rows, cells: &[Cell]) -> bool
     is_same_rows(rows, others) || same_by_slots(rows, others, cells)
 }
 
-// The same, slot by slot.
+// Whether rows hold the same value at each slot, slot by slot.
 fn same_by_slots(rows: &Rows, others: &Rows, cells: &[Cell]) -> bool
     ensures { (result ≡ true) ↔ HaveSameValues cells.now rows.now others.now }
 {

@@ -259,7 +259,7 @@ fn put_word(text: &mut String, manner: Manner, begun: bool) -> Result<(), AllocE
     }
 }
 
-// The same as members.
+// The uses of a name in a unit, as members.
 fn add_uses(object: &mut Object, uses: &UnitUses<'_>, name: &str) -> Result<(), AllocError>
     ensures { OnOk result (object.new ≡ object.old
         ++ used_members (use_member uses.now.unit.now.body.steps name.now)) }
@@ -480,7 +480,7 @@ fn put_place(text: &mut String, place: &UnitLines<'_>) -> Result<(), AllocError>
     put_lines(text, place.lines.as_slice())
 }
 
-// The same as members.
+// The uses of a global, as members.
 fn add_global_uses(object: &mut Object, uses: &GlobalUses<'_>, name: &str) -> Result<(), AllocError>
     ensures { OnOk result (object.new ≡ object.old
         ++ used_members (global_member uses.now.units.now name.now)) }

@@ -22,7 +22,7 @@ pub fn meant(alloc: Global, world: &World, words: Words<'_>) -> Result<Vec<Strin
     expanded(alloc, world.verified(), &upper)
 }
 
-// The same of words in upper case.
+// The words that stand for several, of words in upper case.
 fn expanded(alloc: Global, verified: &Verified, words: &[String]) -> Result<Vec<String>, AllocError>
     ensures { IfOk result (λ names. map string_bytes names.items
         ≡ expanded verified.now.config (map string_bytes words.now)) }

@@ -28,7 +28,7 @@ pub enum Step {
     Commit { scan: u8, by: u8 },
     /// So many cars stand at floor 1: 0, or the number of the fault.
     Refresh { cars: u8, time: u32, run_limit: u8 },
-    /// The same, but car 1 stands between floors 1 and 2, with its door shut.
+    /// So many cars, of which car 1 is between floors 1 and 2, with its door shut.
     Leave { time: u32 },
     /// A refresh by the plant, without FIRE: 0, or the number of the fault.
     Drive,

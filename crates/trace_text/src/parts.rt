@@ -123,7 +123,7 @@ fn part_number(text: &[u8]) -> Option<(u8, &[u8])>
     Some((value as u8, rest))
 }
 
-// The same; two digits are read at once.
+// A space and a number that is at most 255, and what follows it; two digits are read at once.
 #[inline(always)]
 fn longer_number(text: &[u8]) -> Option<(u8, &[u8])>
     ensures found { IfSome result (λ p. (p.0 ≤ 255) × (text.now ≡ part p.0 ++ p.1.now)

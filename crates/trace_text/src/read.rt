@@ -33,7 +33,7 @@ pub fn read_trace(alloc: Global, text: &[u8], cars: u8) -> Result<Vec<TraceEvent
     read_lines(alloc, text, cars)
 }
 
-// The same, by the front of the text.
+// The events that the lines of a text tell, line by line from its front.
 fn read_lines(alloc: Global, text: &[u8], cars: u8) -> Result<Vec<TraceEvent>, TraceFault>
     ensures { MatchResult result (λ events. Reads cars text.now (Ok events.items))
         (λ fault. Reads cars text.now (Err fault)) }
