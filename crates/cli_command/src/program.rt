@@ -129,7 +129,7 @@ fn command_run<R: Threads + Wait + Sync, F: TextFiles, O: Sink, E: Sink>(
     }
 }
 
-// Tells a fault, and ends with its status.
+// Reports a fault, and ends with its status.
 fn ends_with<E: Sink>(fault: &Fault, err: &mut E) -> Status
     ensures told { Writes (E.contents err.old) (E.contents err.new) (E.has_failed err.new)
         (message_of fault.now) }

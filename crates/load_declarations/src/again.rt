@@ -22,7 +22,7 @@ fn see(alloc: Global, seen: &mut Table<()>, name: &str) -> Result<bool, AllocErr
     Ok(again)
 }
 
-// The first name that was seen or stands before in the list.
+// The first name that was seen or comes before in the list.
 #[inline(always)]
 fn again_named(
     alloc: Global,

@@ -214,7 +214,7 @@ fn index_fault(here: &UnitScope, index: &Index, place: Place) -> Option<Found<De
     }
 }
 
-// What a name where a scalar variable stands breaks.
+// What a name where a scalar variable is breaks.
 fn scalar_name_fault(here: &UnitScope, name: &str, place: Place) -> Option<Found<DeclareFault>>
     ensures { result ≡ lowest_at (scalar_numbers (meaning here.now.config here.now.unit name.now))
         place }
@@ -274,7 +274,7 @@ fn array_type_fault(declared: VariableType, place: Place) -> Option<Found<Declar
     }
 }
 
-// What a name behind CAL breaks.
+// What a name after CAL breaks.
 fn called_name_fault(here: &UnitScope, name: &str, place: Place) -> Option<Found<DeclareFault>>
     ensures { result ≡ lowest_at (called_numbers (meaning here.now.config here.now.unit name.now))
         place }

@@ -139,7 +139,7 @@ fn five_letter_word(word: &str) -> Option<Keyword>
     }
 }
 
-// A reserved word of more than five letters. It stands by itself, so that the others pay nothing for its calls.
+// A reserved word of more than five letters. It is by itself, so that the others pay nothing for its calls.
 #[inline(never)]
 #[tactic(auto, unfolding(il_syntax::specs::Text::entry_of))]
 fn longer_word(word: &str) -> Option<Keyword>

@@ -45,7 +45,7 @@ fn literal_fault(literal: Literal, wanted: Elementary) -> LowestFault
     }
 }
 
-// 30 where a bare literal stands for no whole type, 31 where its value is not one of the type.
+// 30 where a bare literal means no whole type, 31 where its value is not one of the type.
 fn bare_fault(wanted: Elementary, fits: bool) -> LowestFault
     ensures { result ≡ lowest (bare_numbers wanted (rules.unless fits 31)) }
 {

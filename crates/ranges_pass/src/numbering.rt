@@ -193,7 +193,7 @@ fn is_comparison_at(steps: &[Step], place: usize) -> bool
     }
 }
 
-// Whether a comparison and a conditional jump stand behind a place: they may test what the place loads.
+// Whether a comparison and a conditional jump follows a place: they may test what the place loads.
 fn may_test(steps: &[Step], place: usize) -> bool
     requires { place < length steps.now }
     ensures { result ≡ may_test steps.now place }

@@ -96,7 +96,7 @@ fn copy_outputs<S: Scope>(scope: &S, row: &mut Row, instance: &str, arguments: &
     }
 }
 
-// The row behind a call: of a conditional one both as it acts and as it passes.
+// The row after a call: of a conditional one both as it acts and as it passes.
 fn passed_row<S: Scope>(
     alloc: Global,
     scope: &S,
@@ -120,7 +120,7 @@ fn passed_row<S: Scope>(
     Ok(())
 }
 
-/// The facts behind a call of a name, if it is that of an instance and the arguments fit.
+/// The facts after a call of a name, if it is that of an instance and the arguments fit.
 pub fn called<S: Scope>(
     alloc: Global,
     scope: &S,

@@ -1,4 +1,4 @@
-//! What is told of a refusal beside its number and its place: the thing that stands there.
+//! What is reported of a refusal beside its number and its place: the thing that is there.
 #![tactic(auto)]
 
 ghost use Rattle.std.specs.Prelude.{◌≡◌, ◌++◌, ◌≤◌, false, length, IfOk, OnOk};
@@ -32,7 +32,7 @@ use load_tokens::tokens;
 use load_tree::parse;
 use std::alloc::{AllocError, Global};
 
-/// What is told of the refusal of a text with a number at a place: lines, each with its line feed, or none (own rule).
+/// What is reported of the refusal of a text with a number at a place: lines, each with its line feed, or none (own rule).
 pub fn reason(alloc: Global, text: &[u8], number: u16, place: Place) -> Result<Vec<u8>, AllocError>
     ensures { IfOk result (λ lines. IsReason text.now number place lines.items) }
 {
@@ -43,7 +43,7 @@ pub fn reason(alloc: Global, text: &[u8], number: u16, place: Place) -> Result<V
     }
 }
 
-// What is told of a fault that is found in the tree alone.
+// What is reported of a fault that is found in the tree alone.
 fn of_tree(alloc: Global, text: &[u8], number: u16, place: Place) -> Result<Vec<u8>, AllocError>
     requires { is_of_ranges number ≡ false }
     ensures { IfOk result (λ lines. IsReason text.now number place lines.items) }
@@ -55,7 +55,7 @@ fn of_tree(alloc: Global, text: &[u8], number: u16, place: Place) -> Result<Vec<
     }
 }
 
-// What is told of a text that spells no configuration.
+// What is reported of a text that spells no configuration.
 fn unspelled(alloc: Global, text: &[u8], number: u16, place: Place) -> Result<Vec<u8>, AllocError>
     requires spelled { SpellsNone text.now }
     requires other { is_of_ranges number ≡ false }
@@ -72,7 +72,7 @@ fn unspelled(alloc: Global, text: &[u8], number: u16, place: Place) -> Result<Ve
     }
 }
 
-// What is told of a text with too many units, or of a unit with too many instructions.
+// What is reported of a text with too many units, or of a unit with too many instructions.
 #[tactic(auto, unfolding(crate::specs::LimitReasons::size_line))]
 fn size_told(alloc: Global, text: &[u8], number: u16, place: Place) -> Result<Vec<u8>, AllocError>
     requires spelled { SpellsNone text.now }
@@ -86,7 +86,7 @@ fn size_told(alloc: Global, text: &[u8], number: u16, place: Place) -> Result<Ve
     Ok(lines)
 }
 
-// What is told of a byte that has no place in a text.
+// What is reported of a byte that has no place in a text.
 fn byte_told(alloc: Global, text: &[u8], number: u16, place: Place) -> Result<Vec<u8>, AllocError>
     requires spelled { SpellsNone text.now }
     requires number { number ≡ 1 }
@@ -97,7 +97,7 @@ fn byte_told(alloc: Global, text: &[u8], number: u16, place: Place) -> Result<Ve
     Ok(lines)
 }
 
-// What is told of an unexpected token.
+// What is reported of an unexpected token.
 fn token_told(alloc: Global, text: &[u8], number: u16, place: Place) -> Result<Vec<u8>, AllocError>
     requires spelled { SpellsNone text.now }
     requires other { is_of_ranges number ≡ false }
@@ -122,7 +122,7 @@ fn spelled(alloc: Global, text: &[u8]) -> Result<Written, Refusal>
     Ok(written)
 }
 
-// What is told of a fault of a configuration that a text spells, and of a type that the language leaves out.
+// What is reported of a fault of a configuration that a text spells, and of a type that the language leaves out.
 fn told_of_text(
     alloc: Global,
     text: &[u8],
@@ -166,7 +166,7 @@ fn put_left_out(
     }
 }
 
-// What is told of a fault of a configuration.
+// What is reported of a fault of a configuration.
 fn told(alloc: Global, written: Written, number: u16, place: Place) -> Result<Vec<u8>, AllocError>
     ensures { IfOk result (λ lines. AreTold written number place lines.items) }
 {

@@ -1,4 +1,4 @@
-// What is told of an argument of an instance that may leave its input's range, and of an output that may leave its target's.
+// What is reported of an argument of an instance that may leave its input's range, and of an output that may leave its target's.
 
 ghost use Rattle.std.specs.Prelude.{◌≡◌, flat_map, OnOk};
 ghost use Rattle.base_texts.specs.Puts.{Puts};

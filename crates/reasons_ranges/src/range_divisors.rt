@@ -1,4 +1,4 @@
-// What is told of a divisor that may be 0.
+// What is reported of a divisor that may be 0.
 
 ghost use Rattle.std.specs.Prelude.{◌≡◌, ◌++◌, OnOk, codes};
 ghost use Rattle.base_texts.specs.Puts.{Puts};

@@ -1,4 +1,4 @@
-// What is told of an index that may lie outside of its array.
+// What is reported of an index that may lie outside of its array.
 
 ghost use Rattle.std.specs.Prelude.{◌≡◌, OnOk};
 ghost use Rattle.base_texts.specs.Puts.{Puts};

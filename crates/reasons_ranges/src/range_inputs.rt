@@ -1,4 +1,4 @@
-// What is told of an argument of an own function that may leave its input's range.
+// What is reported of an argument of an own function that may leave its input's range.
 
 ghost use Rattle.std.specs.Prelude.{OnOk};
 ghost use Rattle.base_texts.specs.Puts.{Puts};
@@ -91,7 +91,7 @@ fn put_further(
     }
 }
 
-// Of the operands of an own function, by the types of its inputs behind the first.
+// Of the operands of an own function, by the types of its inputs after the first.
 fn put_operands(
     text: &mut String,
     unit: &UnitScope,

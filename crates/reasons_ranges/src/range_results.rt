@@ -1,4 +1,4 @@
-// What is told of a result that may leave its type.
+// What is reported of a result that may leave its type.
 
 ghost use Rattle.std.specs.Prelude.{◌≡◌, ◌++◌, OnOk, true, codes};
 ghost use Rattle.base_texts.specs.Puts.{Puts};

@@ -1,4 +1,4 @@
-// What is told of a stored value that may leave its variable's range.
+// What is reported of a stored value that may leave its variable's range.
 
 ghost use Rattle.std.specs.Prelude.{OnOk};
 ghost use Rattle.base_texts.specs.Puts.{Puts};

@@ -1,4 +1,4 @@
-// Ranges, types, operands and the lines of declarations, as they are told.
+// Ranges, types, operands and the lines of declarations, as they are reported.
 
 ghost use Rattle.std.specs.Prelude.{◌≡◌, ◌++◌, OnOk, codes, decimal};
 ghost use Rattle.std.specs.Fmt.{signed_decimal};

@@ -213,7 +213,7 @@ fn put_word(
     }
 }
 
-// Of an argument behind others.
+// Of an argument after others.
 fn put_argument(
     text: &mut String,
     scope: &UnitScope<'_>,
@@ -248,7 +248,7 @@ fn put_arguments(
     Ok(())
 }
 
-// Of a CAL: the words that stand twice or that the block lacks, and those that it has.
+// Of a CAL: the words that are twice or that the block lacks, and those that it has.
 fn put_call(
     alloc: Global,
     text: &mut String,

@@ -340,7 +340,7 @@ fn put_units(
     Ok(())
 }
 
-/// The names whose type stands behind so many bytes, with that type, and what is wanted there; of an external also the globals with its name.
+/// The names whose type follows so many bytes, with that type, and what is wanted there; of an external also the globals with its name.
 pub fn put_misplaced(text: &mut String, config: &Config, offset: u32) -> Result<(), AllocError>
     ensures { OnOk result (Puts text.old text.new (misplaced_lines config.now offset)) }
 {

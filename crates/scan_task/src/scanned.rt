@@ -66,7 +66,7 @@ impl<'v> Model for Scanned<'v> {
 }
 
 impl OpenScan {
-    /// A scan that begins as this store stands. No allocation.
+    /// A scan that begins as this store is. No allocation.
     pub fn of(store: Store) -> OpenScan
         requires { IsAtStart store }
         ensures { result ≡ store }
@@ -74,7 +74,7 @@ impl OpenScan {
         OpenScan { store }
     }
 
-    /// It stands at a scan's start.
+    /// It is at a scan's start.
     pub fn begins(&self)
         ensures { IsAtStart self.now }
     {

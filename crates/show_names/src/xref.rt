@@ -182,7 +182,7 @@ fn put_other_line(
     text.push_str("\n")
 }
 
-// Where a unit uses a name, in each manner; `begun` says whether a part stands before.
+// Where a unit uses a name, in each manner; `begun` says whether a part comes before.
 fn put_uses(
     alloc: Global,
     text: &mut String,
@@ -199,7 +199,7 @@ fn put_uses(
     Ok(())
 }
 
-// Where a unit uses a name in one manner, and whether a part stands before the next.
+// Where a unit uses a name in one manner, and whether a part comes before the next.
 fn put_used_lines(
     alloc: Global,
     text: &mut String,
@@ -218,7 +218,7 @@ fn put_used_lines(
     put_used(text, manner, &places, begun)
 }
 
-// Lines, each behind a blank.
+// Lines, each after a blank.
 fn put_lines(text: &mut String, lines: &[u32]) -> Result<(), AllocError>
     ensures { OnOk result (Puts text.old text.new (lines_text lines.now)) }
 {
@@ -228,7 +228,7 @@ fn put_lines(text: &mut String, lines: &[u32]) -> Result<(), AllocError>
     Ok(())
 }
 
-// Where a name is used in one manner, and whether a part stands before the next.
+// Where a name is used in one manner, and whether a part comes before the next.
 fn put_used(
     text: &mut String,
     manner: Manner,
@@ -247,7 +247,7 @@ fn put_used(
     Ok(true)
 }
 
-// The word of a manner, behind its mark.
+// The word of a manner, after its mark.
 fn put_word(text: &mut String, manner: Manner, begun: bool) -> Result<(), AllocError>
     ensures { OnOk result (Puts text.old text.new (mark begun ++ manner_word manner)) }
 {
@@ -426,7 +426,7 @@ fn put_global_line(
     text.push_str("\n")
 }
 
-// Where units use a global, in each manner, behind the line where it is declared.
+// Where units use a global, in each manner, after the line where it is declared.
 fn put_global_uses(
     alloc: Global,
     text: &mut String,
@@ -442,7 +442,7 @@ fn put_global_uses(
     Ok(())
 }
 
-// Where units use a global in one manner, and whether a part stands before the next.
+// Where units use a global in one manner, and whether a part comes before the next.
 fn put_used_places(
     alloc: Global,
     text: &mut String,
@@ -461,7 +461,7 @@ fn put_used_places(
     put_used(text, manner, &places, begun)
 }
 
-// Units with their lines, each behind a blank.
+// Units with their lines, each after a blank.
 fn put_places(text: &mut String, places: &[UnitLines<'_>]) -> Result<(), AllocError>
     ensures { OnOk result (Puts text.old text.new
         (places_text (map unit_places_shown places.now))) }

@@ -410,7 +410,7 @@ fn take_step<'s, G: Naming, R: Wait>(
     (refresher, collector, answer)
 }
 
-// The passes behind the steps, and what the steps answered.
+// The passes after the steps, and what the steps answered.
 struct Rest<G: Naming> {
     passes: Vec<TaskPass<G>>,
     panels: Vec<PanelPass>,
@@ -420,7 +420,7 @@ struct Rest<G: Naming> {
     answers: Vec<u64>,
 }
 
-// The steps of a row, one behind the other. An answer that finds no memory is missing.
+// The steps of a row, one after the other. An answer that finds no memory is missing.
 fn steps<'s, G: Naming, R: Wait>(
     rt: &R,
     alloc: Global,

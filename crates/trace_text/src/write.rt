@@ -142,7 +142,7 @@ fn write_fields<W: Sink>(
     Ok(())
 }
 
-// Writes a refresh, behind the presses and gatherings of the calls that it entered, and answers how many lines these are.
+// Writes a refresh, after the presses and gatherings of the calls that it entered, and answers how many lines these are.
 fn write_refresh<W: Sink>(
     waiting: &mut Waiting,
     sink: &mut W,

@@ -58,7 +58,7 @@ fn close<G: Naming>(station: Station<G>, passes: Vec<TaskPass<G>>, pass: Refresh
     entries
 }
 
-// Two scans of the first task, one of each task, one of the first that finds the journal full behind its commit, and one that finds it full.
+// Two scans of the first task, one of each task, one of the first that finds the journal full after its commit, and one that finds it full.
 fn scans<G: Naming, R: Print + Wait>(
     rt: &R,
     station: &Station<G>,
