@@ -1,4 +1,4 @@
-/* Prints so many names of eight letters that a table of names spreads to one number of sixteen bits (crates/il_table/src/places.rt). */
+/* Prints so many names of eight letters that a table of names spreads to one number of sixteen bits (crates/base_maps/src/places.rt). */
 #include <stdint.h>
 #include <stdio.h>
 #include <stdlib.h>

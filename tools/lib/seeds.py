@@ -1,4 +1,4 @@
-"""The texts of examples/ and of the cases in crates/rows."""
+"""The texts of examples/ and of the cases in crates/test_cases."""
 import os, re
 
 TOP = os.path.dirname(os.path.dirname(os.path.dirname(os.path.realpath(__file__))))
@@ -7,7 +7,7 @@ ESCAPED = re.compile(rb"\\(?:([nrt])|x([0-9a-f]{2}))")
 
 
 def of_rows(lines):
-    """The files of the cases in crates/rows: see its README."""
+    """The files of the cases in crates/test_cases: see its README."""
     files, last = {}, None
     for line in lines:
         times, rest = 1, line
@@ -37,6 +37,6 @@ def seeds():
         if name.endswith(".il"):
             with open(f"{TOP}/examples/{name}", "rb") as file:
                 texts[file.read()] = None
-    with open(f"{TOP}/crates/rows/stdin", "rb") as file:
+    with open(f"{TOP}/crates/test_cases/stdin", "rb") as file:
         texts.update(dict.fromkeys(of_rows(file.read().split(b"\n"))))
     return [text for text in texts if 0 < len(text) <= SEED_LIMIT]

@@ -1,26 +1,26 @@
 -- What stands before a token, in a text that has the same tokens before it.
 use Rattle.std.proofs.Common.{◌≡◌, ◌<◌, ℕ, List, [], ◌∷◌, ◌++◌, length, refl, ◌∙◌, ap, subst, inl, inr, arith}
-use Rattle.il_spec.specs.declared.token.Token.{Token}
-use Rattle.il_spec.specs.declared.keyword.Keyword.TheVariants as word
-use Rattle.il_spec.specs.declared.tree.Step.{Step}
-use Rattle.il_spec.specs.declared.tree.Unit.{Unit as ProgramUnit}
-use Rattle.il_spec.specs.declared.tree.Config.{Config}
-use Rattle.il_spec.specs.Text.{AreTokens}
-use Rattle.il_spec.specs.Grammar.{Front, tight, skip_line_ends, ◌⋯◌, Nothing, AfterLines, Repeats, TheLineEnd, TheWord, SpellsInstruction, SpellsStep, SpellsUnit, SpellsConfig, unit_word, end_word}
-use Rattle.il_grammar_laws.specs.Alike.{IsEndOf}
-use Rattle.il_grammar_laws.specs.GoesOn.{IsCut, always}
-use Rattle.il_grammar_laws.proofs.Alike.{end_self, end_length, end_of_end, loose_gap, gap_length}
-use Rattle.il_grammar_laws.proofs.Bodies.{skip_one, step_no_end}
-use Rattle.il_grammar_laws.proofs.Local.{line_end_local, step_local, unit_local, loosely_local}
-use Rattle.il_grammar_laws.proofs.Open.{loose_open, line_end_fills}
-use Rattle.il_grammar_laws.proofs.GoesOn.{IsFilling}
-use Rattle.il_read.specs.Lead.{lead_at}
-use Rattle.il_parse.specs.Refused.{IsItsPlace}
-use Rattle.il_parse.proofs.Begun.{lead_cut}
-use Rattle.il_parse.proofs.Behind.{labelled_among}
-use Rattle.il_parse.proofs.Entries.{step_filling}
-use Rattle.il_parse.proofs.Rests.{unit_filling}
-use Rattle.il_read.proofs.Leaves.{word_lead}
+use Rattle.il_syntax.specs.declared.token.Token.{Token}
+use Rattle.il_syntax.specs.declared.keyword.Keyword.TheVariants as word
+use Rattle.il_syntax.specs.declared.tree.Step.{Step}
+use Rattle.il_syntax.specs.declared.tree.Unit.{Unit as ProgramUnit}
+use Rattle.il_syntax.specs.declared.tree.Config.{Config}
+use Rattle.il_syntax.specs.Text.{AreTokens}
+use Rattle.il_syntax.specs.Grammar.{Front, tight, skip_line_ends, ◌⋯◌, Nothing, AfterLines, Repeats, TheLineEnd, TheWord, SpellsInstruction, SpellsStep, SpellsUnit, SpellsConfig, unit_word, end_word}
+use Rattle.il_syntax_laws.specs.Alike.{IsEndOf}
+use Rattle.il_syntax_laws.specs.GoesOn.{IsCut, always}
+use Rattle.il_syntax_laws.proofs.Alike.{end_self, end_length, end_of_end, loose_gap, gap_length}
+use Rattle.il_syntax_laws.proofs.Bodies.{skip_one, step_no_end}
+use Rattle.il_syntax_laws.proofs.Local.{line_end_local, step_local, unit_local, loosely_local}
+use Rattle.il_syntax_laws.proofs.Open.{loose_open, line_end_fills}
+use Rattle.il_syntax_laws.proofs.GoesOn.{IsFilling}
+use Rattle.load_lines.specs.Lead.{lead_at}
+use Rattle.load_tree.specs.Refused.{IsItsPlace}
+use Rattle.load_tree.proofs.Begun.{lead_cut}
+use Rattle.load_tree.proofs.Behind.{labelled_among}
+use Rattle.load_tree.proofs.Entries.{step_filling}
+use Rattle.load_tree.proofs.Rests.{unit_filling}
+use Rattle.load_lines.proofs.Leaves.{word_lead}
 use Rattle.il_fault_laws.proofs.Runs.{split_run, same_run}
 use Rattle.il_fault_laws.proofs.Headings.{Heading, heading_of, end_none, split_unit, heading_sure}
 use Rattle.il_fault_laws.proofs.Surplus.{TheEndOf, at_token, among_token, no_configuration, begins_unit, unit_apart}

@@ -3,29 +3,29 @@ use Rattle.std.specs.Prelude.{◌⊎◌, ⊤}
 use Rattle.std.specs.List.{All, slice_get}
 use Rattle.std.proofs.Common.{◌≡◌, ◌<◌, ◌≤◌, ℕ, List, [], ◌∷◌, ◌++◌, length, refl, sym, ◌∙◌, ap, subst, inl, inr, arith, Some}
 use Rattle.std.proofs.lemmas.List.Elements.{All-head, All-tail}
-use Rattle.il_spec.specs.declared.token.Token.{Token}
-use Rattle.il_spec.specs.declared.token.Kind.TheVariants as kind
-use Rattle.il_spec.specs.declared.token.Sign.TheVariants.{Colon}
-use Rattle.il_spec.specs.declared.tree.Place.{Place}
-use Rattle.il_spec.specs.declared.tree.Instruction.{Instruction}
-use Rattle.il_spec.specs.declared.tree.Instruction.TheVariants as instruction
-use Rattle.il_spec.specs.declared.tree.Step.{Step}
-use Rattle.il_spec.specs.declared.tree.Unit.{Unit as ProgramUnit}
-use Rattle.il_spec.specs.declared.tree.Config.{Config}
-use Rattle.il_spec.specs.Text.{AreTokens, name_of}
-use Rattle.il_spec.specs.Words.{keyword_of}
-use Rattle.il_spec.specs.Grammar.{AfterLines, TheWord, SpellsInstruction, SpellsLabel, SpellsConfig, skip_line_ends, greatest_depth, unit_word}
-use Rattle.il_grammar_laws.specs.Alike.{HasSameBytes, IsEndOf, AreAlike}
-use Rattle.il_grammar_laws.specs.GoesOn.{IsCut}
-use Rattle.il_grammar_laws.proofs.Alike.{end_same, end_self, end_of_end, alike_self, loose_gap}
-use Rattle.il_grammar_laws.proofs.Leads.{lead, lead_of, at_holds}
-use Rattle.il_grammar_laws.proofs.Instructions.{none, invokes, sort_at, sort_of, instruction_sort}
-use Rattle.il_grammar_laws.proofs.Bodies.{label_lead}
-use Rattle.il_grammar_laws.proofs.Local.{same_name}
-use Rattle.il_read.specs.declared.stop.SyntaxError.{SyntaxError}
-use Rattle.il_read.specs.declared.stop.SyntaxError.TheVariants.{Unexpected, TooDeep, TooMany}
-use Rattle.il_parse.specs.Refused.{IsItsPlace, IsLateSurplus, GoesBeyond, IsBegun}
-use Rattle.il_parse.proofs.Begun.{behind_all}
+use Rattle.il_syntax.specs.declared.token.Token.{Token}
+use Rattle.il_syntax.specs.declared.token.Kind.TheVariants as kind
+use Rattle.il_syntax.specs.declared.token.Sign.TheVariants.{Colon}
+use Rattle.il_syntax.specs.declared.tree.Place.{Place}
+use Rattle.il_syntax.specs.declared.tree.Instruction.{Instruction}
+use Rattle.il_syntax.specs.declared.tree.Instruction.TheVariants as instruction
+use Rattle.il_syntax.specs.declared.tree.Step.{Step}
+use Rattle.il_syntax.specs.declared.tree.Unit.{Unit as ProgramUnit}
+use Rattle.il_syntax.specs.declared.tree.Config.{Config}
+use Rattle.il_syntax.specs.Text.{AreTokens, name_of}
+use Rattle.il_syntax.specs.Words.{keyword_of}
+use Rattle.il_syntax.specs.Grammar.{AfterLines, TheWord, SpellsInstruction, SpellsLabel, SpellsConfig, skip_line_ends, greatest_depth, unit_word}
+use Rattle.il_syntax_laws.specs.Alike.{HasSameBytes, IsEndOf, AreAlike}
+use Rattle.il_syntax_laws.specs.GoesOn.{IsCut}
+use Rattle.il_syntax_laws.proofs.Alike.{end_same, end_self, end_of_end, alike_self, loose_gap}
+use Rattle.il_syntax_laws.proofs.Leads.{lead, lead_of, at_holds}
+use Rattle.il_syntax_laws.proofs.Instructions.{none, invokes, sort_at, sort_of, instruction_sort}
+use Rattle.il_syntax_laws.proofs.Bodies.{label_lead}
+use Rattle.il_syntax_laws.proofs.Local.{same_name}
+use Rattle.load_lines.specs.declared.stop.SyntaxError.{SyntaxError}
+use Rattle.load_lines.specs.declared.stop.SyntaxError.TheVariants.{Unexpected, TooDeep, TooMany}
+use Rattle.load_tree.specs.Refused.{IsItsPlace, IsLateSurplus, GoesBeyond, IsBegun}
+use Rattle.load_tree.proofs.Begun.{behind_all}
 use Rattle.il_fault_laws.proofs.Parts.{Parts, starts_rise, one_start}
 use Rattle.il_fault_laws.proofs.Order.{cut_alike}
 use Rattle.il_fault_laws.proofs.Surplus.{IsStep, IsLabel, at_token}

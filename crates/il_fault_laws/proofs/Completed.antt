@@ -1,37 +1,37 @@
 -- Texts that are completed behind some instructions of a unit: the units before it, its heading and these instructions stay, and as little as may be follows.
 use Rattle.std.specs.Prelude.{IsTrue}
 use Rattle.std.proofs.Common.{◌≡◌, ◌<◌, ◌≤◌, ℕ, Bool, true, false, ◌&&◌, List, [], ◌∷◌, ◌++◌, length, append-nil, refl, sym, ap, subst, inl, inr, arith}
-use Rattle.il_spec.specs.declared.token.Token.{Token}
-use Rattle.il_spec.specs.declared.keyword.Keyword.TheVariants as word
-use Rattle.il_spec.specs.declared.tree.Place.{Place}
-use Rattle.il_spec.specs.declared.tree.Named.{Named}
-use Rattle.il_spec.specs.declared.tree.Step.{Step}
-use Rattle.il_spec.specs.declared.tree.Body.{Body}
-use Rattle.il_spec.specs.declared.tree.UnitKind.{UnitKind}
-use Rattle.il_spec.specs.declared.tree.UnitKind.TheVariants as unit
-use Rattle.il_spec.specs.declared.tree.Elementary.TheVariants as elementary
-use Rattle.il_spec.specs.declared.token.Sign.TheVariants.{Colon}
-use Rattle.il_spec.specs.declared.tree.Unit.{Unit as ProgramUnit}
-use Rattle.il_spec.specs.declared.tree.Config.{Config}
-use Rattle.il_spec.specs.Text.{AreTokens}
-use Rattle.il_spec.specs.Grammar.{Front, Gap, tight, loose, ◌⨾◌, skip_line_ends, Nothing, Repeats, At, TheLineEnd, TheWord, TheName, SpellsResult, SpellsStep, SpellsUnit, HasItsLists, unit_word, end_word, is_nested, depth_after, needs_load, greatest_depth}
-use Rattle.il_grammar_laws.specs.Alike.{IsEndOf}
-use Rattle.il_grammar_laws.specs.GoesOn.{Sample, Test, AreOf, IsCut, always, ended, IsSampled, BeginsBy}
-use Rattle.il_grammar_laws.proofs.Alike.{end_same, end_self, end_length, end_of_end, loose_gap, gap_length}
-use Rattle.il_grammar_laws.proofs.Bodies.{skip_one}
-use Rattle.il_grammar_laws.proofs.Open.{Opens, Takes, loose_open, asks, in_turn, both_lines, loosely, fill_placed, word_fills, the_name_fills, line_end_fills, declaration_fills, filled_opens, optional_opens, unit_externals_opens, result_opens}
-use Rattle.il_grammar_laws.proofs.Samples.{word_sample, name_sample, sign_sample, declaration_samples, body_samples, word_sampled, the_name_sampled}
-use Rattle.il_grammar_laws.proofs.GoesOn.{cut_here, is_solid, samples_apart, stays_loose, IsFilling}
-use Rattle.il_read.proofs.Breaks.{s_loose, s_tight}
-use Rattle.il_read.proofs.Chain.{regroup}
-use Rattle.il_read.proofs.Nesting.{IsOpen, one_open}
-use Rattle.il_parse.specs.Refused.{IsBegun}
-use Rattle.il_parse.specs.GoesOn.{SpellsAll, Within}
-use Rattle.il_parse.specs.Parts.{SpellsGroup}
-use Rattle.il_parse.proofs.Entries.{step_filling, both_left}
-use Rattle.il_parse.proofs.Parts.{Group, config, whole_config}
-use Rattle.il_parse.proofs.Rests.{unit_filling, group_sampled, program_is, block_is, function_is, text_goes_on}
-use Rattle.il_parse.proofs.Shallow.{program_within, block_within, result_within}
+use Rattle.il_syntax.specs.declared.token.Token.{Token}
+use Rattle.il_syntax.specs.declared.keyword.Keyword.TheVariants as word
+use Rattle.il_syntax.specs.declared.tree.Place.{Place}
+use Rattle.il_syntax.specs.declared.tree.Named.{Named}
+use Rattle.il_syntax.specs.declared.tree.Step.{Step}
+use Rattle.il_syntax.specs.declared.tree.Body.{Body}
+use Rattle.il_syntax.specs.declared.tree.UnitKind.{UnitKind}
+use Rattle.il_syntax.specs.declared.tree.UnitKind.TheVariants as unit
+use Rattle.il_syntax.specs.declared.tree.Elementary.TheVariants as elementary
+use Rattle.il_syntax.specs.declared.token.Sign.TheVariants.{Colon}
+use Rattle.il_syntax.specs.declared.tree.Unit.{Unit as ProgramUnit}
+use Rattle.il_syntax.specs.declared.tree.Config.{Config}
+use Rattle.il_syntax.specs.Text.{AreTokens}
+use Rattle.il_syntax.specs.Grammar.{Front, Gap, tight, loose, ◌⨾◌, skip_line_ends, Nothing, Repeats, At, TheLineEnd, TheWord, TheName, SpellsResult, SpellsStep, SpellsUnit, HasItsLists, unit_word, end_word, is_nested, depth_after, needs_load, greatest_depth}
+use Rattle.il_syntax_laws.specs.Alike.{IsEndOf}
+use Rattle.il_syntax_laws.specs.GoesOn.{Sample, Test, AreOf, IsCut, always, ended, IsSampled, BeginsBy}
+use Rattle.il_syntax_laws.proofs.Alike.{end_same, end_self, end_length, end_of_end, loose_gap, gap_length}
+use Rattle.il_syntax_laws.proofs.Bodies.{skip_one}
+use Rattle.il_syntax_laws.proofs.Open.{Opens, Takes, loose_open, asks, in_turn, both_lines, loosely, fill_placed, word_fills, the_name_fills, line_end_fills, declaration_fills, filled_opens, optional_opens, unit_externals_opens, result_opens}
+use Rattle.il_syntax_laws.proofs.Samples.{word_sample, name_sample, sign_sample, declaration_samples, body_samples, word_sampled, the_name_sampled}
+use Rattle.il_syntax_laws.proofs.GoesOn.{cut_here, is_solid, samples_apart, stays_loose, IsFilling}
+use Rattle.load_lines.proofs.Breaks.{s_loose, s_tight}
+use Rattle.load_lines.proofs.Chain.{regroup}
+use Rattle.load_lines.proofs.Nesting.{IsOpen, one_open}
+use Rattle.load_tree.specs.Refused.{IsBegun}
+use Rattle.load_tree.specs.GoesOn.{SpellsAll, Within}
+use Rattle.load_tree.specs.Parts.{SpellsGroup}
+use Rattle.load_tree.proofs.Entries.{step_filling, both_left}
+use Rattle.load_tree.proofs.Parts.{Group, config, whole_config}
+use Rattle.load_tree.proofs.Rests.{unit_filling, group_sampled, program_is, block_is, function_is, text_goes_on}
+use Rattle.load_tree.proofs.Shallow.{program_within, block_within, result_within}
 use Rattle.il_fault_laws.proofs.Runs.{join_run}
 use Rattle.il_fault_laws.proofs.Headings.{Lists, TheLists, Heading, heading_of, join_unit}
 use Rattle.il_fault_laws.proofs.Surplus.{TheEndOf}

@@ -1,34 +1,34 @@
 -- How a body is completed: behind a label, behind an instruction, and behind an operator.
 use Rattle.std.specs.Prelude.{IsTrue, ◌==◌, ◌||◌, not, max}
 use Rattle.std.proofs.Common.{◌≡◌, ◌≤◌, ℕ, zero, suc, Bool, true, false, ◌&&◌, List, [], ◌∷◌, ◌++◌, length, append-nil, refl, sym, ◌∙◌, ap, subst, inr, arith, Option}
-use Rattle.il_spec.specs.declared.token.Token.{Token}
-use Rattle.il_spec.specs.declared.token.Sign.TheVariants.{OpenParenthesis}
-use Rattle.il_spec.specs.declared.keyword.Keyword.{Keyword}
-use Rattle.il_spec.specs.declared.tree.Place.{Place}
-use Rattle.il_spec.specs.declared.tree.Named.{Named}
-use Rattle.il_spec.specs.declared.tree.Operand.{Operand}
-use Rattle.il_spec.specs.declared.tree.Operator.{Operator}
-use Rattle.il_spec.specs.declared.tree.Instruction.{Instruction}
-use Rattle.il_spec.specs.declared.tree.Instruction.TheVariants as instruction
-use Rattle.il_spec.specs.declared.tree.Step.{Step}
-use Rattle.il_spec.specs.declared.tree.UnitKind.{UnitKind}
-use Rattle.il_spec.specs.declared.tree.Unit.{Unit as ProgramUnit}
-use Rattle.il_spec.specs.declared.tree.Config.{Config}
-use Rattle.il_spec.specs.Text.{AreTokens}
-use Rattle.il_spec.specs.Grammar.{Front, tight, ◌⨾◌, skip_line_ends, Nothing, At, Repeats, TheSign, TheLineEnd, SpellsOperand, SpellsOperator, SpellsFirst, SpellsInstruction, SpellsLabel, SpellsLabelled, SpellsStep, SpellsLabelLine, end_word, is_nested, may_stand, depth_after, needs_load, greatest_depth}
-use Rattle.il_grammar_laws.specs.Alike.{IsEndOf}
-use Rattle.il_grammar_laws.specs.GoesOn.{always}
-use Rattle.il_grammar_laws.proofs.Alike.{end_self, end_length, end_of_end, loose_gap}
-use Rattle.il_grammar_laws.proofs.Leads.{at_holds}
-use Rattle.il_grammar_laws.proofs.Instructions.{instruction_no_label}
-use Rattle.il_grammar_laws.proofs.Open.{line_end_fills, label_fills, label_line_fills, labelled_fills, fill_placed, operator_fills, step_fills}
-use Rattle.il_grammar_laws.proofs.Samples.{word_sample, true_sample, line_end_sample, closing_samples, rest_samples, rest_sampled, line_end_sampled, placed_word_sampled, operand_line_sampled}
-use Rattle.il_grammar_laws.proofs.GoesOn.{cut_here, is_solid, samples_apart, stays_loose, passes_calm, IsFilling}
-use Rattle.il_read.proofs.Chain.{regroup}
-use Rattle.il_read.proofs.Nesting.{IsOpen, none_open, one_open, closed}
-use Rattle.il_parse.specs.Refused.{IsBegun}
-use Rattle.il_parse.proofs.Entries.{step_filling, not_zero, both_left}
-use Rattle.il_parse.proofs.Rests.{unit_filling}
+use Rattle.il_syntax.specs.declared.token.Token.{Token}
+use Rattle.il_syntax.specs.declared.token.Sign.TheVariants.{OpenParenthesis}
+use Rattle.il_syntax.specs.declared.keyword.Keyword.{Keyword}
+use Rattle.il_syntax.specs.declared.tree.Place.{Place}
+use Rattle.il_syntax.specs.declared.tree.Named.{Named}
+use Rattle.il_syntax.specs.declared.tree.Operand.{Operand}
+use Rattle.il_syntax.specs.declared.tree.Operator.{Operator}
+use Rattle.il_syntax.specs.declared.tree.Instruction.{Instruction}
+use Rattle.il_syntax.specs.declared.tree.Instruction.TheVariants as instruction
+use Rattle.il_syntax.specs.declared.tree.Step.{Step}
+use Rattle.il_syntax.specs.declared.tree.UnitKind.{UnitKind}
+use Rattle.il_syntax.specs.declared.tree.Unit.{Unit as ProgramUnit}
+use Rattle.il_syntax.specs.declared.tree.Config.{Config}
+use Rattle.il_syntax.specs.Text.{AreTokens}
+use Rattle.il_syntax.specs.Grammar.{Front, tight, ◌⨾◌, skip_line_ends, Nothing, At, Repeats, TheSign, TheLineEnd, SpellsOperand, SpellsOperator, SpellsFirst, SpellsInstruction, SpellsLabel, SpellsLabelled, SpellsStep, SpellsLabelLine, end_word, is_nested, may_stand, depth_after, needs_load, greatest_depth}
+use Rattle.il_syntax_laws.specs.Alike.{IsEndOf}
+use Rattle.il_syntax_laws.specs.GoesOn.{always}
+use Rattle.il_syntax_laws.proofs.Alike.{end_self, end_length, end_of_end, loose_gap}
+use Rattle.il_syntax_laws.proofs.Leads.{at_holds}
+use Rattle.il_syntax_laws.proofs.Instructions.{instruction_no_label}
+use Rattle.il_syntax_laws.proofs.Open.{line_end_fills, label_fills, label_line_fills, labelled_fills, fill_placed, operator_fills, step_fills}
+use Rattle.il_syntax_laws.proofs.Samples.{word_sample, true_sample, line_end_sample, closing_samples, rest_samples, rest_sampled, line_end_sampled, placed_word_sampled, operand_line_sampled}
+use Rattle.il_syntax_laws.proofs.GoesOn.{cut_here, is_solid, samples_apart, stays_loose, passes_calm, IsFilling}
+use Rattle.load_lines.proofs.Chain.{regroup}
+use Rattle.load_lines.proofs.Nesting.{IsOpen, none_open, one_open, closed}
+use Rattle.load_tree.specs.Refused.{IsBegun}
+use Rattle.load_tree.proofs.Entries.{step_filling, not_zero, both_left}
+use Rattle.load_tree.proofs.Rests.{unit_filling}
 use Rattle.il_fault_laws.proofs.Runs.{join_run}
 use Rattle.il_fault_laws.proofs.Headings.{heading_of, split_unit}
 use Rattle.il_fault_laws.proofs.Surplus.{IsLabel, TheEndOf}

@@ -1,18 +1,18 @@
 -- The first surplus of a text, in each that is alike up to its token.
 use Rattle.std.specs.List.{All, slice_get}
 use Rattle.std.proofs.Common.{◌≡◌, ◌<◌, ◌≤◌, ℕ, List, [], ◌∷◌, ◌++◌, length, ap, subst, arith, Some}
-use Rattle.il_spec.specs.declared.token.Token.{Token}
-use Rattle.il_spec.specs.declared.keyword.Keyword.TheVariants as word
-use Rattle.il_spec.specs.declared.tree.Step.{Step}
-use Rattle.il_spec.specs.declared.tree.Unit.{Unit as ProgramUnit}
-use Rattle.il_spec.specs.declared.tree.Config.{Config}
-use Rattle.il_spec.specs.Text.{AreTokens}
-use Rattle.il_spec.specs.Grammar.{Front, skip_line_ends, ◌⨾◌, ◌⋯◌, Nothing, Repeats, TheEnd, AfterLines, TheWord, SomeName, SpellsSizes, SpellsGlobals, SpellsResource, SpellsUnit, SpellsConfig, unit_word}
-use Rattle.il_grammar_laws.specs.Alike.{IsEndOf, AreAlike}
-use Rattle.il_grammar_laws.proofs.Alike.{end_self, end_length, end_of_end, loose_gap, gap_length}
-use Rattle.il_grammar_laws.proofs.Local.{unit_local}
-use Rattle.il_parse.specs.Refused.{IsItsPlace}
-use Rattle.il_parse.proofs.LateUnits.{unit_spreads}
+use Rattle.il_syntax.specs.declared.token.Token.{Token}
+use Rattle.il_syntax.specs.declared.keyword.Keyword.TheVariants as word
+use Rattle.il_syntax.specs.declared.tree.Step.{Step}
+use Rattle.il_syntax.specs.declared.tree.Unit.{Unit as ProgramUnit}
+use Rattle.il_syntax.specs.declared.tree.Config.{Config}
+use Rattle.il_syntax.specs.Text.{AreTokens}
+use Rattle.il_syntax.specs.Grammar.{Front, skip_line_ends, ◌⨾◌, ◌⋯◌, Nothing, Repeats, TheEnd, AfterLines, TheWord, SomeName, SpellsSizes, SpellsGlobals, SpellsResource, SpellsUnit, SpellsConfig, unit_word}
+use Rattle.il_syntax_laws.specs.Alike.{IsEndOf, AreAlike}
+use Rattle.il_syntax_laws.proofs.Alike.{end_self, end_length, end_of_end, loose_gap, gap_length}
+use Rattle.il_syntax_laws.proofs.Local.{unit_local}
+use Rattle.load_tree.specs.Refused.{IsItsPlace}
+use Rattle.load_tree.proofs.LateUnits.{unit_spreads}
 use Rattle.il_fault_laws.proofs.Runs.{split_run, run_end}
 use Rattle.il_fault_laws.proofs.Surplus.{HasIt, HasUnits, among_token, at_token, unit_same, units_same}
 

@@ -1,25 +1,25 @@
 -- Units, as a heading with its lists and a body.
 use Rattle.std.proofs.Common.{◌≡◌, ℕ, List, refl}
-use Rattle.il_spec.specs.declared.token.Token.{Token}
-use Rattle.il_spec.specs.declared.keyword.Keyword.TheVariants as word
-use Rattle.il_spec.specs.declared.tree.Place.{Place}
-use Rattle.il_spec.specs.declared.tree.Named.{Named}
-use Rattle.il_spec.specs.declared.tree.Scalar.{Scalar}
-use Rattle.il_spec.specs.declared.tree.Declaration.{Declaration}
-use Rattle.il_spec.specs.declared.tree.Body.{Body}
-use Rattle.il_spec.specs.declared.tree.UnitKind.{UnitKind}
-use Rattle.il_spec.specs.declared.tree.UnitKind.TheVariants as unit
-use Rattle.il_spec.specs.declared.tree.Unit.{Unit as ProgramUnit}
-use Rattle.il_spec.specs.Grammar.{Front, tight, loose, ◌⨾◌, ◌⋯◌, At, TheWord, TheName, SpellsDeclaration, SpellsFilledList, SpellsOptionalList, SpellsExternals, SpellsResult, SpellsBody, SpellsUnit, unit_word, end_word, HasItsLists}
-use Rattle.il_grammar_laws.specs.One.{IsDeterministic}
-use Rattle.il_grammar_laws.specs.Alike.{Carries}
-use Rattle.il_grammar_laws.proofs.Combinators.{chain, behind, place_of}
-use Rattle.il_grammar_laws.proofs.Leads.{reserved, lead, word_lead, at_holds, word_sure, the_name_one}
-use Rattle.il_grammar_laws.proofs.Types.{declarations_one, filled_list_one, optional_list_one}
-use Rattle.il_grammar_laws.proofs.Units.{nothing_sure, unit_externals_one, result_one}
-use Rattle.il_grammar_laws.proofs.Alike.{loose_gap, loosely, follows, follows_directly, placed}
-use Rattle.il_grammar_laws.proofs.Local.{word_carries, the_name_carries, filled_carries, optional_carries, declaration_carries, unit_externals_carry, result_carries}
-use Rattle.il_grammar_laws.proofs.Instructions.{none, sort_at}
+use Rattle.il_syntax.specs.declared.token.Token.{Token}
+use Rattle.il_syntax.specs.declared.keyword.Keyword.TheVariants as word
+use Rattle.il_syntax.specs.declared.tree.Place.{Place}
+use Rattle.il_syntax.specs.declared.tree.Named.{Named}
+use Rattle.il_syntax.specs.declared.tree.Scalar.{Scalar}
+use Rattle.il_syntax.specs.declared.tree.Declaration.{Declaration}
+use Rattle.il_syntax.specs.declared.tree.Body.{Body}
+use Rattle.il_syntax.specs.declared.tree.UnitKind.{UnitKind}
+use Rattle.il_syntax.specs.declared.tree.UnitKind.TheVariants as unit
+use Rattle.il_syntax.specs.declared.tree.Unit.{Unit as ProgramUnit}
+use Rattle.il_syntax.specs.Grammar.{Front, tight, loose, ◌⨾◌, ◌⋯◌, At, TheWord, TheName, SpellsDeclaration, SpellsFilledList, SpellsOptionalList, SpellsExternals, SpellsResult, SpellsBody, SpellsUnit, unit_word, end_word, HasItsLists}
+use Rattle.il_syntax_laws.specs.One.{IsDeterministic}
+use Rattle.il_syntax_laws.specs.Alike.{Carries}
+use Rattle.il_syntax_laws.proofs.Combinators.{chain, behind, place_of}
+use Rattle.il_syntax_laws.proofs.Leads.{reserved, lead, word_lead, at_holds, word_sure, the_name_one}
+use Rattle.il_syntax_laws.proofs.Types.{declarations_one, filled_list_one, optional_list_one}
+use Rattle.il_syntax_laws.proofs.Units.{nothing_sure, unit_externals_one, result_one}
+use Rattle.il_syntax_laws.proofs.Alike.{loose_gap, loosely, follows, follows_directly, placed}
+use Rattle.il_syntax_laws.proofs.Local.{word_carries, the_name_carries, filled_carries, optional_carries, declaration_carries, unit_externals_carry, result_carries}
+use Rattle.il_syntax_laws.proofs.Instructions.{none, sort_at}
 
 -- the lists of a unit
 abbrev pub Lists : Type 0

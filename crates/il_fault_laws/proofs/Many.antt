@@ -3,34 +3,34 @@ use Rattle.std.specs.Prelude.{◌⊎◌}
 use Rattle.std.specs.List.{All, slice_get}
 use Rattle.std.proofs.Common.{◌≡◌, ◌<◌, ◌≤◌, ℕ, List, [], ◌∷◌, ◌++◌, length, length-append, sym, ◌∙◌, ap, subst, inl, inr, arith, Some}
 use Rattle.std.proofs.lemmas.List.Elements.{All-nil, All-cons, All-append, All-head, All-tail}
-use Rattle.il_spec.specs.declared.token.Token.{Token}
-use Rattle.il_spec.specs.declared.token.Kind.TheVariants as kind
-use Rattle.il_spec.specs.declared.token.Sign.TheVariants.{Colon}
-use Rattle.il_spec.specs.declared.tree.Place.{Place}
-use Rattle.il_spec.specs.declared.tree.Named.{Named}
-use Rattle.il_spec.specs.declared.tree.Instruction.{Instruction}
-use Rattle.il_spec.specs.declared.tree.Instruction.TheVariants as instruction
-use Rattle.il_spec.specs.declared.tree.Step.{Step}
-use Rattle.il_spec.specs.declared.tree.Unit.{Unit as ProgramUnit}
-use Rattle.il_spec.specs.declared.tree.Config.{Config}
-use Rattle.il_spec.specs.Text.{AreTokens}
-use Rattle.il_spec.specs.Words.{keyword_of}
-use Rattle.il_spec.specs.Grammar.{AfterLines, TheSign, SpellsInstruction, SpellsLabel, SpellsConfig, depth_after, greatest_depth}
-use Rattle.il_rules.specs.Written.{IsNested}
-use Rattle.il_grammar_laws.specs.Alike.{HasSameBytes, IsEndOf, AreAlike}
-use Rattle.il_grammar_laws.specs.GoesOn.{IsCut}
-use Rattle.il_grammar_laws.proofs.Alike.{end_self, end_of_end}
-use Rattle.il_grammar_laws.proofs.Instructions.{invokes, sort_of}
-use Rattle.il_grammar_laws.proofs.Local.{same_name}
-use Rattle.il_grammar_laws.proofs.Open.{operands_fill}
-use Rattle.il_read.specs.Lead.{lead_at, lead_of}
-use Rattle.il_read.specs.declared.lead.Lead.TheVariants as lead_kind
-use Rattle.il_read.specs.declared.stop.SyntaxError.{SyntaxError}
-use Rattle.il_read.specs.declared.stop.SyntaxError.TheVariants.{TooMany}
-use Rattle.il_read.specs.Reads.{past_name, turn}
-use Rattle.il_read.proofs.Settings.{label_lead}
-use Rattle.il_parse.specs.Refused.{IsItsPlace, StandsAmong, IsLateSurplus, GoesBeyond, IsBegun, Keeps}
-use Rattle.il_parse.proofs.Begun.{behind_all}
+use Rattle.il_syntax.specs.declared.token.Token.{Token}
+use Rattle.il_syntax.specs.declared.token.Kind.TheVariants as kind
+use Rattle.il_syntax.specs.declared.token.Sign.TheVariants.{Colon}
+use Rattle.il_syntax.specs.declared.tree.Place.{Place}
+use Rattle.il_syntax.specs.declared.tree.Named.{Named}
+use Rattle.il_syntax.specs.declared.tree.Instruction.{Instruction}
+use Rattle.il_syntax.specs.declared.tree.Instruction.TheVariants as instruction
+use Rattle.il_syntax.specs.declared.tree.Step.{Step}
+use Rattle.il_syntax.specs.declared.tree.Unit.{Unit as ProgramUnit}
+use Rattle.il_syntax.specs.declared.tree.Config.{Config}
+use Rattle.il_syntax.specs.Text.{AreTokens}
+use Rattle.il_syntax.specs.Words.{keyword_of}
+use Rattle.il_syntax.specs.Grammar.{AfterLines, TheSign, SpellsInstruction, SpellsLabel, SpellsConfig, depth_after, greatest_depth}
+use Rattle.il_statics.specs.Written.{IsNested}
+use Rattle.il_syntax_laws.specs.Alike.{HasSameBytes, IsEndOf, AreAlike}
+use Rattle.il_syntax_laws.specs.GoesOn.{IsCut}
+use Rattle.il_syntax_laws.proofs.Alike.{end_self, end_of_end}
+use Rattle.il_syntax_laws.proofs.Instructions.{invokes, sort_of}
+use Rattle.il_syntax_laws.proofs.Local.{same_name}
+use Rattle.il_syntax_laws.proofs.Open.{operands_fill}
+use Rattle.load_lines.specs.Lead.{lead_at, lead_of}
+use Rattle.load_lines.specs.declared.lead.Lead.TheVariants as lead_kind
+use Rattle.load_lines.specs.declared.stop.SyntaxError.{SyntaxError}
+use Rattle.load_lines.specs.declared.stop.SyntaxError.TheVariants.{TooMany}
+use Rattle.load_lines.specs.Reads.{past_name, turn}
+use Rattle.load_lines.proofs.Settings.{label_lead}
+use Rattle.load_tree.specs.Refused.{IsItsPlace, StandsAmong, IsLateSurplus, GoesBeyond, IsBegun, Keeps}
+use Rattle.load_tree.proofs.Begun.{behind_all}
 use Rattle.il_fault_laws.proofs.Parts.{Parts, starts_rise}
 use Rattle.il_fault_laws.proofs.Order.{cut_alike, alike_between}
 use Rattle.il_fault_laws.proofs.Runs.{get_split}

@@ -3,30 +3,30 @@ use Rattle.std.specs.Prelude.{◌⊎◌}
 use Rattle.std.specs.List.{All}
 use Rattle.std.proofs.Common.{◌≡◌, ◌<◌, ◌≤◌, ℕ, zero, suc, List, [], ◌∷◌, ◌++◌, length, refl, sym, ◌∙◌, ap, subst, inl, inr, arith, Option}
 use Rattle.std.proofs.lemmas.List.Elements.{All-nil, All-cons, All-append, All-head}
-use Rattle.il_spec.specs.declared.fault.Refusal.{Refusal}
-use Rattle.il_spec.specs.declared.fault.Refusal.TheVariants.{Fault}
-use Rattle.il_spec.specs.declared.token.Token.{Token}
-use Rattle.il_spec.specs.declared.tree.Place.{Place}
-use Rattle.il_spec.specs.declared.tree.Operand.{Operand}
-use Rattle.il_spec.specs.declared.tree.Operator.{Operator}
-use Rattle.il_spec.specs.declared.tree.Instruction.{Instruction}
-use Rattle.il_spec.specs.declared.tree.Instruction.TheVariants as instruction
-use Rattle.il_spec.specs.declared.tree.Step.{Step}
-use Rattle.il_spec.specs.declared.tree.Unit.{Unit as ProgramUnit}
-use Rattle.il_spec.specs.declared.tree.Config.{Config}
-use Rattle.il_spec.specs.Text.{AreTokens}
-use Rattle.il_spec.specs.Grammar.{Front, At, TheWord, SpellsOperator, SpellsInstruction, SpellsLabelled, skip_line_ends, depth_after, greatest_depth, unit_word}
-use Rattle.il_rules.specs.Written.{IsNested}
-use Rattle.il_grammar_laws.specs.Alike.{IsEndOf}
-use Rattle.il_grammar_laws.specs.GoesOn.{IsCut}
-use Rattle.il_grammar_laws.proofs.Alike.{end_same, end_self, end_of_end, alike_self, loose_gap}
-use Rattle.il_grammar_laws.proofs.Leads.{at_holds}
-use Rattle.il_grammar_laws.proofs.Open.{instruction_fills, operator_fills}
-use Rattle.il_read.specs.declared.stop.SyntaxError.{SyntaxError}
-use Rattle.il_read.specs.declared.stop.SyntaxError.TheVariants.{Unexpected, TooDeep, TooMany}
-use Rattle.il_read.specs.Reads.{number_of}
-use Rattle.il_parse.specs.Refused.{GoesBeyond, IsBegun}
-use Rattle.il_parse.proofs.Cuts.{one_within, cut_back}
+use Rattle.il_syntax.specs.declared.fault.Refusal.{Refusal}
+use Rattle.il_syntax.specs.declared.fault.Refusal.TheVariants.{Fault}
+use Rattle.il_syntax.specs.declared.token.Token.{Token}
+use Rattle.il_syntax.specs.declared.tree.Place.{Place}
+use Rattle.il_syntax.specs.declared.tree.Operand.{Operand}
+use Rattle.il_syntax.specs.declared.tree.Operator.{Operator}
+use Rattle.il_syntax.specs.declared.tree.Instruction.{Instruction}
+use Rattle.il_syntax.specs.declared.tree.Instruction.TheVariants as instruction
+use Rattle.il_syntax.specs.declared.tree.Step.{Step}
+use Rattle.il_syntax.specs.declared.tree.Unit.{Unit as ProgramUnit}
+use Rattle.il_syntax.specs.declared.tree.Config.{Config}
+use Rattle.il_syntax.specs.Text.{AreTokens}
+use Rattle.il_syntax.specs.Grammar.{Front, At, TheWord, SpellsOperator, SpellsInstruction, SpellsLabelled, skip_line_ends, depth_after, greatest_depth, unit_word}
+use Rattle.il_statics.specs.Written.{IsNested}
+use Rattle.il_syntax_laws.specs.Alike.{IsEndOf}
+use Rattle.il_syntax_laws.specs.GoesOn.{IsCut}
+use Rattle.il_syntax_laws.proofs.Alike.{end_same, end_self, end_of_end, alike_self, loose_gap}
+use Rattle.il_syntax_laws.proofs.Leads.{at_holds}
+use Rattle.il_syntax_laws.proofs.Open.{instruction_fills, operator_fills}
+use Rattle.load_lines.specs.declared.stop.SyntaxError.{SyntaxError}
+use Rattle.load_lines.specs.declared.stop.SyntaxError.TheVariants.{Unexpected, TooDeep, TooMany}
+use Rattle.load_lines.specs.Reads.{number_of}
+use Rattle.load_tree.specs.Refused.{GoesBeyond, IsBegun}
+use Rattle.load_tree.proofs.Cuts.{one_within, cut_back}
 use Rattle.il_fault_laws.specs.Faults.{IsFaultOfGrammar}
 use Rattle.il_fault_laws.proofs.Parts.{Parts, fault_parts, same_place}
 use Rattle.il_fault_laws.proofs.Order.{behind_unexpected, behind_deep, not_deep_there, not_many_there}

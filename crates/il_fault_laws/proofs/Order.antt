@@ -1,14 +1,14 @@
 -- Of two faults none stands behind the other, where the first is an unexpected token or a parenthesis too deep.
 use Rattle.std.specs.Prelude.{◌⊎◌}
 use Rattle.std.proofs.Common.{◌≡◌, ℕ, List, [], ◌∷◌, length, sym, ◌∙◌, ap, subst, inl, inr, arith}
-use Rattle.il_spec.specs.declared.token.Token.{Token}
-use Rattle.il_spec.specs.declared.tree.Place.{Place}
-use Rattle.il_grammar_laws.specs.Alike.{IsEndOf, AreAlike}
-use Rattle.il_grammar_laws.specs.GoesOn.{IsCut}
-use Rattle.il_grammar_laws.proofs.Alike.{end_self, end_length, alike_end}
-use Rattle.il_grammar_laws.proofs.GoesOn.{cut_here}
-use Rattle.il_read.specs.declared.stop.SyntaxError.{SyntaxError}
-use Rattle.il_read.specs.declared.stop.SyntaxError.TheVariants.{Unexpected, TooDeep, TooMany}
+use Rattle.il_syntax.specs.declared.token.Token.{Token}
+use Rattle.il_syntax.specs.declared.tree.Place.{Place}
+use Rattle.il_syntax_laws.specs.Alike.{IsEndOf, AreAlike}
+use Rattle.il_syntax_laws.specs.GoesOn.{IsCut}
+use Rattle.il_syntax_laws.proofs.Alike.{end_self, end_length, alike_end}
+use Rattle.il_syntax_laws.proofs.GoesOn.{cut_here}
+use Rattle.load_lines.specs.declared.stop.SyntaxError.{SyntaxError}
+use Rattle.load_lines.specs.declared.stop.SyntaxError.TheVariants.{Unexpected, TooDeep, TooMany}
 use Rattle.il_fault_laws.proofs.Parts.{Parts}
 
 -- a text that is cut behind a token is alike up to it

@@ -1,28 +1,28 @@
 -- What a fault of the grammar says, of one error and of the tokens from its token on.
 use Rattle.std.specs.Prelude.{◌⊎◌}
 use Rattle.std.proofs.Common.{◌≡◌, ◌<◌, ◌≤◌, ℕ, List, [], ◌∷◌, length, drop, refl, sym, ◌∙◌, ap, subst, inl, inr, arith}
-use Rattle.il_spec.specs.declared.fault.Refusal.{Refusal}
-use Rattle.il_spec.specs.declared.fault.Refusal.TheVariants.{Fault}
-use Rattle.il_spec.specs.declared.token.Token.{Token}
-use Rattle.il_spec.specs.declared.tree.Place.{Place}
-use Rattle.il_spec.specs.declared.tree.Config.{Config}
-use Rattle.il_spec.specs.Text.{AreBlanks, AreTokens}
-use Rattle.il_spec.specs.Grammar.{AfterLines, SpellsConfig}
-use Rattle.il_text.proofs.Blanks.{blank_within}
-use Rattle.il_text.proofs.Lexemes.{lexeme_within}
-use Rattle.il_grammar_laws.specs.Alike.{IsEndOf, AreAlike}
-use Rattle.il_grammar_laws.specs.GoesOn.{IsCut}
-use Rattle.il_grammar_laws.proofs.Alike.{end_of_end, alike_self}
-use Rattle.il_read.specs.declared.stop.SyntaxError.{SyntaxError}
-use Rattle.il_read.specs.declared.stop.SyntaxError.TheVariants.{Unexpected, TooDeep, TooMany}
-use Rattle.il_read.specs.declared.lead.Lead.{Lead}
-use Rattle.il_read.specs.declared.lead.Lead.TheVariants as lead
-use Rattle.il_read.specs.Lead.{lead_at}
-use Rattle.il_read.specs.Reads.{number_of, past_name, turn}
-use Rattle.il_read.proofs.Instructions.{next_gap}
-use Rattle.il_parse.specs.Refused.{IsSmall, Keeps, IsPlaceAt, IsBegun, KeepsBefore, GoesOnWith, GoesOnNowhere, GoesOnBefore}
-use Rattle.il_parse.specs.Late.{WhereUnexpected, AreLateUnits, NoneTooMany}
-use Rattle.il_parse.proofs.Cuts.{one_within}
+use Rattle.il_syntax.specs.declared.fault.Refusal.{Refusal}
+use Rattle.il_syntax.specs.declared.fault.Refusal.TheVariants.{Fault}
+use Rattle.il_syntax.specs.declared.token.Token.{Token}
+use Rattle.il_syntax.specs.declared.tree.Place.{Place}
+use Rattle.il_syntax.specs.declared.tree.Config.{Config}
+use Rattle.il_syntax.specs.Text.{AreBlanks, AreTokens}
+use Rattle.il_syntax.specs.Grammar.{AfterLines, SpellsConfig}
+use Rattle.load_tokens.proofs.Blanks.{blank_within}
+use Rattle.load_tokens.proofs.Lexemes.{lexeme_within}
+use Rattle.il_syntax_laws.specs.Alike.{IsEndOf, AreAlike}
+use Rattle.il_syntax_laws.specs.GoesOn.{IsCut}
+use Rattle.il_syntax_laws.proofs.Alike.{end_of_end, alike_self}
+use Rattle.load_lines.specs.declared.stop.SyntaxError.{SyntaxError}
+use Rattle.load_lines.specs.declared.stop.SyntaxError.TheVariants.{Unexpected, TooDeep, TooMany}
+use Rattle.load_lines.specs.declared.lead.Lead.{Lead}
+use Rattle.load_lines.specs.declared.lead.Lead.TheVariants as lead
+use Rattle.load_lines.specs.Lead.{lead_at}
+use Rattle.load_lines.specs.Reads.{number_of, past_name, turn}
+use Rattle.load_lines.proofs.Instructions.{next_gap}
+use Rattle.load_tree.specs.Refused.{IsSmall, Keeps, IsPlaceAt, IsBegun, KeepsBefore, GoesOnWith, GoesOnNowhere, GoesOnBefore}
+use Rattle.load_tree.specs.Late.{WhereUnexpected, AreLateUnits, NoneTooMany}
+use Rattle.load_tree.proofs.Cuts.{one_within}
 use Rattle.il_fault_laws.specs.Faults.{IsFaultOfGrammar}
 
 -- THE PLACES OF TOKENS

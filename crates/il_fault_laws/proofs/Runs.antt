@@ -1,10 +1,10 @@
 -- Things one behind another, up to one of them, in texts that are alike.
 use Rattle.std.proofs.Common.{◌≡◌, ◌≤◌, ℕ, zero, suc, List, [], ◌∷◌, ◌++◌, length, refl, sym, ap, subst, arith, Some}
 use Rattle.std.specs.List.{slice_get}
-use Rattle.il_spec.specs.declared.token.Token.{Token}
-use Rattle.il_spec.specs.Grammar.{Front, loose, skip_line_ends, Nothing, Repeats}
-use Rattle.il_grammar_laws.specs.Alike.{IsEndOf, AreAlike, IsLocal}
-use Rattle.il_grammar_laws.proofs.Alike.{end_same, end_length, end_of_end, loose_gap}
+use Rattle.il_syntax.specs.declared.token.Token.{Token}
+use Rattle.il_syntax.specs.Grammar.{Front, loose, skip_line_ends, Nothing, Repeats}
+use Rattle.il_syntax_laws.specs.Alike.{IsEndOf, AreAlike, IsLocal}
+use Rattle.il_syntax_laws.proofs.Alike.{end_same, end_length, end_of_end, loose_gap}
 
 -- the one at some number, with those before it
 pub get_split : {A : Type 0} (xs : List A) (n : ℕ) (x : A) → slice_get xs n ≡ Some x → (front : List A) × (more : List A) × (xs ≡ front ++ x ∷ more) × (length front ≡ n)

@@ -2,31 +2,31 @@
 -- label there.
 use Rattle.std.specs.Prelude.{◌⊎◌}
 use Rattle.std.proofs.Common.{◌≡◌, ◌≤◌, ℕ, List, [], ◌∷◌, ◌++◌, length, refl, sym, ◌∙◌, ap, subst, inl, inr, arith}
-use Rattle.il_spec.specs.declared.token.Token.{Token}
-use Rattle.il_spec.specs.declared.keyword.Keyword.{Keyword}
-use Rattle.il_spec.specs.declared.keyword.Keyword.TheVariants as word
-use Rattle.il_spec.specs.declared.tree.Place.{Place}
-use Rattle.il_spec.specs.declared.tree.Named.{Named}
-use Rattle.il_spec.specs.declared.tree.Instruction.{Instruction}
-use Rattle.il_spec.specs.declared.tree.Step.{Step}
-use Rattle.il_spec.specs.declared.tree.UnitKind.{UnitKind}
-use Rattle.il_spec.specs.declared.tree.UnitKind.TheVariants as unit
-use Rattle.il_spec.specs.declared.tree.Unit.{Unit as ProgramUnit}
-use Rattle.il_spec.specs.Text.{AreTokens}
-use Rattle.il_spec.specs.Grammar.{Front, skip_line_ends, ◌⋯◌, Nothing, At, Repeats, TheLineEnd, TheWord, SpellsInstruction, SpellsLabel, SpellsLabelled, SpellsStep, SpellsLabelLine, SpellsUnit, end_word, unit_word}
-use Rattle.il_grammar_laws.specs.Alike.{IsEndOf, AreAlike}
-use Rattle.il_grammar_laws.proofs.Alike.{end_length, end_of_end, loose_gap, gap_length}
-use Rattle.il_grammar_laws.proofs.Leads.{reserved, word_lead, at_holds}
-use Rattle.il_grammar_laws.proofs.Instructions.{none, sort_at, instruction_no_label, instruction_no_word}
-use Rattle.il_grammar_laws.proofs.Bodies.{skip_one, label_one, label_lead, step_no_end}
-use Rattle.il_grammar_laws.proofs.Local.{word_same, label_local, line_end_local, step_local, unit_local, loosely_local}
-use Rattle.il_read.proofs.Leaves.{lead_alike, word_lead as word_begins}
-use Rattle.il_read.specs.Lead.{lead_at}
-use Rattle.il_read.specs.declared.lead.Lead.{Lead}
-use Rattle.il_read.specs.declared.lead.Lead.TheVariants as lead
-use Rattle.il_parse.specs.Refused.{IsItsPlace, StandsAmong}
-use Rattle.il_parse.proofs.OneUnit.{begins}
-use Rattle.il_parse.proofs.Behind.{labelled_among}
+use Rattle.il_syntax.specs.declared.token.Token.{Token}
+use Rattle.il_syntax.specs.declared.keyword.Keyword.{Keyword}
+use Rattle.il_syntax.specs.declared.keyword.Keyword.TheVariants as word
+use Rattle.il_syntax.specs.declared.tree.Place.{Place}
+use Rattle.il_syntax.specs.declared.tree.Named.{Named}
+use Rattle.il_syntax.specs.declared.tree.Instruction.{Instruction}
+use Rattle.il_syntax.specs.declared.tree.Step.{Step}
+use Rattle.il_syntax.specs.declared.tree.UnitKind.{UnitKind}
+use Rattle.il_syntax.specs.declared.tree.UnitKind.TheVariants as unit
+use Rattle.il_syntax.specs.declared.tree.Unit.{Unit as ProgramUnit}
+use Rattle.il_syntax.specs.Text.{AreTokens}
+use Rattle.il_syntax.specs.Grammar.{Front, skip_line_ends, ◌⋯◌, Nothing, At, Repeats, TheLineEnd, TheWord, SpellsInstruction, SpellsLabel, SpellsLabelled, SpellsStep, SpellsLabelLine, SpellsUnit, end_word, unit_word}
+use Rattle.il_syntax_laws.specs.Alike.{IsEndOf, AreAlike}
+use Rattle.il_syntax_laws.proofs.Alike.{end_length, end_of_end, loose_gap, gap_length}
+use Rattle.il_syntax_laws.proofs.Leads.{reserved, word_lead, at_holds}
+use Rattle.il_syntax_laws.proofs.Instructions.{none, sort_at, instruction_no_label, instruction_no_word}
+use Rattle.il_syntax_laws.proofs.Bodies.{skip_one, label_one, label_lead, step_no_end}
+use Rattle.il_syntax_laws.proofs.Local.{word_same, label_local, line_end_local, step_local, unit_local, loosely_local}
+use Rattle.load_lines.proofs.Leaves.{lead_alike, word_lead as word_begins}
+use Rattle.load_lines.specs.Lead.{lead_at}
+use Rattle.load_lines.specs.declared.lead.Lead.{Lead}
+use Rattle.load_lines.specs.declared.lead.Lead.TheVariants as lead
+use Rattle.load_tree.specs.Refused.{IsItsPlace, StandsAmong}
+use Rattle.load_tree.proofs.OneUnit.{begins}
+use Rattle.load_tree.proofs.Behind.{labelled_among}
 use Rattle.il_fault_laws.proofs.Parts.{one_start}
 use Rattle.il_fault_laws.proofs.Runs.{split_run, run_end, carry_run, same_run}
 use Rattle.il_fault_laws.proofs.Headings.{Heading, heading_of, end_none, split_unit, heading_sure, heading_carries}

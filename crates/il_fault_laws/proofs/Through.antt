@@ -1,12 +1,12 @@
 -- Cuts, one behind another.
 use Rattle.std.proofs.Common.{◌≡◌, ℕ, List, [], ◌∷◌, length, refl, sym, ◌∙◌, ap, subst, inl, inr, arith}
-use Rattle.il_spec.specs.declared.token.Token.{Token}
-use Rattle.il_grammar_laws.specs.Alike.{IsEndOf, AreAlike}
-use Rattle.il_grammar_laws.specs.GoesOn.{IsCut}
-use Rattle.il_grammar_laws.proofs.Alike.{end_same, end_self, end_length}
-use Rattle.il_grammar_laws.proofs.Open.{cut_end}
-use Rattle.il_grammar_laws.proofs.GoesOn.{cut_here}
-use Rattle.il_parse.proofs.Cuts.{cut_back}
+use Rattle.il_syntax.specs.declared.token.Token.{Token}
+use Rattle.il_syntax_laws.specs.Alike.{IsEndOf, AreAlike}
+use Rattle.il_syntax_laws.specs.GoesOn.{IsCut}
+use Rattle.il_syntax_laws.proofs.Alike.{end_same, end_self, end_length}
+use Rattle.il_syntax_laws.proofs.Open.{cut_end}
+use Rattle.il_syntax_laws.proofs.GoesOn.{cut_here}
+use Rattle.load_tree.proofs.Cuts.{cut_back}
 use Rattle.il_fault_laws.proofs.Order.{cut_alike}
 
 -- what is behind the cut is an end of the other text

@@ -1,11 +1,11 @@
 -- The fault of a text that has tokens and spells no configuration within the limits.
 use Rattle.std.specs.Prelude.{◌≡◌, ℕ, List}
-use Rattle.il_spec.specs.declared.fault.Refusal.{Refusal}
-use Rattle.il_spec.specs.declared.fault.Refusal.TheVariants.{Fault}
-use Rattle.il_spec.specs.declared.token.Token.{Token}
-use Rattle.il_spec.specs.declared.tree.Place.{Place}
-use Rattle.il_parse.specs.Refused.{GoesOnNowhere, GoesOnBefore}
-use Rattle.il_parse.specs.Late.{NoneTooMany}
+use Rattle.il_syntax.specs.declared.fault.Refusal.{Refusal}
+use Rattle.il_syntax.specs.declared.fault.Refusal.TheVariants.{Fault}
+use Rattle.il_syntax.specs.declared.token.Token.{Token}
+use Rattle.il_syntax.specs.declared.tree.Place.{Place}
+use Rattle.load_tree.specs.Refused.{GoesOnNowhere, GoesOnBefore}
+use Rattle.load_tree.specs.Late.{NoneTooMany}
 
 -- This is a fault of the grammar and its limits: with the token that it names no text goes on, with those before it some text does, and nothing is too
 -- many before an unexpected token (own rule).

@@ -2,12 +2,12 @@
 #![tactic(auto)]
 
 ghost use Rattle.std.specs.Prelude.{◌≡◌, ℕ, ◌≤◌, List, [], length};
-ghost use Rattle.il_spec.specs.declared.fault.Refusal.{Refusal};
-ghost use Rattle.il_spec.specs.declared.token.Token.{Token};
-ghost use Rattle.il_spec.specs.declared.tree.Config.{Config};
-ghost use Rattle.il_spec.specs.Text.{AreTokens};
-ghost use Rattle.il_spec.specs.Grammar.{AfterLines, SpellsConfig};
-ghost use Rattle.il_parse.specs.Refused.{IsSmall};
+ghost use Rattle.il_syntax.specs.declared.fault.Refusal.{Refusal};
+ghost use Rattle.il_syntax.specs.declared.token.Token.{Token};
+ghost use Rattle.il_syntax.specs.declared.tree.Config.{Config};
+ghost use Rattle.il_syntax.specs.Text.{AreTokens};
+ghost use Rattle.il_syntax.specs.Grammar.{AfterLines, SpellsConfig};
+ghost use Rattle.load_tree.specs.Refused.{IsSmall};
 ghost use Rattle.il_fault_laws.specs.Faults.{IsFaultOfGrammar};
 
 /// A law: a text that has tokens has at most one fault of the grammar, and none where it spells a configuration within the limits.

@@ -1,40 +1,40 @@
 -- What is so of a trap, of no outcome and of every way on is so of the outcome.
 use Rattle.std.proofs.Common.{◌≡◌, Bool, true, false, cond, List, [], ◌∷◌, refl, Some, None, Option, ℤ}
 use Rattle.std.specs.Prelude.{not}
-use Rattle.il_spec.specs.declared.tree.Elementary.{Elementary}
-use Rattle.il_spec.specs.declared.tree.Scalar.{Scalar}
-use Rattle.il_spec.specs.declared.tree.Literal.{Literal}
-use Rattle.il_spec.specs.declared.tree.Literal.TheVariants.{Truth, Bare, Whole, Time as Duration}
-use Rattle.il_spec.specs.declared.tree.Form.{Form}
-use Rattle.il_spec.specs.declared.tree.Form.TheVariants.{Scalar as ScalarForm, Array as ArrayForm, Block as BlockForm}
-use Rattle.il_spec.specs.declared.tree.Operand.{Operand}
-use Rattle.il_spec.specs.declared.tree.Reference.TheVariants.{Variable}
-use Rattle.il_spec.specs.declared.tree.Comparison.{Comparison as ComparisonKind}
-use Rattle.il_spec.specs.declared.tree.Comparison.TheVariants.{Greater, GreaterOrEqual, Equal, NotEqual, LessOrEqual, Less}
-use Rattle.il_spec.specs.declared.tree.Operator.{Operator}
-use Rattle.il_spec.specs.declared.tree.Operator.TheVariants.{Logic, Arithmetic, Comparison}
-use Rattle.il_spec.specs.declared.tree.Store.{Store as StoreKind}
-use Rattle.il_spec.specs.declared.tree.Store.TheVariants.{Plain, Negated, Set, Reset}
-use Rattle.il_spec.specs.declared.tree.Condition.{Condition}
-use Rattle.il_spec.specs.declared.tree.Condition.TheVariants.{Always, WhenTrue, WhenFalse}
-use Rattle.il_spec.specs.declared.tree.Argument.{Argument}
-use Rattle.il_spec.specs.declared.tree.Argument.TheVariants.{Input, Output}
-use Rattle.il_spec.specs.declared.tree.UnitKind.{UnitKind}
-use Rattle.il_spec.specs.declared.tree.UnitKind.TheVariants.{Function, FunctionBlock, Program}
-use Rattle.il_rules.specs.declared.names.StandardFunction.{StandardFunction}
-use Rattle.il_rules.specs.declared.names.StandardFunction.TheVariants.{Absolute, Minimum, Maximum, Limited, Selected, Converted}
-use Rattle.il_spec.specs.ElementaryTypes.{is_same_type, is_whole}
-use Rattle.il_rules.specs.Declarations.{is_within}
-use Rattle.il_run.specs.Values.{is_of}
-use Rattle.il_table.specs.NameMap.{Text, get, insert}
-use Rattle.il_run.specs.declared.value.Value.{Value}
-use Rattle.il_run.specs.declared.value.Value.TheVariants.{Boolean, Integer}
-use Rattle.il_run.specs.declared.value.Content.{Content}
-use Rattle.il_run.specs.State.{Values}
-use Rattle.il_run.specs.Meaning.{under, element_path, member_path, denotation, Denotation, Constant, Direct, Numbered, Indexed, Inside, Unknown}
-use Rattle.il_run.specs.Paths.{may_act}
-use Rattle.il_run.specs.Step.{Trap, Outcome, Trapped, Stuck, with_result, with_value, with_boolean, with_integer, with_scalar, provided, Location, with_location, with_literal, with_kept, with_operand, stored, truth, operated, with_compared, with_number, with_numbers, applied, Scene, loaded, stored_by, with_acting, assigned, copied, with_standard_arguments, with_arguments, passed, with_function_value, at, meant, argument_type, WrongKind, OutsideArray, OutsideSubrange}
-use Rattle.il_rules.specs.Names.{entry_of}
+use Rattle.il_syntax.specs.declared.tree.Elementary.{Elementary}
+use Rattle.il_syntax.specs.declared.tree.Scalar.{Scalar}
+use Rattle.il_syntax.specs.declared.tree.Literal.{Literal}
+use Rattle.il_syntax.specs.declared.tree.Literal.TheVariants.{Truth, Bare, Whole, Time as Duration}
+use Rattle.il_syntax.specs.declared.tree.Form.{Form}
+use Rattle.il_syntax.specs.declared.tree.Form.TheVariants.{Scalar as ScalarForm, Array as ArrayForm, Block as BlockForm}
+use Rattle.il_syntax.specs.declared.tree.Operand.{Operand}
+use Rattle.il_syntax.specs.declared.tree.Reference.TheVariants.{Variable}
+use Rattle.il_syntax.specs.declared.tree.Comparison.{Comparison as ComparisonKind}
+use Rattle.il_syntax.specs.declared.tree.Comparison.TheVariants.{Greater, GreaterOrEqual, Equal, NotEqual, LessOrEqual, Less}
+use Rattle.il_syntax.specs.declared.tree.Operator.{Operator}
+use Rattle.il_syntax.specs.declared.tree.Operator.TheVariants.{Logic, Arithmetic, Comparison}
+use Rattle.il_syntax.specs.declared.tree.Store.{Store as StoreKind}
+use Rattle.il_syntax.specs.declared.tree.Store.TheVariants.{Plain, Negated, Set, Reset}
+use Rattle.il_syntax.specs.declared.tree.Condition.{Condition}
+use Rattle.il_syntax.specs.declared.tree.Condition.TheVariants.{Always, WhenTrue, WhenFalse}
+use Rattle.il_syntax.specs.declared.tree.Argument.{Argument}
+use Rattle.il_syntax.specs.declared.tree.Argument.TheVariants.{Input, Output}
+use Rattle.il_syntax.specs.declared.tree.UnitKind.{UnitKind}
+use Rattle.il_syntax.specs.declared.tree.UnitKind.TheVariants.{Function, FunctionBlock, Program}
+use Rattle.il_statics.specs.declared.names.StandardFunction.{StandardFunction}
+use Rattle.il_statics.specs.declared.names.StandardFunction.TheVariants.{Absolute, Minimum, Maximum, Limited, Selected, Converted}
+use Rattle.il_syntax.specs.ElementaryTypes.{is_same_type, is_whole}
+use Rattle.il_statics.specs.Declarations.{is_within}
+use Rattle.il_semantics.specs.Values.{is_of}
+use Rattle.base_maps.specs.NameMap.{Text, get, insert}
+use Rattle.il_semantics.specs.declared.value.Value.{Value}
+use Rattle.il_semantics.specs.declared.value.Value.TheVariants.{Boolean, Integer}
+use Rattle.il_semantics.specs.declared.value.Content.{Content}
+use Rattle.il_semantics.specs.State.{Values}
+use Rattle.il_semantics.specs.Meaning.{under, element_path, member_path, denotation, Denotation, Constant, Direct, Numbered, Indexed, Inside, Unknown}
+use Rattle.il_semantics.specs.Paths.{may_act}
+use Rattle.il_semantics.specs.Step.{Trap, Outcome, Trapped, Stuck, with_result, with_value, with_boolean, with_integer, with_scalar, provided, Location, with_location, with_literal, with_kept, with_operand, stored, truth, operated, with_compared, with_number, with_numbers, applied, Scene, loaded, stored_by, with_acting, assigned, copied, with_standard_arguments, with_arguments, passed, with_function_value, at, meant, argument_type, WrongKind, OutsideArray, OutsideSubrange}
+use Rattle.il_statics.specs.Names.{entry_of}
 
 module _ (Q : Outcome → Type 0) (trapped : (t : Trap) → Q (Trapped t)) (stuck : Q Stuck) where
   pub of_provided : (b : Bool) (t : Trap) (o : Outcome) → Q o → Q (provided b t o)

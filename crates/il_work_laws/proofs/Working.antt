@@ -1,44 +1,44 @@
 -- What is left of a scan's work falls by what a step does.
 use Rattle.std.proofs.Common.{◌≡◌, ◌<◌, ◌≤◌, ℕ, zero, suc, ◌+◌, ◌-◌, Bool, true, List, [], ◌∷◌, refl, sym, ap, ◌∙◌, Some, None, Option, subst, length, arith}
-use Rattle.il_spec.specs.declared.tree.Config.{Config}
-use Rattle.il_spec.specs.declared.tree.Unit.{Unit as ProgramUnit}
-use Rattle.il_spec.specs.declared.tree.Form.{Form}
-use Rattle.il_spec.specs.declared.tree.Form.TheVariants.{Scalar as ScalarForm, Array as ArrayForm, Block as BlockForm}
-use Rattle.il_spec.specs.declared.tree.Named.{Named}
-use Rattle.il_spec.specs.declared.tree.Argument.{Argument}
-use Rattle.il_spec.specs.declared.tree.Operand.{Operand}
-use Rattle.il_spec.specs.declared.tree.Operator.{Operator}
-use Rattle.il_spec.specs.declared.tree.Store.{Store as StoreKind}
-use Rattle.il_spec.specs.declared.tree.Elementary.{Elementary}
+use Rattle.il_syntax.specs.declared.tree.Config.{Config}
+use Rattle.il_syntax.specs.declared.tree.Unit.{Unit as ProgramUnit}
+use Rattle.il_syntax.specs.declared.tree.Form.{Form}
+use Rattle.il_syntax.specs.declared.tree.Form.TheVariants.{Scalar as ScalarForm, Array as ArrayForm, Block as BlockForm}
+use Rattle.il_syntax.specs.declared.tree.Named.{Named}
+use Rattle.il_syntax.specs.declared.tree.Argument.{Argument}
+use Rattle.il_syntax.specs.declared.tree.Operand.{Operand}
+use Rattle.il_syntax.specs.declared.tree.Operator.{Operator}
+use Rattle.il_syntax.specs.declared.tree.Store.{Store as StoreKind}
+use Rattle.il_syntax.specs.declared.tree.Elementary.{Elementary}
 use Rattle.std.specs.Prelude.{not}
-use Rattle.il_spec.specs.declared.tree.Condition.{Condition}
-use Rattle.il_spec.specs.declared.tree.Instruction.{Instruction}
-use Rattle.il_spec.specs.declared.tree.Instruction.TheVariants.{Load, Store, Not, Operate, Defer, Evaluate, Jump, Return, Call, Invoke}
-use Rattle.il_rules.specs.Names.{unit_named, function_named, function_block_named, form_named, standard_function, standard_block, named_forms}
-use Rattle.il_rules.specs.declared.names.StandardFunction.{StandardFunction}
-use Rattle.il_rules.specs.declared.names.StandardBlock.{StandardBlock}
-use Rattle.il_rules.specs.Types.{label_place}
-use Rattle.il_table.specs.NameMap.{Text, with_entries}
-use Rattle.il_run.specs.Meaning.{fresh_values, natural}
-use Rattle.il_run.specs.declared.value.Content.{Content}
-use Rattle.il_run.specs.declared.value.Deferred.{Deferred}
-use Rattle.il_run.specs.State.{Values, Frame, State}
-use Rattle.il_run.specs.Annotation.{Annotated, Knowledge}
-use Rattle.il_run.specs.Paths.{Rest, rest_at, callee, block_unit, place_rest, passing}
-use Rattle.il_run.specs.Step.{rest_of, Trap, Outcome, Next, Trapped, Stuck, Scene, instruction_at, step_in, step_of, step, goes_to, goes_on, executed, jumped, returned_to, resumed, caller_scene, called, called_block, begun, invoked, evaluated, with_unit, with_place, with_operand, meant, loaded, gives, truth, operated, stored_by, kept_result}
-use Rattle.il_run.specs.Scan.{begins}
-use Rattle.il_scan_laws.specs.Agreement.{CallsBy, FrameAgrees, CallersAgree, FramesAgree, Agrees, left}
-use Rattle.il_scan_laws.specs.Soundness.{IsInOrder, StepsWell}
-use Rattle.il_scan_laws.proofs.Named.{function_is_unit, name_of}
-use Rattle.il_scan_laws.proofs.Costs.{can_pass, left_at, falls_on, falls_by, falls_jump, return_costs}
-use Rattle.il_scan_laws.proofs.Moving.{stack_of}
-use Rattle.il_scan_laws.proofs.Running.{block_is_unit}
-use Rattle.il_scan_laws.proofs.Scanning.{step_sound, starts}
+use Rattle.il_syntax.specs.declared.tree.Condition.{Condition}
+use Rattle.il_syntax.specs.declared.tree.Instruction.{Instruction}
+use Rattle.il_syntax.specs.declared.tree.Instruction.TheVariants.{Load, Store, Not, Operate, Defer, Evaluate, Jump, Return, Call, Invoke}
+use Rattle.il_statics.specs.Names.{unit_named, function_named, function_block_named, form_named, standard_function, standard_block, named_forms}
+use Rattle.il_statics.specs.declared.names.StandardFunction.{StandardFunction}
+use Rattle.il_statics.specs.declared.names.StandardBlock.{StandardBlock}
+use Rattle.il_statics.specs.Types.{label_place}
+use Rattle.base_maps.specs.NameMap.{Text, with_entries}
+use Rattle.il_semantics.specs.Meaning.{fresh_values, natural}
+use Rattle.il_semantics.specs.declared.value.Content.{Content}
+use Rattle.il_semantics.specs.declared.value.Deferred.{Deferred}
+use Rattle.il_semantics.specs.State.{Values, Frame, State}
+use Rattle.il_semantics.specs.Annotation.{Annotated, Knowledge}
+use Rattle.il_semantics.specs.Paths.{Rest, rest_at, callee, block_unit, place_rest, passing}
+use Rattle.il_semantics.specs.Step.{rest_of, Trap, Outcome, Next, Trapped, Stuck, Scene, instruction_at, step_in, step_of, step, goes_to, goes_on, executed, jumped, returned_to, resumed, caller_scene, called, called_block, begun, invoked, evaluated, with_unit, with_place, with_operand, meant, loaded, gives, truth, operated, stored_by, kept_result}
+use Rattle.il_semantics.specs.Scan.{begins}
+use Rattle.il_semantics_laws.specs.Agreement.{CallsBy, FrameAgrees, CallersAgree, FramesAgree, Agrees, left}
+use Rattle.il_semantics_laws.specs.Soundness.{IsInOrder, StepsWell}
+use Rattle.il_semantics_laws.proofs.Named.{function_is_unit, name_of}
+use Rattle.il_semantics_laws.proofs.Costs.{can_pass, left_at, falls_on, falls_by, falls_jump, return_costs}
+use Rattle.il_semantics_laws.proofs.Moving.{stack_of}
+use Rattle.il_semantics_laws.proofs.Running.{block_is_unit}
+use Rattle.il_semantics_laws.proofs.Scanning.{step_sound, starts}
 use Rattle.il_work_laws.specs.Work.{instruction_work, step_work, work_behind, work_of, called_work, own_work, work_table, most_within, most_work, WorksWithin, ScansDoNoMore}
-use Rattle.il_rules.specs.Faults.{Declaring, Typing, Broken, HasNoFault}
-use Rattle.il_rules.specs.Written.{IsWritten}
-use Rattle.il_scan_laws.specs.Accepted.{IsOrdered}
-use Rattle.il_scan_laws.proofs.Premises.{in_order}
+use Rattle.il_statics.specs.Faults.{Declaring, Typing, Broken, HasNoFault}
+use Rattle.il_statics.specs.Written.{IsWritten}
+use Rattle.il_semantics_laws.specs.Accepted.{IsOrdered}
+use Rattle.il_semantics_laws.proofs.Premises.{in_order}
 use Rattle.il_work_laws.proofs.Outcomes as every
 
 -- WHAT IS LEFT

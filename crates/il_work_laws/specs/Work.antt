@@ -1,19 +1,19 @@
 -- What a scan does beside its steps: the values that calls set and copy (own rules).
 use Rattle.std.specs.Prelude.{◌≡◌, ◌≤◌, ℕ, zero, suc, ◌+◌, List, [], ◌∷◌, length, Option, Some, None}
-use Rattle.il_spec.specs.declared.tree.Instruction.{Instruction}
-use Rattle.il_spec.specs.declared.tree.Instruction.TheVariants.{Call, Invoke}
-use Rattle.il_spec.specs.declared.tree.Operand.{Operand}
-use Rattle.il_spec.specs.declared.tree.Unit.{Unit as ProgramUnit}
-use Rattle.il_spec.specs.declared.tree.Config.{Config}
-use Rattle.il_rules.specs.Names.{function_named, program_named, unit_named}
-use Rattle.il_run.specs.declared.value.Value.{Value}
-use Rattle.il_run.specs.State.{Values, Frame, State}
-use Rattle.il_run.specs.Meaning.{depth, fresh_values}
-use Rattle.il_run.specs.Paths.{Rest, rest_at, rests, callee}
-use Rattle.il_run.specs.Step.{Outcome, Next, Trapped, Stuck, instruction_at, step}
-use Rattle.il_run.specs.Scan.{begins}
-use Rattle.il_table.specs.NameMap.{Text}
-use Rattle.il_scan_laws.specs.Agreement.{Holds}
+use Rattle.il_syntax.specs.declared.tree.Instruction.{Instruction}
+use Rattle.il_syntax.specs.declared.tree.Instruction.TheVariants.{Call, Invoke}
+use Rattle.il_syntax.specs.declared.tree.Operand.{Operand}
+use Rattle.il_syntax.specs.declared.tree.Unit.{Unit as ProgramUnit}
+use Rattle.il_syntax.specs.declared.tree.Config.{Config}
+use Rattle.il_statics.specs.Names.{function_named, program_named, unit_named}
+use Rattle.il_semantics.specs.declared.value.Value.{Value}
+use Rattle.il_semantics.specs.State.{Values, Frame, State}
+use Rattle.il_semantics.specs.Meaning.{depth, fresh_values}
+use Rattle.il_semantics.specs.Paths.{Rest, rest_at, rests, callee}
+use Rattle.il_semantics.specs.Step.{Outcome, Next, Trapped, Stuck, instruction_at, step}
+use Rattle.il_semantics.specs.Scan.{begins}
+use Rattle.base_maps.specs.NameMap.{Text}
+use Rattle.il_semantics_laws.specs.Agreement.{Holds}
 
 -- THE WORK OF A STEP
 

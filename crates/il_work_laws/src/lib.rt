@@ -1,10 +1,10 @@
 //! No scan does more work than its program's table says: a law of the definitions alone.
 #![tactic(auto)]
 
-ghost use Rattle.il_spec.specs.declared.tree.Config.{Config};
-ghost use Rattle.il_spec.specs.declared.tree.Unit.{Unit as ProgramUnit};
-ghost use Rattle.il_run.specs.Annotation.{Annotated};
-ghost use Rattle.il_scan_laws.specs.Accepted.{IsAccepted};
+ghost use Rattle.il_syntax.specs.declared.tree.Config.{Config};
+ghost use Rattle.il_syntax.specs.declared.tree.Unit.{Unit as ProgramUnit};
+ghost use Rattle.il_semantics.specs.Annotation.{Annotated};
+ghost use Rattle.il_semantics_laws.specs.Accepted.{IsAccepted};
 ghost use Rattle.il_work_laws.specs.Work.{WorksWithin};
 
 /// A law: no scan of an accepted program whose units are annotated does more work than the greatest of its control paths,

@@ -2,7 +2,7 @@
 //! simulates the group that they control.
 #![tactic(auto)]
 
-use lift_command::program;
+use cli_command::program;
 use std::process::ExitCode;
 
 fn main(rt: HostRuntime) -> ExitCode {

@@ -5,16 +5,16 @@ use Rattle.std.specs.List.{cons_option}
 use Rattle.std.proofs.lemmas.Bool.{leb-true, cases_eq}
 use Rattle.std.proofs.lemmas.Fmt.{decimal_injective}
 use Rattle.std.proofs.lemmas.Slice.Eq.{bytes_eq-Decides}
-use Rattle.il_spec.specs.declared.tree.Task.{Task}
-use Rattle.il_spec.specs.declared.tree.ProgramLine.{ProgramLine}
-use Rattle.il_scan_laws.proofs.Lists.{found_in}
-use Rattle.il_table.specs.NameMap.{Text}
-use Rattle.il_machine.specs.Scanning.{Program}
-use Rattle.il_machine.specs.Listing.{TaskLine, UnitLine, task_by, task_of, program_line_of, unit_of, unit_lines, is_task_name, task_among, task_line, last_tasks, task_order, tasks_of}
-use Rattle.lift_spec.specs.Limits.{most_cars}
-use Rattle.lift_spec.specs.Snapshot.{task_name}
+use Rattle.il_syntax.specs.declared.tree.Task.{Task}
+use Rattle.il_syntax.specs.declared.tree.ProgramLine.{ProgramLine}
+use Rattle.il_semantics_laws.proofs.Lists.{found_in}
+use Rattle.base_maps.specs.NameMap.{Text}
+use Rattle.scan_task.specs.Scanning.{Program}
+use Rattle.scan_task.specs.Listing.{TaskLine, UnitLine, task_by, task_of, program_line_of, unit_of, unit_lines, is_task_name, task_among, task_line, last_tasks, task_order, tasks_of}
+use Rattle.group_spec.specs.Limits.{most_cars}
+use Rattle.group_spec.specs.Snapshot.{task_name}
 use Rattle.liftplc_c.specs.Budgets.{named_line}
-use Rattle.il_parse.proofs.Ascii.{both_true as first_of_and}
+use Rattle.load_tree.proofs.Ascii.{both_true as first_of_and}
 
 -- NAMES
 

@@ -1,10 +1,10 @@
 -- What is said of a refusal, at its number and its place.
 use Rattle.std.proofs.Common.{◌≡◌, ◌≤◌, ℕ, Ok, Err, subst, sym, ◌∙◌, inl, inr, arith}
 use Rattle.std.specs.Prelude.{◌⊎◌, Result, IsErrAnd}
-use Rattle.il_parse.specs.Refused.{IsFault}
-use Rattle.il_spec.specs.declared.fault.Refusal.{Refusal}
-use Rattle.il_spec.specs.declared.fault.Refusal.TheVariants.{Fault, Memory}
-use Rattle.il_spec.specs.declared.tree.Place.{Place}
+use Rattle.load_tree.specs.Refused.{IsFault}
+use Rattle.il_syntax.specs.declared.fault.Refusal.{Refusal}
+use Rattle.il_syntax.specs.declared.fault.Refusal.TheVariants.{Fault, Memory}
+use Rattle.il_syntax.specs.declared.tree.Place.{Place}
 use Rattle.liftplc_c.specs.Refusals.{text_status}
 
 no_memory : (n : ℕ) (p : Place) → Fault n p ≡ Memory → ⊥

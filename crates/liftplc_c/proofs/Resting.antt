@@ -1,18 +1,18 @@
 -- What a press leaves.
 use Rattle.std.proofs.Common.{◌≡◌, Bool, true, false, ◌==◌, Ok, Err, inl, inr, refl, ap, ◌∙◌, subst}
 use Rattle.std.specs.Prelude.{◌≢◌, ◌⊎◌, slice_get, is_some, ◌&&◌}
-use Rattle.il_spec.specs.declared.tree.Config.{Config}
-use Rattle.il_machine.specs.Scanning.{Program}
-use Rattle.lift_spec.specs.declared.calls.Call.{Call}
-use Rattle.lift_spec.specs.declared.event.Event.TheVariants.{Press}
-use Rattle.lift_spec.specs.declared.event.Reply.{Reply as Answer}
-use Rattle.lift_spec.specs.declared.event.Reply.TheVariants as answer
-use Rattle.lift_spec.specs.declared.report.Report.{Report}
-use Rattle.lift_spec.specs.Hands.{has_call}
-use Rattle.lift_spec.specs.Image.{sizes_of, is_floor}
-use Rattle.lift_spec.specs.Replies.{Reply, New, reply_with}
-use Rattle.lift_spec.specs.World.{World, Next, flat, happens, presses, presses_floors, presses_new}
-use Rattle.lift_world.specs.Worlds.{WorldOf}
+use Rattle.il_syntax.specs.declared.tree.Config.{Config}
+use Rattle.scan_task.specs.Scanning.{Program}
+use Rattle.group_spec.specs.declared.calls.Call.{Call}
+use Rattle.group_spec.specs.declared.event.Event.TheVariants.{Press}
+use Rattle.group_spec.specs.declared.event.Reply.{Reply as Answer}
+use Rattle.group_spec.specs.declared.event.Reply.TheVariants as answer
+use Rattle.group_spec.specs.declared.report.Report.{Report}
+use Rattle.group_spec.specs.Hands.{has_call}
+use Rattle.group_spec.specs.Image.{sizes_of, is_floor}
+use Rattle.group_spec.specs.Replies.{Reply, New, reply_with}
+use Rattle.group_spec.specs.World.{World, Next, flat, happens, presses, presses_floors, presses_new}
+use Rattle.group_world.specs.Worlds.{WorldOf}
 use Rattle.liftplc_c.specs.Handles.{Rests}
 use Rattle.liftplc_c.specs.Presses.{press_status, Presses}
 

@@ -1,15 +1,15 @@
 -- The call slots of a world.
 use Rattle.std.proofs.Common.{◌≡◌, ◌<◌, ◌≤◌, ◌+◌, ℕ, zero, suc, List, [], ◌∷◌, map, take, length, Some, None, sym, ap, ◌∙◌, arith}
 use Rattle.std.specs.Prelude.{slice_get, slice_set}
-use Rattle.il_machine.specs.Scanning.{IsRunnable}
-use Rattle.il_machine.proofs.Scans.{sound_of}
-use Rattle.il_machine.proofs.Sizes.{sizes_fit}
-use Rattle.lift_spec.specs.declared.calls.Slot.{Slot}
-use Rattle.lift_spec.specs.Calls.{slot_at}
-use Rattle.lift_spec.specs.Image.{sizes_of}
-use Rattle.lift_run_laws.specs.Runs.{IsReached}
-use Rattle.lift_run_laws.proofs.Histories.{reached_well}
-use Rattle.lift_world.specs.Worlds.{WorldOf}
+use Rattle.scan_task.specs.Scanning.{IsRunnable}
+use Rattle.scan_task.proofs.Scans.{sound_of}
+use Rattle.scan_task.proofs.Sizes.{sizes_fit}
+use Rattle.group_spec.specs.declared.calls.Slot.{Slot}
+use Rattle.group_spec.specs.Calls.{slot_at}
+use Rattle.group_spec.specs.Image.{sizes_of}
+use Rattle.group_laws.specs.Runs.{IsReached}
+use Rattle.group_laws.proofs.Histories.{reached_well}
+use Rattle.group_world.specs.Worlds.{WorldOf}
 
 -- there are as many as the configuration says, and no more than 64
 pub slots_many : (w : WorldOf) → IsRunnable w.program.config → IsReached w.program.config w.world → length w.world.group.calls.slots ≡ (sizes_of w.program.config).slots

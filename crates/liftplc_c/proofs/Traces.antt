@@ -1,12 +1,12 @@
 -- What can be wrong with a trace.
 use Rattle.std.proofs.Common.{ℕ, List, Option, subst, sym, inl, inr}
-use Rattle.il_spec.specs.declared.tree.Config.{Config}
-use Rattle.lift_host.specs.declared.status.Fault.{Fault}
-use Rattle.lift_host.specs.declared.status.Fault.TheVariants.{Misuse, RefusedText, Refused, BadPress, TooManyPresses, BadFire, BadSpan, BadScan, BadName, CannotRead, CannotWrite, NoMemory}
-use Rattle.lift_spec.specs.declared.trace.TraceEvent.{TraceEvent}
-use Rattle.lift_spec.specs.World.{World}
-use Rattle.lift_state.specs.Beginnings.{IsUnbegun}
-use Rattle.lift_blackbox.specs.Resuming.{LeadsNowhere, IsNotLeft}
+use Rattle.il_syntax.specs.declared.tree.Config.{Config}
+use Rattle.cli_host.specs.declared.status.Fault.{Fault}
+use Rattle.cli_host.specs.declared.status.Fault.TheVariants.{Misuse, RefusedText, Refused, BadPress, TooManyPresses, BadFire, BadSpan, BadScan, BadName, CannotRead, CannotWrite, NoMemory}
+use Rattle.group_spec.specs.declared.trace.TraceEvent.{TraceEvent}
+use Rattle.group_spec.specs.World.{World}
+use Rattle.group_state.specs.Beginnings.{IsUnbegun}
+use Rattle.serve_blackbox.specs.Resuming.{LeadsNowhere, IsNotLeft}
 use Rattle.liftplc_c.specs.Refusals.{IsOfTrace}
 
 unbegun : (c : Config) (source trace : List ℕ) (f : Fault) → IsUnbegun c source trace f → IsOfTrace f

@@ -1,7 +1,7 @@
 -- The budget of a task (own rules).
 use Rattle.std.specs.Prelude.{ℕ, Option, Some, None, find}
-use Rattle.il_machine.specs.Listing.{TaskLine, is_task_name, task_lines}
-use Rattle.il_machine.specs.Scanning.{Program}
+use Rattle.scan_task.specs.Listing.{TaskLine, is_task_name, task_lines}
+use Rattle.scan_task.specs.Scanning.{Program}
 
 -- the budget that is listed, or 0
 abbrev pub budget_in : Option TaskLine → ℕ

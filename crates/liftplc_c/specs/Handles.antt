@@ -1,12 +1,12 @@
 -- What a handle keeps (own rules).
 use Rattle.std.specs.Prelude.{◌≡◌, ℕ, List, false, is_some}
-use Rattle.lift_spec.specs.declared.event.Event.{Event}
-use Rattle.lift_spec.specs.Replies.{Reply}
-use Rattle.lift_spec.specs.Image.{sizes_of, FieldsInRange, Obeys}
-use Rattle.lift_spec.specs.World.{World, scan_at}
-use Rattle.lift_run_laws.specs.Runs.{Begins, IsReached, WorldWellFrom}
-use Rattle.lift_run_laws.specs.Histories.{IsHistoryFrom}
-use Rattle.lift_world.specs.Worlds.{WorldOf}
+use Rattle.group_spec.specs.declared.event.Event.{Event}
+use Rattle.group_spec.specs.Replies.{Reply}
+use Rattle.group_spec.specs.Image.{sizes_of, FieldsInRange, Obeys}
+use Rattle.group_spec.specs.World.{World, scan_at}
+use Rattle.group_laws.specs.Runs.{Begins, IsReached, WorldWellFrom}
+use Rattle.group_laws.specs.Histories.{IsHistoryFrom}
+use Rattle.group_world.specs.Worlds.{WorldOf}
 
 -- no scan is open, between two calls
 abbrev pub Rests : World → Type 0

@@ -1,10 +1,10 @@
 -- What C reports of the plant (own rules).
 use Rattle.std.specs.Prelude.{ℕ, Bool, ◌&&◌, nat_le, map, take, if◌then◌else◌}
-use Rattle.lift_spec.specs.declared.image.CarFields.{CarFields}
-use Rattle.lift_spec.specs.declared.image.Fields.{Fields}
-use Rattle.lift_spec.specs.declared.image.Sizes.{Sizes}
-use Rattle.lift_spec.specs.Image.{fields_in_range}
-use Rattle.lift_spec.specs.Limits.{most_cars}
+use Rattle.group_spec.specs.declared.image.CarFields.{CarFields}
+use Rattle.group_spec.specs.declared.image.Fields.{Fields}
+use Rattle.group_spec.specs.declared.image.Sizes.{Sizes}
+use Rattle.group_spec.specs.Image.{fields_in_range}
+use Rattle.group_spec.specs.Limits.{most_cars}
 use Rattle.liftplc_c.specs.declared.fields.CarInput.{CarInput}
 use Rattle.liftplc_c.specs.declared.fields.FieldsInput.{FieldsInput}
 

@@ -1,7 +1,7 @@
 -- What C is told of a notice (own rules).
-use Rattle.lift_spec.specs.Settle.{rule_number}
-use Rattle.lift_runs.specs.declared.notice.Notice.{Notice}
-use Rattle.lift_runs.specs.declared.notice.Notice.TheVariants.{Entered, Denied, Told, Served}
+use Rattle.group_spec.specs.Settle.{rule_number}
+use Rattle.group_rounds.specs.declared.notice.Notice.{Notice}
+use Rattle.group_rounds.specs.declared.notice.Notice.TheVariants.{Entered, Denied, Told, Served}
 use Rattle.liftplc_c.specs.declared.notices.NoticeOutput.{NoticeOutput}
 
 -- by its kind: 1 entered, 2 denied, 3 told, 4 served

@@ -1,10 +1,10 @@
 -- What C is told of a round (own rules).
 use Rattle.std.specs.Prelude.{◌≡◌, List, length, map, take}
-use Rattle.lift_spec.specs.declared.calls.Slot.{Slot}
-use Rattle.lift_spec.specs.declared.calls.Slot.TheVariants.{Free, Waiting, Told}
-use Rattle.lift_spec.specs.declared.image.CarOutputs.{CarOutputs}
-use Rattle.lift_spec.specs.Snapshot.{motor_number}
-use Rattle.lift_runs.specs.declared.notice.Notice.{Notice}
+use Rattle.group_spec.specs.declared.calls.Slot.{Slot}
+use Rattle.group_spec.specs.declared.calls.Slot.TheVariants.{Free, Waiting, Told}
+use Rattle.group_spec.specs.declared.image.CarOutputs.{CarOutputs}
+use Rattle.group_spec.specs.Snapshot.{motor_number}
+use Rattle.group_rounds.specs.declared.notice.Notice.{Notice}
 use Rattle.liftplc_c.specs.declared.outputs.CarOutput.{CarOutput}
 use Rattle.liftplc_c.specs.declared.outputs.RoundOutputs.{RoundOutputs}
 use Rattle.liftplc_c.specs.declared.outputs.SlotOutput.{SlotOutput}

@@ -1,15 +1,15 @@
 -- A press on a handle (own rules).
 use Rattle.std.specs.Prelude.{◌≡◌, ℕ, Ok}
-use Rattle.lift_spec.specs.declared.calls.Call.{Call}
-use Rattle.lift_spec.specs.declared.event.Event.TheVariants.{Press}
-use Rattle.lift_spec.specs.declared.event.EventFault.{EventFault}
-use Rattle.lift_spec.specs.declared.event.EventFault.TheVariants.{FieldOutOfRange, NoOpenScan, AlreadyOpen, NotAtEnd, NoSuchActor, SameFloor}
-use Rattle.lift_spec.specs.declared.event.Reply.{Reply as Answer}
-use Rattle.lift_spec.specs.declared.event.Reply.TheVariants as answer
-use Rattle.lift_spec.specs.declared.report.Report.{Report}
-use Rattle.lift_spec.specs.Replies.{reply_with}
-use Rattle.lift_spec.specs.World.{happens}
-use Rattle.lift_world.specs.Worlds.{WorldOf}
+use Rattle.group_spec.specs.declared.calls.Call.{Call}
+use Rattle.group_spec.specs.declared.event.Event.TheVariants.{Press}
+use Rattle.group_spec.specs.declared.event.EventFault.{EventFault}
+use Rattle.group_spec.specs.declared.event.EventFault.TheVariants.{FieldOutOfRange, NoOpenScan, AlreadyOpen, NotAtEnd, NoSuchActor, SameFloor}
+use Rattle.group_spec.specs.declared.event.Reply.{Reply as Answer}
+use Rattle.group_spec.specs.declared.event.Reply.TheVariants as answer
+use Rattle.group_spec.specs.declared.report.Report.{Report}
+use Rattle.group_spec.specs.Replies.{reply_with}
+use Rattle.group_spec.specs.World.{happens}
+use Rattle.group_world.specs.Worlds.{WorldOf}
 
 -- the press leads from a world to another of the same program, and is answered so
 pub record Presses (call : Call) (w v : WorldOf) (a : Answer) : Type 0 where

@@ -1,9 +1,9 @@
 -- What a refusal says (own rules).
 use Rattle.std.specs.Prelude.{ℕ}
-use Rattle.il_spec.specs.declared.fault.Refusal.{Refusal}
-use Rattle.il_spec.specs.declared.fault.Refusal.TheVariants as refusal
-use Rattle.lift_host.specs.declared.status.Fault.{Fault}
-use Rattle.lift_host.specs.declared.status.Fault.TheVariants.{Refused, NoMemory}
+use Rattle.il_syntax.specs.declared.fault.Refusal.{Refusal}
+use Rattle.il_syntax.specs.declared.fault.Refusal.TheVariants as refusal
+use Rattle.cli_host.specs.declared.status.Fault.{Fault}
+use Rattle.cli_host.specs.declared.status.Fault.TheVariants.{Refused, NoMemory}
 use Rattle.liftplc_c.specs.declared.refusal.TextRefusal.{TextRefusal}
 
 -- OF A TEXT

@@ -1,10 +1,10 @@
 -- A round on a handle (own rules).
 use Rattle.std.specs.Prelude.{◌≡◌, List}
-use Rattle.lift_spec.specs.declared.image.Fields.{Fields}
-use Rattle.lift_spec.specs.Image.{sizes_of, FieldsInRange}
-use Rattle.lift_world.specs.Worlds.{WorldOf}
-use Rattle.lift_runs.specs.declared.notice.Notice.{Notice}
-use Rattle.lift_runs.specs.Rounds.{IsRoundOf}
+use Rattle.group_spec.specs.declared.image.Fields.{Fields}
+use Rattle.group_spec.specs.Image.{sizes_of, FieldsInRange}
+use Rattle.group_world.specs.Worlds.{WorldOf}
+use Rattle.group_rounds.specs.declared.notice.Notice.{Notice}
+use Rattle.group_rounds.specs.Rounds.{IsRoundOf}
 use Rattle.liftplc_c.specs.declared.outputs.RoundOutputs.{RoundOutputs}
 use Rattle.liftplc_c.specs.Outputs.{TellsCars, TellsSlots, TellsNotices}
 

@@ -1,9 +1,9 @@
 -- A state that is written (own rules).
 use Rattle.std.specs.Prelude.{◌≡◌, ◌<◌, ◌≤◌, ℕ, List, [], ◌∷◌, ◌++◌, length, take, drop}
-use Rattle.lift_trace.specs.Text.{last_line}
-use Rattle.lift_serve.specs.Waiting.{waiting_events}
-use Rattle.lift_blackbox.specs.Heads.{head_text}
-use Rattle.lift_world.specs.Worlds.{WorldOf}
+use Rattle.trace_text.specs.Text.{last_line}
+use Rattle.serve_lines.specs.Waiting.{waiting_events}
+use Rattle.serve_blackbox.specs.Heads.{head_text}
+use Rattle.group_world.specs.Worlds.{WorldOf}
 
 -- The state of a world as a whole trace of format 3, without rounds, where this is the text of the configuration: the head of the trace that begins at the world, and
 -- the last line, with the number of the events of the calls that wait.

@@ -1,14 +1,14 @@
 // What a handle is asked.
 
 ghost use Rattle.std.specs.Prelude.{◌≡◌, IfSome, None, option_map};
-ghost use Rattle.il_spec.specs.declared.tree.Unit.{Unit as Organized};
-ghost use Rattle.il_machine.specs.Listing.{task_line, task_shown};
-ghost use Rattle.lift_run_laws.specs.Tasks.{IsTaskOf, budget_of};
+ghost use Rattle.il_syntax.specs.declared.tree.Unit.{Unit as Organized};
+ghost use Rattle.scan_task.specs.Listing.{task_line, task_shown};
+ghost use Rattle.group_laws.specs.Tasks.{IsTaskOf, budget_of};
 ghost use Rattle.liftplc_c.specs.Budgets.{budget_in, named_line};
 
 use crate::handle::Handle;
-use il_machine::verified::is_task_name;
-use il_machine::{TaskInfo, Verified};
+use scan_task::verified::is_task_name;
+use scan_task::{TaskInfo, Verified};
 use std::alloc::Global;
 
 // The version of these exports.

@@ -3,7 +3,7 @@
 ghost use Rattle.std.specs.Prelude.{◌≡◌, ◌≤◌, [], map, take};
 ghost use Rattle.liftplc_c.specs.Inputs.{car_of, fields_of};
 
-use lift_spec::{Bounded, CAR_PLACES, CarFields, Fields, MOST_CARS};
+use group_spec::{Bounded, CAR_PLACES, CarFields, Fields, MOST_CARS};
 
 /// What C reports of a car: the floor that it is at or next to, and its five sensors.
 #[repr(C)]

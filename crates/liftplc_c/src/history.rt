@@ -2,7 +2,7 @@
 
 ghost use Rattle.liftplc_c.specs.Handles.{IsLed};
 
-use lift_world::World;
+use group_world::World;
 
 /// Some history led to the world, and it is well.
 pub fn led(world: &World)

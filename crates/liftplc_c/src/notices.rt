@@ -3,7 +3,7 @@
 ghost use Rattle.std.specs.Prelude.{◌≡◌, ◌≤◌, length, map, take};
 ghost use Rattle.liftplc_c.specs.Notices.{notice_output};
 
-use lift_runs::notice::Notice;
+use group_rounds::notice::Notice;
 
 /// What a round has to tell. Its kind: 1, a call entered a slot under a ticket; 2, a rule denied a wish, or a running motor, to a car; 3, a
 /// car was told the call of a ticket; 4, a car served it. What a kind doesn't have is 0.

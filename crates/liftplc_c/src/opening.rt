@@ -1,15 +1,15 @@
 // Opening and closing.
 
 ghost use Rattle.std.specs.Prelude.{◌≡◌, ◌≢◌, ◌≤◌, ◌↔◌, ◌⊎◌, ℕ, Option, Some, None, true, false, is_some, IfOk, IfErr, IsErrAnd, if◌then◌else◌};
-ghost use Rattle.il_parse.specs.Refused.{IsFault};
-ghost use Rattle.il_spec.specs.declared.fault.Refusal.TheVariants.{Fault};
-ghost use Rattle.il_spec.specs.declared.tree.Config.{Config as ConfigOf};
-ghost use Rattle.il_spec.specs.declared.tree.Place.{Place};
-ghost use Rattle.il_text.specs.LexicalErrors.{IsFaultOfText};
-ghost use Rattle.lift_load.specs.Loading.{IsAccepted, IsExplained, IsRefusedFor, IsSpelled, IsSpelledWith, HasFaultOfGrammar, ReportsFaultOfText, ReportsFaultOfGrammar};
-ghost use Rattle.lift_run_laws.specs.Runs.{RunsWell};
-ghost use Rattle.lift_spec.specs.World.{opening};
-ghost use Rattle.lift_world.specs.Worlds.{WorldOf};
+ghost use Rattle.load_tree.specs.Refused.{IsFault};
+ghost use Rattle.il_syntax.specs.declared.fault.Refusal.TheVariants.{Fault};
+ghost use Rattle.il_syntax.specs.declared.tree.Config.{Config as ConfigOf};
+ghost use Rattle.il_syntax.specs.declared.tree.Place.{Place};
+ghost use Rattle.load_tokens.specs.LexicalErrors.{IsFaultOfText};
+ghost use Rattle.load_text.specs.Loading.{IsAccepted, IsExplained, IsRefusedFor, IsSpelled, IsSpelledWith, HasFaultOfGrammar, ReportsFaultOfText, ReportsFaultOfGrammar};
+ghost use Rattle.group_laws.specs.Runs.{RunsWell};
+ghost use Rattle.group_spec.specs.World.{opening};
+ghost use Rattle.group_world.specs.Worlds.{WorldOf};
 ghost use Rattle.liftplc_c.specs.Handles.{IsLed, Rests};
 ghost use Rattle.liftplc_c.specs.Refusals.{fault_in};
 
@@ -17,9 +17,9 @@ use crate::handle::Handle;
 use crate::history::led;
 use crate::refusal::{TextRefusal, refuse_text};
 use crate::status::Status;
-use lift_load::load;
-use lift_runs::kept::Rounds;
-use lift_world::{Refusal, World};
+use load_text::load;
+use group_rounds::kept::Rounds;
+use group_world::{Refusal, World};
 use std::alloc::Global;
 
 // The world of a text as it opens.

@@ -4,10 +4,10 @@ ghost use Rattle.std.specs.Prelude.{◌≡◌, ◌≤◌, length, map, take};
 ghost use Rattle.liftplc_c.specs.Outputs.{car_output, slot_output, TellsCars, TellsNotices, TellsSlots};
 
 use crate::notices::{NoticeOutput, put_notices};
-use lift_runs::notice::{MOST_NOTICES, Notices};
-use lift_spec::calls::Slot;
-use lift_spec::{CAR_PLACES, CarOutputs, Motor, SLOT_PLACES};
-use lift_world::World;
+use group_rounds::notice::{MOST_NOTICES, Notices};
+use group_spec::calls::Slot;
+use group_spec::{CAR_PLACES, CarOutputs, Motor, SLOT_PLACES};
+use group_world::World;
 
 /// What a car is to do: 1 is up, -1 is down, 0 is still; and whether its door is to be open.
 #[repr(C)]

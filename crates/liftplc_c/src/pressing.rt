@@ -1,19 +1,19 @@
 // Presses.
 
 ghost use Rattle.std.specs.Prelude.{◌≡◌, ◌≢◌, ◌∷◌, [], Option, Some, None, Ok, IfSome, MatchOption};
-ghost use Rattle.lift_spec.specs.declared.event.Event.TheVariants.{Press as PressOf};
-ghost use Rattle.lift_spec.specs.declared.event.Reply.{Reply as AnswerOf};
-ghost use Rattle.lift_run_laws.specs.Histories.{CallGoesWell};
-ghost use Rattle.lift_world.specs.Worlds.{WorldOf};
+ghost use Rattle.group_spec.specs.declared.event.Event.TheVariants.{Press as PressOf};
+ghost use Rattle.group_spec.specs.declared.event.Reply.{Reply as AnswerOf};
+ghost use Rattle.group_laws.specs.Histories.{CallGoesWell};
+ghost use Rattle.group_world.specs.Worlds.{WorldOf};
 ghost use Rattle.liftplc_c.specs.Handles.{IsLed, Rests};
 ghost use Rattle.liftplc_c.specs.Presses.{press_status, refusal_status, Presses};
 
 use crate::handle::Handle;
 use crate::history::led;
 use crate::status::Status;
-use lift_runs::kept::Rounds;
-use lift_spec::calls::Call;
-use lift_spec::event::{Event, EventFault, Reply};
+use group_rounds::kept::Rounds;
+use group_spec::calls::Call;
+use group_spec::event::{Event, EventFault, Reply};
 use std::alloc::Global;
 
 // A press is refused for a floor that the group doesn't have, or for a call to its own floor.

@@ -4,8 +4,8 @@ ghost use Rattle.std.specs.Prelude.{◌≡◌, ◌≢◌, ◌⊎◌};
 ghost use Rattle.liftplc_c.specs.Refusals.{fault_in, trace_fault_in, text_status, trace_status, IsOfTrace};
 
 use crate::status::Status;
-use lift_host::status::Fault;
-use lift_world::Refusal;
+use cli_host::status::Fault;
+use group_world::Refusal;
 
 /// Why a text or a trace is refused: the number of its fault, and its place, as its line, counted from 1, and, of a text, as how many bytes
 /// come before it.

@@ -1,14 +1,14 @@
 // Opening where a trace ends.
 
 ghost use Rattle.std.specs.Prelude.{◌≡◌, ◌≢◌, ◌≤◌, ◌↔◌, ◌⊎◌, ℕ, Option, Some, None, true, IfOk, IfErr};
-ghost use Rattle.il_spec.specs.declared.fault.Refusal.TheVariants.{Fault as FaultOf};
-ghost use Rattle.il_spec.specs.declared.tree.Config.{Config as ConfigOf};
-ghost use Rattle.il_spec.specs.declared.tree.Place.{Place};
-ghost use Rattle.il_text.specs.LexicalErrors.{IsFaultOfText};
-ghost use Rattle.lift_blackbox.specs.Resuming.{IsLeft, IsNotLeft};
-ghost use Rattle.lift_load.specs.Loading.{IsAccepted, IsExplained, IsRefusedFor, IsSpelled, IsSpelledWith, HasFaultOfGrammar};
-ghost use Rattle.lift_run_laws.specs.Runs.{RunsWell};
-ghost use Rattle.lift_world.specs.Worlds.{WorldOf};
+ghost use Rattle.il_syntax.specs.declared.fault.Refusal.TheVariants.{Fault as FaultOf};
+ghost use Rattle.il_syntax.specs.declared.tree.Config.{Config as ConfigOf};
+ghost use Rattle.il_syntax.specs.declared.tree.Place.{Place};
+ghost use Rattle.load_tokens.specs.LexicalErrors.{IsFaultOfText};
+ghost use Rattle.serve_blackbox.specs.Resuming.{IsLeft, IsNotLeft};
+ghost use Rattle.load_text.specs.Loading.{IsAccepted, IsExplained, IsRefusedFor, IsSpelled, IsSpelledWith, HasFaultOfGrammar};
+ghost use Rattle.group_laws.specs.Runs.{RunsWell};
+ghost use Rattle.group_world.specs.Worlds.{WorldOf};
 ghost use Rattle.liftplc_c.specs.Handles.{IsLed, Rests};
 ghost use Rattle.liftplc_c.specs.Refusals.{fault_in, trace_fault_in};
 
@@ -16,11 +16,11 @@ use crate::handle::Handle;
 use crate::history::led;
 use crate::refusal::{TextRefusal, refuse_text, refuse_trace};
 use crate::status::Status;
-use lift_blackbox::resume::{Origin, resume};
-use lift_host::status::Fault;
-use lift_load::load;
-use lift_runs::kept::Rounds;
-use lift_world::Verified;
+use serve_blackbox::resume::{Origin, resume};
+use cli_host::status::Fault;
+use load_text::load;
+use group_rounds::kept::Rounds;
+use group_world::Verified;
 use std::alloc::Global;
 
 // A controller that goes on, and how many events of its trace are dropped.

@@ -1,19 +1,19 @@
 // The state of a controller, written.
 
 ghost use Rattle.std.specs.Prelude.{◌≡◌, ◌≤◌, ◌⊎◌, ◌↔◌, ◌++◌, Option, Some, None, IfOk, IfSome, drop, length as length_of, string_bytes};
-ghost use Rattle.lift_blackbox.specs.Heads.{IsAgain};
-ghost use Rattle.lift_world.specs.Worlds.{WorldOf};
+ghost use Rattle.serve_blackbox.specs.Heads.{IsAgain};
+ghost use Rattle.group_world.specs.Worlds.{WorldOf};
 ghost use Rattle.liftplc_c.specs.Handles.{Rests};
 ghost use Rattle.liftplc_c.specs.States.{whole_state, IsTooShort, StandsIn};
 
 use crate::handle::Handle;
 use crate::status::Status;
-use lift_blackbox::head::{TraceHead, head_of};
-use lift_world::World;
+use serve_blackbox::head::{TraceHead, head_of};
+use group_world::World;
 use std::alloc::{AllocError, Global};
 
 // The state of a world between scans as a whole trace without rounds, where the text is that of its configuration.
-#[tactic(auto, unfolding(lift_trace::specs::Text::last_line))]
+#[tactic(auto, unfolding(trace_text::specs::Text::last_line))]
 fn whole_state(alloc: Global, world: &World, text: &[u8]) -> Result<String, AllocError>
     requires { Rests world.now.world }
     ensures text { IfOk result (λ whole. string_bytes whole ≡ whole_state text.now world.now) }

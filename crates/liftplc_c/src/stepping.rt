@@ -1,8 +1,8 @@
 // Rounds.
 
 ghost use Rattle.std.specs.Prelude.{◌≡◌, ◌≢◌, ◌≤◌, Option, Some, None, true, false, IfSome, MatchOption};
-ghost use Rattle.lift_spec.specs.Image.{sizes_of, FieldsInRange};
-ghost use Rattle.lift_world.specs.Worlds.{WorldOf};
+ghost use Rattle.group_spec.specs.Image.{sizes_of, FieldsInRange};
+ghost use Rattle.group_world.specs.Worlds.{WorldOf};
 ghost use Rattle.liftplc_c.specs.Handles.{IsLed, Rests};
 ghost use Rattle.liftplc_c.specs.Inputs.{are_taken, fields_of, round_status};
 ghost use Rattle.liftplc_c.specs.Rounds.{GoesRound};
@@ -12,8 +12,8 @@ use crate::handle::Handle;
 use crate::history::led;
 use crate::outputs::{RoundOutputs, put};
 use crate::status::Status;
-use lift_runs::kept::Rounds;
-use lift_spec::{Fields, MOST_CARS, in_range};
+use group_rounds::kept::Rounds;
+use group_spec::{Fields, MOST_CARS, in_range};
 use std::alloc::Global;
 
 // A round under fields in their ranges, and what it left.

@@ -11,7 +11,7 @@ LONGEST = 600  # seconds that a command may take
 PROVED = "proved from the sources of this commit"
 NOT_PROVED = "not proved"
 VERSIONS = {  # where the version is repeated
-    "crates/lift_help/src/command.rt": r'^const VERSION: &str = "(.*)";$',
+    "crates/cli_help/src/command.rt": r'^const VERSION: &str = "(.*)";$',
     "docs/COMMANDS.md": r"^liftplc (\d.*)$",
     "include/liftplc.pc": r"^Version: (.*)$",
     "editors/vscode/package.json": r'^  "version": "(.*)",$',

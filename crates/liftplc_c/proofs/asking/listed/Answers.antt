@@ -2,7 +2,7 @@ use Rattle.std.proofs.Common.{refl, rules, tests, ap, ◌∙◌}
 use Rattle.std.specs.Prelude.{find}
 use Rattle.std.proofs.lemmas.Iterator.Consumers.{YieldsList-from_first}
 use Rattle.std.proofs.lemmas.Iterator.Search.{find_from_yields_List}
-use Rattle.il_machine.specs.Listing.{TaskLine, is_task_name, task_shown}
+use Rattle.scan_task.specs.Listing.{TaskLine, is_task_name, task_shown}
 use Rattle.liftplc_c.proofs.asking.listed.Goals as goal
 
 pub returns : goal.returns

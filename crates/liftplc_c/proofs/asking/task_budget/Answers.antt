@@ -1,5 +1,5 @@
 use Rattle.std.proofs.Common.{ap, ◌∙◌}
-use Rattle.lift_world.proofs.Sound.{printed_is}
+use Rattle.group_world.proofs.Sound.{printed_is}
 use Rattle.liftplc_c.specs.Budgets.{budget_in}
 use Rattle.liftplc_c.proofs.Listed.{named_is}
 use Rattle.liftplc_c.proofs.asking.task_budget.Goals as goal

@@ -1,8 +1,8 @@
 use Rattle.std.proofs.Common.{subst}
-use Rattle.il_machine.specs.Scanning.{Program, IsRunnable}
-use Rattle.il_machine.proofs.Scans.{sound_of}
-use Rattle.lift_run_laws.proofs.Accepted.{accepted_runs_well}
-use Rattle.lift_run_laws.proofs.Histories.{from_base}
+use Rattle.scan_task.specs.Scanning.{Program, IsRunnable}
+use Rattle.scan_task.proofs.Scans.{sound_of}
+use Rattle.group_laws.proofs.Accepted.{accepted_runs_well}
+use Rattle.group_laws.proofs.Histories.{from_base}
 use Rattle.liftplc_c.proofs.history.led.Goals as goal
 
 pub returns : goal.returns

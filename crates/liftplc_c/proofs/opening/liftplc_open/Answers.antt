@@ -1,9 +1,9 @@
 use Rattle.std.proofs.Common.{◌≡◌, ℕ}
-use Rattle.il_spec.specs.declared.fault.Refusal.{Refusal}
-use Rattle.il_spec.specs.declared.fault.Refusal.TheVariants.{Fault}
-use Rattle.il_spec.specs.declared.tree.Config.{Config}
-use Rattle.il_spec.specs.declared.tree.Place.{Place}
-use Rattle.lift_load.specs.Loading.{IsAccepted, IsExplained, IsRefusedFor, IsSpelled, IsSpelledWith}
+use Rattle.il_syntax.specs.declared.fault.Refusal.{Refusal}
+use Rattle.il_syntax.specs.declared.fault.Refusal.TheVariants.{Fault}
+use Rattle.il_syntax.specs.declared.tree.Config.{Config}
+use Rattle.il_syntax.specs.declared.tree.Place.{Place}
+use Rattle.load_text.specs.Loading.{IsAccepted, IsExplained, IsRefusedFor, IsSpelled, IsSpelledWith}
 use Rattle.liftplc_c.specs.Refusals.{fault_in}
 use Rattle.liftplc_c.proofs.Refusing.{by_fault, reported, text_few, text_not_done}
 use Rattle.liftplc_c.proofs.opening.liftplc_open.Goals as goal

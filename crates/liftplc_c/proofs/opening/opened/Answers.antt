@@ -1,11 +1,11 @@
 use Rattle.std.proofs.Common.{ap, subst, sym, ◌∙◌}
 use Rattle.std.specs.Prelude.{is_some}
-use Rattle.lift_run_laws.proofs.Openings.{no_scan_open}
-use Rattle.lift_spec.specs.World.{World, scan_at}
-use Rattle.lift_world.specs.Worlds.{WorldOf}
-use Rattle.lift_runs.specs.declared.kept.Rounds.{Rounds}
+use Rattle.group_laws.proofs.Openings.{no_scan_open}
+use Rattle.group_spec.specs.World.{World, scan_at}
+use Rattle.group_world.specs.Worlds.{WorldOf}
+use Rattle.group_rounds.specs.declared.kept.Rounds.{Rounds}
 use Rattle.liftplc_c.specs.Handles.{IsLed}
-use Rattle.il_spec.specs.declared.fault.Refusal.TheVariants.{Fault}
+use Rattle.il_syntax.specs.declared.fault.Refusal.TheVariants.{Fault}
 use Rattle.liftplc_c.proofs.Refusing.{memory_at, no_fault}
 use Rattle.liftplc_c.proofs.opening.opened.Goals as goal
 

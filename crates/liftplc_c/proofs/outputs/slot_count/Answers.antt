@@ -1,6 +1,6 @@
 use Rattle.std.proofs.Common.{arith, subst, sym, ap, ◌∙◌}
-use Rattle.il_machine.specs.Scanning.{Program, IsRunnable}
-use Rattle.lift_spec.specs.declared.image.Sizes.{Sizes}
+use Rattle.scan_task.specs.Scanning.{Program, IsRunnable}
+use Rattle.group_spec.specs.declared.image.Sizes.{Sizes}
 use Rattle.liftplc_c.proofs.Slots.{slots_many, slots_few}
 use Rattle.liftplc_c.proofs.outputs.slot_count.Goals as goal
 

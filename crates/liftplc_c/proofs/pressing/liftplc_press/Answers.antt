@@ -1,7 +1,7 @@
 use Rattle.std.proofs.Common.{rules, ◌≡◌, Option, Some, MatchOption, subst, sym}
-use Rattle.lift_spec.specs.declared.calls.Call.{Call}
-use Rattle.lift_spec.specs.declared.event.Reply.{Reply as Answer}
-use Rattle.lift_world.specs.Worlds.{WorldOf}
+use Rattle.group_spec.specs.declared.calls.Call.{Call}
+use Rattle.group_spec.specs.declared.event.Reply.{Reply as Answer}
+use Rattle.group_world.specs.Worlds.{WorldOf}
 use Rattle.liftplc_c.specs.Presses.{press_status, Presses}
 use Rattle.liftplc_c.proofs.pressing.liftplc_press.Goals as goal
 

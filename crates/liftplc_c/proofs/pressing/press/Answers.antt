@@ -1,5 +1,5 @@
 use Rattle.std.proofs.Common.{◌∙◌}
-use Rattle.lift_spec.specs.Replies.{reply_with}
+use Rattle.group_spec.specs.Replies.{reply_with}
 use Rattle.liftplc_c.proofs.Resting.{press_keeps, press_rests}
 use Rattle.liftplc_c.proofs.pressing.press.Goals as goal
 

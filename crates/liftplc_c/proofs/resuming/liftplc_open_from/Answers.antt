@@ -1,12 +1,12 @@
 use Rattle.std.proofs.Common.{◌≡◌, ℕ, subst, sym, inl}
-use Rattle.il_machine.specs.Scanning.{Program}
-use Rattle.il_spec.specs.declared.fault.Refusal.{Refusal}
-use Rattle.il_spec.specs.declared.fault.Refusal.TheVariants.{Fault}
-use Rattle.il_spec.specs.declared.tree.Config.{Config}
-use Rattle.il_spec.specs.declared.tree.Place.{Place}
-use Rattle.lift_blackbox.specs.Resuming.{IsLeft}
-use Rattle.lift_load.specs.Loading.{IsAccepted, IsExplained, IsRefusedFor, IsSpelled, IsSpelledWith}
-use Rattle.lift_run_laws.specs.Runs.{RunsWell}
+use Rattle.scan_task.specs.Scanning.{Program}
+use Rattle.il_syntax.specs.declared.fault.Refusal.{Refusal}
+use Rattle.il_syntax.specs.declared.fault.Refusal.TheVariants.{Fault}
+use Rattle.il_syntax.specs.declared.tree.Config.{Config}
+use Rattle.il_syntax.specs.declared.tree.Place.{Place}
+use Rattle.serve_blackbox.specs.Resuming.{IsLeft}
+use Rattle.load_text.specs.Loading.{IsAccepted, IsExplained, IsRefusedFor, IsSpelled, IsSpelledWith}
+use Rattle.group_laws.specs.Runs.{RunsWell}
 use Rattle.liftplc_c.specs.Refusals.{fault_in}
 use Rattle.liftplc_c.proofs.Refusing.{by_fault, reported, text_few, text_not_done, text_not_trace, left_status, left_not_refused}
 use Rattle.liftplc_c.proofs.resuming.liftplc_open_from.Goals as goal

@@ -1,5 +1,5 @@
 use Rattle.std.proofs.Common.{subst, sym}
-use Rattle.lift_blackbox.specs.Resuming.{IsNotLeft}
+use Rattle.serve_blackbox.specs.Resuming.{IsNotLeft}
 use Rattle.liftplc_c.proofs.Refusing.{trace_status_is, trace_not_done}
 use Rattle.liftplc_c.proofs.Traces.{of_trace}
 use Rattle.liftplc_c.proofs.resuming.open_where_left.Goals as goal

@@ -1,7 +1,7 @@
 use Rattle.std.proofs.Common.{ap, subst, sym, ◌∙◌}
-use Rattle.lift_journal.specs.Closed.{IsClosed}
-use Rattle.lift_world.specs.Worlds.{WorldOf}
-use Rattle.lift_runs.specs.declared.kept.Rounds.{Rounds}
+use Rattle.group_journal.specs.Closed.{IsClosed}
+use Rattle.group_world.specs.Worlds.{WorldOf}
+use Rattle.group_rounds.specs.declared.kept.Rounds.{Rounds}
 use Rattle.liftplc_c.specs.Handles.{IsLed}
 use Rattle.liftplc_c.proofs.resuming.rounds_from.Goals as goal
 

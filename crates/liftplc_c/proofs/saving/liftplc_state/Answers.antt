@@ -1,5 +1,5 @@
 use Rattle.std.proofs.Common.{rules, ◌≡◌, subst}
-use Rattle.lift_world.specs.Worlds.{WorldOf}
+use Rattle.group_world.specs.Worlds.{WorldOf}
 use Rattle.liftplc_c.specs.States.{whole_state, IsTooShort, StandsIn}
 use Rattle.liftplc_c.proofs.saving.liftplc_state.Goals as goal
 

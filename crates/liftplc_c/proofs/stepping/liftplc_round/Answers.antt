@@ -1,5 +1,5 @@
 use Rattle.std.proofs.Common.{rules, ◌≡◌, Some, subst}
-use Rattle.lift_world.specs.Worlds.{WorldOf}
+use Rattle.group_world.specs.Worlds.{WorldOf}
 use Rattle.liftplc_c.specs.Inputs.{fields_of}
 use Rattle.liftplc_c.specs.Rounds.{GoesRound}
 use Rattle.liftplc_c.proofs.stepping.liftplc_round.Goals as goal

@@ -1,7 +1,7 @@
 use Rattle.std.proofs.Common.{subst, sym, ◌∙◌}
-use Rattle.lift_spec.specs.declared.image.Sizes.{Sizes}
-use Rattle.lift_spec.specs.Image.{FieldsInRange}
-use Rattle.lift_spec.proofs.Laws.{range_test}
+use Rattle.group_spec.specs.declared.image.Sizes.{Sizes}
+use Rattle.group_spec.specs.Image.{FieldsInRange}
+use Rattle.group_spec.proofs.Laws.{range_test}
 use Rattle.liftplc_c.proofs.stepping.step_counted.Goals as goal
 
 pub go_round-requires-clause-inside : goal.go_round-requires-clause-inside

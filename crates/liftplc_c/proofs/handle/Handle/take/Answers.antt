@@ -1,5 +1,5 @@
 use Rattle.std.proofs.Common.{sym, ◌∙◌}
-use Rattle.lift_world.proofs.Views.{some_of}
+use Rattle.group_world.proofs.Views.{some_of}
 use Rattle.liftplc_c.proofs.handle.Handle.take.Goals as goal
 
 pub into_rounds-requires : goal.into_rounds-requires

@@ -1,0 +1,5 @@
+use Rattle.std.proofs.Common.{rules}
+use Rattle.il_blocks.proofs.counters.DownCounter.new.Goals as goal
+
+pub returns : goal.returns
+returns c = search rules

@@ -1,7 +1,0 @@
-use Rattle.std.proofs.Common.{◌≡◌, ◌++◌}
-use Rattle.il_order.specs.Related.{tabulate}
-use Rattle.il_code.specs.Laying.{element_opening}
-use Rattle.il_code.proofs.laying.add_elements.Given as goal
-
-abbrev pub invariant-elements : goal.invariant-elements
-invariant-elements l = l.openings ≡ l.fn.openings ++ tabulate l.before (element_opening l.path l.lower l.element)

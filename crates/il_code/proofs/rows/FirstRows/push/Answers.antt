@@ -1,5 +1,0 @@
-use Rattle.std.proofs.Common.{rules}
-use Rattle.il_code.proofs.rows.FirstRows.push.Goals as goal
-
-pub returns : goal.returns
-returns c = search rules

@@ -1,8 +1,0 @@
-use Rattle.std.proofs.Common.{◌≡◌, map, take}
-use Rattle.il_table.specs.NameMap.{Text, get}
-use Rattle.il_scope.specs.Views.{place_of}
-use Rattle.il_code.proofs.slots.index_of.Given as goal
-
--- those so far
-abbrev pub invariant-loop-slot : goal.invariant-loop-slot
-invariant-loop-slot l = (q : Text) → get l.table q ≡ place_of (map (λ x. x.path) (take l.slot l.cells)) q

@@ -1,9 +1,0 @@
-use Rattle.std.proofs.Common.{ap, ◌∙◌}
-use Rattle.il_layout.specs.Paths.{slot_at}
-use Rattle.il_layout.proofs.Paired.{slot_named}
-use Rattle.il_code.specs.Tasks.{TaskLayout}
-use Rattle.il_code.proofs.task.TaskCode.slot_of.Goals as goal
-
-pub returns-clause-back : goal.returns-clause-back
-returns-clause-back c =
-    slot_named c.args.self.now.cells c.args.path.now c.get.result (c.get.ensures ∙ c.self.invariant c.args.path.now ∙ ap (λ (t : TaskLayout). slot_at t.cells c.args.path.now) c.self.view_is)

@@ -1,8 +1,0 @@
-use Rattle.std.proofs.Common.{take}
-use Rattle.il_spec.specs.declared.tree.ProgramLine.{ProgramLine as Item}
-use Rattle.il_table.specs.NameMap.{empty}
-use Rattle.il_declare.proofs.Againness.{IsSoFar}
-use Rattle.il_declare.proofs.again.second_line_of_task.Given as goal
-
-abbrev pub invariant-loop-line : goal.invariant-loop-line
-invariant-loop-line l = IsSoFar (λ (x : Item). x.task.name) (λ x. x.place) 24 empty l.found l.seen (take l.line-index l.lines)

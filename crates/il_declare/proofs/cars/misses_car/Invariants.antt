@@ -1,6 +1,0 @@
-use Rattle.std.proofs.Common.{◌≡◌, ℕ, ◌≤◌, nat_eq, true}
-use Rattle.std.specs.HashSet as bag
-use Rattle.il_declare.proofs.cars.misses_car.Given as goal
-
-abbrev pub invariant-loop-number : goal.invariant-loop-number
-invariant-loop-number l = (k : ℕ) → 1 ≤ k → k ≤ l.number → bag.contains nat_eq l.numbers k ≡ true

@@ -1,8 +1,0 @@
-use Rattle.std.proofs.Common.{◌≡◌, take}
-use Rattle.std.specs.Prelude.{flat_map}
-use Rattle.il_rules.specs.Declarations.{argument_name_numbers}
-use Rattle.il_declare.specs.Places.{lowest_at}
-use Rattle.il_declare.proofs.mentions.arguments_fault.Given as goal
-
-abbrev pub invariant-loop-argument : goal.invariant-loop-argument
-invariant-loop-argument l = l.found ≡ lowest_at (flat_map (argument_name_numbers l.here.config l.here.unit) (take l.argument-index l.arguments)) l.place

@@ -1,9 +1,0 @@
-use Rattle.std.proofs.Common.{◌≡◌, take}
-use Rattle.std.specs.Prelude.{flat_map}
-use Rattle.il_spec.specs.declared.tree.Operand.{Operand}
-use Rattle.il_rules.specs.Declarations.{reference_numbers, Reads}
-use Rattle.il_declare.specs.Places.{lowest_at}
-use Rattle.il_declare.proofs.mentions.operands_fault.Given as goal
-
-abbrev pub invariant-loop-operand : goal.invariant-loop-operand
-invariant-loop-operand l = l.found ≡ lowest_at (flat_map (λ (o : Operand). reference_numbers l.here.config l.here.unit Reads o.reference) (take l.operand-index l.operands)) l.place

@@ -1,8 +1,0 @@
-use Rattle.il_rules.specs.Least.{IsLeast, Below}
-use Rattle.il_spec.specs.declared.tree.Step.{Step}
-use Rattle.il_rules.specs.Declarations.{name_numbers}
-use Rattle.il_declare.specs.Places.{At}
-use Rattle.il_declare.proofs.mentions.steps_fault.Given as goal
-
-abbrev pub invariant-loop-step : goal.invariant-loop-step
-invariant-loop-step l = IsLeast l.found (Below (λ at. λ (s : Step). At (name_numbers l.here.config l.here.unit s.instruction) s.place) l.steps l.step-index)

@@ -1,6 +1,0 @@
-use Rattle.std.proofs.Common.{map, take}
-use Rattle.il_declare.specs.TaskRules.{IsSet}
-use Rattle.il_declare.proofs.sets.task_names.Given as goal
-
-abbrev pub invariant-loop-task : goal.invariant-loop-task
-invariant-loop-task l = IsSet (map (λ t. t.name.name) (take l.task-index l.tasks)) l.set

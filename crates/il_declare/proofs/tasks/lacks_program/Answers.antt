@@ -1,5 +1,0 @@
-use Rattle.il_declare.proofs.TaskLaws.{no_program}
-use Rattle.il_declare.proofs.tasks.lacks_program.Goals as goal
-
-pub returns : goal.returns
-returns c = no_program c.args.names.now c.args.line.now.program.name c.as_str.result.now c.program.result c.is_none.result c.program.ensures c.as_str.ensures c.is_none.ensures

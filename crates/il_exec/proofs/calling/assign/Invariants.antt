@@ -1,8 +1,0 @@
-use Rattle.std.proofs.Common.{◌≡◌, drop}
-use Rattle.il_layout.specs.Layout.{rows}
-use Rattle.il_exec.specs.Going.{assigned}
-use Rattle.il_exec.proofs.calling.assign.Given as goal
-
--- what is left leads where all inputs lead
-abbrev pub invariant-loop-input : goal.invariant-loop-input
-invariant-loop-input l = assigned (drop l.input-index l.inputs) (rows l.numbers l.flags) l.base ≡ assigned l.inputs (rows l.initial.numbers l.initial.flags) l.base

@@ -1,5 +1,0 @@
-use Rattle.il_grammar_laws.proofs.Spelled.{spelled_places}
-use Rattle.il_grammar_laws.proofs.places_are_in_the_text.Goals as goal
-
-pub returns : goal.returns
-returns k = spelled_places

@@ -1,7 +1,0 @@
-use Rattle.std.proofs.Common.{◌≡◌, ◌≤◌}
-use Rattle.il_layout.specs.Making.{sizes_to}
-use Rattle.il_layout.proofs.sizes.block_sizes.Given as goal
-
--- sizes so many deep
-abbrev pub invariant-loop : goal.invariant-loop
-invariant-loop l = (l.counter ≤ 16) × (l.sizes ≡ sizes_to l.counter l.lists)

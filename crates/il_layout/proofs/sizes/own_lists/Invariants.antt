@@ -1,8 +1,0 @@
-use Rattle.std.proofs.Common.{◌≡◌, ◌++◌, map, drop}
-use Rattle.il_run.specs.Meaning.{own_entities}
-use Rattle.il_layout.specs.Making.{shown}
-use Rattle.il_layout.proofs.sizes.own_lists.Given as goal
-
--- the lists so far, with those that are left, are all
-abbrev pub invariant-loop-unit : goal.invariant-loop-unit
-invariant-loop-unit l = l.lists ++ map (λ u. map (shown l.names) (own_entities u)) (drop l.unit-index l.units) ≡ map (λ u. map (shown l.names) (own_entities u)) l.units

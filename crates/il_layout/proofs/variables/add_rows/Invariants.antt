@@ -1,9 +1,0 @@
-use Rattle.std.proofs.Common.{◌≡◌, map, drop}
-use Rattle.std.specs.Prelude.{flat_map}
-use Rattle.il_scope.specs.Images.{named}
-use Rattle.il_layout.specs.Making.{seen_entry, added}
-use Rattle.il_layout.proofs.variables.add_rows.Given as goal
-
--- what is there, with what is left, is all
-abbrev pub invariant-all : goal.invariant-all
-invariant-all l = added l.list (flat_map (seen_entry l.role l.part) (map (named l.names) (drop l.row-index l.rows))) ≡ added l.initial.list (flat_map (seen_entry l.role l.part) (map (named l.names) l.rows))

@@ -1,5 +1,0 @@
-use Rattle.std.proofs.Common.{rules}
-use Rattle.il_machine.proofs.rows.copy_to_front.Goals as goal
-
-pub returns : goal.returns
-returns g c = search rules

@@ -1,6 +1,0 @@
-use Rattle.std.proofs.Common.{◌≡◌, ℕ, ◌<◌}
-use Rattle.il_machine.specs.Scanning.{value_at}
-use Rattle.il_machine.proofs.scanned.same_by_slots.Given as goal
-
-abbrev pub invariant-loop-slot : goal.invariant-loop-slot
-invariant-loop-slot l = (k : ℕ) → k < l.slot → value_at l.cells l.rows k ≡ value_at l.cells l.others k

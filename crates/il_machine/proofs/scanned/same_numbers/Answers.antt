@@ -1,6 +1,0 @@
-use Rattle.std.proofs.lemmas.Bool.Decides.{Decides-int_eq}
-use Rattle.std.proofs.lemmas.Slice.Eq.{slice_eq-Decides}
-use Rattle.il_machine.proofs.scanned.same_numbers.Goals as goal
-
-pub returns : goal.returns
-returns c = slice_eq-Decides Decides-int_eq c.args.numbers.now c.args.others.now c.eq.result c.eq.ensures

@@ -1,9 +1,0 @@
-use Rattle.std.proofs.Common.{Some, None}
-use Rattle.il_machine.proofs.Bases.{base_cut}
-use Rattle.il_machine.proofs.sharing.base_name.Goals as goal
-
-pub returns-in-Some : goal.returns-in-Some
-returns-in-Some c = base_cut c.args.path.now (Some (c.in-Some.name, c.in-Some.field-0-1)) c.in-Some.ensures.cases
-
-pub returns-in-None : goal.returns-in-None
-returns-in-None c = base_cut c.args.path.now None c.in-None.ensures.cases

@@ -1,7 +1,0 @@
-use Rattle.std.proofs.Common.{subst}
-use Rattle.il_machine.specs.Standing.{Standing}
-use Rattle.il_machine.specs.Starting.{FitsTask}
-use Rattle.il_machine.proofs.store.Store.into_parts.Goals as goal
-
-pub returns-clause-room : goal.returns-clause-room
-returns-clause-room c = subst (λ (s : Standing). FitsTask s.config c.self.inside.task c.self.inside.first) c.self.view_is c.self.invariant.2

@@ -1,6 +1,0 @@
-use Rattle.std.proofs.Common.{ap, ◌∙◌}
-use Rattle.il_layout.specs.Program.{global_cells}
-use Rattle.il_machine.proofs.verified.Verified.global_code.Goals as goal
-
-pub returns-clause-cells : goal.returns-clause-cells
-returns-clause-cells c = c.globals.ensures.is.cells ∙ ap global_cells c.code.ensures.same

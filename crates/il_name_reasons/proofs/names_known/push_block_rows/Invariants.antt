@@ -1,7 +1,0 @@
-use Rattle.std.proofs.Common.{◌≡◌, ◌++◌, map, take}
-use Rattle.il_name_reasons.specs.NamesNear.{candidate_shown, predeclared_name}
-use Rattle.il_rules.specs.declared.standard.NamedBlock.{NamedBlock}
-use Rattle.il_name_reasons.proofs.names_known.push_block_rows.Given as goal
-
-abbrev pub invariant-rows : goal.invariant-rows
-invariant-rows l = map candidate_shown l.candidates.items ≡ map candidate_shown l.initial.candidates.items ++ map (λ (b : NamedBlock). predeclared_name b.name.now) (take l.row-index l.rows)

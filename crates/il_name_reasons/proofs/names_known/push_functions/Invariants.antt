@@ -1,7 +1,0 @@
-use Rattle.std.proofs.Common.{◌≡◌, ◌++◌, map, flat_map, take}
-use Rattle.il_name_reasons.specs.NamesNear.{candidate_shown}
-use Rattle.il_name_reasons.specs.NamesKnown.{own_function}
-use Rattle.il_name_reasons.proofs.names_known.push_functions.Given as goal
-
-abbrev pub invariant-units : goal.invariant-units
-invariant-units l = map candidate_shown l.candidates.items ≡ map candidate_shown l.initial.candidates.items ++ flat_map own_function (take l.unit-index l.units)

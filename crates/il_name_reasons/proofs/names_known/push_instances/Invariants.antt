@@ -1,7 +1,0 @@
-use Rattle.std.proofs.Common.{◌≡◌, ◌++◌, map, flat_map, take}
-use Rattle.il_name_reasons.specs.NamesNear.{candidate_shown}
-use Rattle.il_name_reasons.specs.NamesKnown.{declared_instances}
-use Rattle.il_name_reasons.proofs.names_known.push_instances.Given as goal
-
-abbrev pub invariant-declarations : goal.invariant-declarations
-invariant-declarations l = map candidate_shown l.candidates.items ≡ map candidate_shown l.initial.candidates.items ++ flat_map declared_instances (take l.declaration-index l.declarations)

@@ -1,6 +1,0 @@
-use Rattle.std.proofs.Common.{◌≡◌, ◌++◌, map, take}
-use Rattle.il_name_reasons.specs.NamesNear.{candidate_shown, declared_name}
-use Rattle.il_name_reasons.proofs.names_known.push_names.Given as goal
-
-abbrev pub invariant-names : goal.invariant-names
-invariant-names l = map candidate_shown l.candidates.items ≡ map candidate_shown l.initial.candidates.items ++ map declared_name (take l.named-index l.names)

@@ -1,7 +1,0 @@
-use Rattle.std.proofs.Common.{ap, ◌∙◌, option_map}
-use Rattle.il_name_reasons.specs.NameSpots.{spot_shown, is_at}
-use Rattle.il_name_reasons.proofs.Spots.{spot_found}
-use Rattle.il_name_reasons.proofs.names_spots.named_at.Goals as goal
-
-pub returns : goal.returns
-returns c = ap (option_map spot_shown) c.find_at.ensures ∙ spot_found (λ n. is_at n.place c.args.place) c.args.spots.now

@@ -1,7 +1,0 @@
-use Rattle.std.proofs.Common.{◌≡◌, ◌++◌, take, flat_map}
-use Rattle.il_spec.specs.declared.tree.Step.{Step}
-use Rattle.il_name_reasons.specs.NameSpots.{shown}
-use Rattle.il_name_reasons.proofs.names_spots.push_labels.Given as goal
-
-abbrev pub invariant-steps : goal.invariant-steps
-invariant-steps l = shown l.spots.items ≡ shown l.initial.spots.items ++ flat_map (λ (s : Step). s.labels) (take l.step-index l.steps)

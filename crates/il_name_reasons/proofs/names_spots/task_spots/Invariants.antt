@@ -1,6 +1,0 @@
-use Rattle.std.proofs.Common.{◌≡◌, take, map}
-use Rattle.il_name_reasons.specs.NameSpots.{shown, task_name}
-use Rattle.il_name_reasons.proofs.names_spots.task_spots.Given as goal
-
-abbrev pub invariant-tasks : goal.invariant-tasks
-invariant-tasks l = shown l.spots.items ≡ map task_name (take l.task-index l.tasks)

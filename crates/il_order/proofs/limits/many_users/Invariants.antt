@@ -1,9 +1,0 @@
-use Rattle.std.proofs.Common.{◌≡◌, ◌≤◌, ◌<◌, ◌++◌, ◌&&◌, ◌||◌, drop}
-use Rattle.std.specs.Prelude.{not, nat_eq, nat_lt}
-use Rattle.il_order.specs.Related.{tabulate, any_below, is_set, holds}
-use Rattle.il_order.specs.Used.{is_among}
-use Rattle.il_order.specs.Bounded.{count_below, is_left, uses_made, uses_many, is_used_by_few, reached_of, named_of}
-use Rattle.il_order.proofs.limits.many_users.Given as goal
-
-abbrev pub invariant-loop-unit : goal.invariant-loop-unit
-invariant-loop-unit l = l.row ≡ tabulate l.unit (λ u. uses_many l.made l.most u)

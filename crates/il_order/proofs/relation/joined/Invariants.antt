@@ -1,6 +1,0 @@
-use Rattle.std.proofs.Common.{◌≡◌}
-use Rattle.il_order.specs.Related.{tabulate, joined_row}
-use Rattle.il_order.proofs.relation.joined.Given as goal
-
-abbrev pub invariant-loop-from : goal.invariant-loop-from
-invariant-loop-from l = l.rows ≡ tabulate l.from (λ k. joined_row l.count l.relation l.through k)

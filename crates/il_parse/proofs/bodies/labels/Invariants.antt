@@ -1,9 +1,0 @@
-use Rattle.std.proofs.Common.{length, ◌≤◌}
-use Rattle.il_parse.proofs.Labels.{Behind}
-use Rattle.il_parse.proofs.bodies.labels.Given as goal
-
-abbrev pub invariant-labels : goal.invariant-labels
-invariant-labels l = (length l.tokens ≤ length l.fn.tokens) × Behind l.source l.fn.tokens l.labels l.tokens
-
-abbrev pub decreases-labels : goal.decreases-labels
-decreases-labels l = length l.tokens

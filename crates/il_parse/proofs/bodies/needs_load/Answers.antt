@@ -1,5 +1,0 @@
-use Rattle.std.proofs.Common.{rules}
-use Rattle.il_parse.proofs.bodies.needs_load.Goals as goal
-
-pub returns-in-Defer-default-None : goal.returns-in-Defer-default-None
-returns-in-Defer-default-None c = search rules

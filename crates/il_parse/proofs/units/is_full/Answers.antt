@@ -1,8 +1,0 @@
-use Rattle.std.proofs.Common.{rules}
-use Rattle.il_parse.proofs.units.is_full.Goals as goal
-
-pub returns-clause-yes : goal.returns-clause-yes
-returns-clause-yes c = search rules
-
-pub returns-clause-no : goal.returns-clause-no
-returns-clause-no c = search rules

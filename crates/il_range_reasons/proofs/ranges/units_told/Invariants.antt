@@ -1,7 +1,0 @@
-use Rattle.std.proofs.Common.{take, string_bytes}
-use Rattle.il_range_reasons.specs.RangeReasons.{AreUnitsTold}
-use Rattle.il_range_reasons.proofs.ranges.units_told.Given as goal
-
--- the units so far
-abbrev pub invariant-units : goal.invariant-units
-invariant-units l = AreUnitsTold l.names l.fault l.place (take l.at l.names.units) (string_bytes l.text)

@@ -1,5 +1,0 @@
-use Rattle.std.proofs.Common.{rules}
-use Rattle.il_read.proofs.tokens.Tokens.ahead.Goals as goal
-
-pub returns : goal.returns
-returns c = search rules

@@ -1,5 +1,0 @@
-use Rattle.std.proofs.Common.{length}
-use Rattle.il_reasons.proofs.chain_uses.+put_uses.Given as goal
-
-abbrev pub decreases-put_uses : goal.decreases-put_uses
-decreases-put_uses l = length l.between.now

@@ -1,7 +1,0 @@
-use Rattle.std.proofs.Common.{◌≡◌, drop}
-use Rattle.il_reasons.specs.ChainReasons.{instance_line}
-use Rattle.il_reasons.proofs.chain_uses.instance_line.Given as goal
-
--- what is left answers for all
-abbrev pub invariant-loop-declaration : goal.invariant-loop-declaration
-invariant-loop-declaration l = instance_line l.names l.to (drop l.declaration-index l.declarations) ≡ instance_line l.names l.to l.declarations

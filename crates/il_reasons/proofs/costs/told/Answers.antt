@@ -1,8 +1,0 @@
-use Rattle.std.proofs.Common.{ap, ◌∙◌}
-use Rattle.il_verify.specs.Rounds.{rounds}
-use Rattle.il_reasons.specs.CostReasons.{costs_of}
-use Rattle.il_reasons.proofs.costs.told.Goals as goal
-
-pub put_units-requires-clause-costs : goal.put_units-requires-clause-costs
-unfolding costs_of
-put_units-requires-clause-costs c = c.in_ok-costs.ensures ∙ ap (rounds 16) c.in_ok-all.ensures

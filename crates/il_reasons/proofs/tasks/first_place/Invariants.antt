@@ -1,6 +1,0 @@
-use Rattle.std.proofs.Common.{◌≡◌, drop}
-use Rattle.il_reasons.specs.TaskReasons.{first_place}
-use Rattle.il_reasons.proofs.tasks.first_place.Given as goal
-
-abbrev pub invariant-lines : goal.invariant-lines
-invariant-lines l = first_place (drop l.line-index l.lines) l.task ≡ first_place l.lines l.task

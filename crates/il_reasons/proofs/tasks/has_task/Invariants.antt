@@ -1,7 +1,0 @@
-use Rattle.std.proofs.Common.{◌≡◌, map, drop}
-use Rattle.il_spec.specs.declared.tree.Task.{Task}
-use Rattle.il_rules.specs.Names.{is_one_of}
-use Rattle.il_reasons.proofs.tasks.has_task.Given as goal
-
-abbrev pub invariant-tasks : goal.invariant-tasks
-invariant-tasks l = is_one_of (map (λ (t : Task). t.name.name) (drop l.task-index l.tasks)) l.name ≡ is_one_of (map (λ (t : Task). t.name.name) l.tasks) l.name

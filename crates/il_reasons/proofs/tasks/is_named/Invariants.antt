@@ -1,7 +1,0 @@
-use Rattle.std.proofs.Common.{◌≡◌, map, drop}
-use Rattle.il_spec.specs.declared.tree.ProgramLine.{ProgramLine}
-use Rattle.il_rules.specs.Names.{is_one_of}
-use Rattle.il_reasons.proofs.tasks.is_named.Given as goal
-
-abbrev pub invariant-lines : goal.invariant-lines
-invariant-lines l = is_one_of (map (λ (p : ProgramLine). p.program.name) (drop l.line-index l.lines)) l.program ≡ is_one_of (map (λ (p : ProgramLine). p.program.name) l.lines) l.program

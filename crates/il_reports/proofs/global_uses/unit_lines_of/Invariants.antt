@@ -1,6 +1,0 @@
-use Rattle.std.proofs.Common.{◌≡◌, take}
-use Rattle.il_reports.proofs.global_uses.unit_lines_of.Given as goal
-
--- the lines so far
-abbrev pub invariant-lines : goal.invariant-lines
-invariant-lines l = l.lines ≡ take l.line-index l.used

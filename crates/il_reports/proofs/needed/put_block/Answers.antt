@@ -1,9 +1,0 @@
-use Rattle.std.proofs.Common.{true, ap, ◌∙◌}
-use Rattle.std.proofs.lemmas.Result.{on_ok_weaker}
-use Rattle.il_table.specs.NameMap.{insert}
-use Rattle.il_reports.proofs.WarningTables.{block_put}
-use Rattle.il_reports.proofs.needed.put_block.Goals as goal
-
-pub returns-in-Block : goal.returns-in-Block
-returns-in-Block c =
-    on_ok_weaker c.put.result (λ put. block_put c.args.table.now c.put.new.self c.args.form.now c.in-Block.block c.in-Block.is (put ∙ ap (λ name. insert c.args.table.now name true) c.as_str.ensures)) c.put.ensures.ok

@@ -1,9 +1,0 @@
-use Rattle.std.proofs.Common.{◌≡◌, length}
-use Rattle.il_reports.specs.Uses.{arguments_uses}
-use Rattle.il_reports.proofs.uses.first_of_arguments.Given as goal
-
-abbrev pub invariant-arguments : goal.invariant-arguments
-invariant-arguments l = arguments_uses l.left ≡ arguments_uses l.arguments
-
-abbrev pub decreases-arguments : goal.decreases-arguments
-decreases-arguments l = length l.left

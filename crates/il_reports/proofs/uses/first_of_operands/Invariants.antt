@@ -1,9 +1,0 @@
-use Rattle.std.proofs.Common.{◌≡◌, length}
-use Rattle.il_reports.specs.Uses.{operands_uses}
-use Rattle.il_reports.proofs.uses.first_of_operands.Given as goal
-
-abbrev pub invariant-operands : goal.invariant-operands
-invariant-operands l = operands_uses l.left ≡ operands_uses l.operands
-
-abbrev pub decreases-operands : goal.decreases-operands
-decreases-operands l = length l.left

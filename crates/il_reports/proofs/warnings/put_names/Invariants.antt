@@ -1,7 +1,0 @@
-use Rattle.std.proofs.Common.{◌≡◌, ◌++◌, flat_map, string_bytes}
-use Rattle.il_reports.specs.Names.{names_left}
-use Rattle.il_reports.specs.Warnings.{name_text, names_text}
-use Rattle.il_reports.proofs.warnings.put_names.Given as goal
-
-abbrev pub invariant-names : goal.invariant-names
-invariant-names l = string_bytes l.text ++ flat_map (name_text l.origin l.uses.unit.now.body.steps) (names_left l.name-iterator) ≡ string_bytes l.initial.text ++ names_text l.origin l.uses.unit.now.body.steps l.declarations

@@ -1,6 +1,0 @@
-use Rattle.std.proofs.Common.{◌≡◌, ◌++◌, take}
-use Rattle.il_reports.specs.Xref.{line_tokens}
-use Rattle.il_reports.proofs.xref.add_each_line.Given as goal
-
-abbrev pub invariant-lines : goal.invariant-lines
-invariant-lines l = l.object ≡ l.initial.object ++ line_tokens (take l.line-index l.lines)

@@ -1,8 +1,0 @@
-use Rattle.std.proofs.Common.{◌≡◌, ◌++◌, flat_map, string_bytes}
-use Rattle.il_reports.specs.Uses.{uses_left}
-use Rattle.il_reports.specs.Xref.{other_row, other_rows}
-use Rattle.il_reports.proofs.Seen.{unseen}
-use Rattle.il_reports.proofs.xref.put_others.Given as goal
-
-abbrev pub invariant-uses : goal.invariant-uses
-invariant-uses l = string_bytes l.text ++ flat_map (other_row l.form l.unit.unit.now.body.steps) (unseen l.seen (uses_left l.used-iterator)) ≡ string_bytes l.initial.text ++ other_rows l.form l.unit.unit.now

@@ -1,6 +1,0 @@
-use Rattle.std.proofs.Common.{◌≡◌, ◌++◌, flat_map, take, string_bytes}
-use Rattle.il_reports.specs.Xref.{program_row}
-use Rattle.il_reports.proofs.xref.put_program_rows.Given as goal
-
-abbrev pub invariant-lines : goal.invariant-lines
-invariant-lines l = string_bytes l.text ≡ string_bytes l.initial.text ++ flat_map (program_row l.form) (take l.line-index l.programs)

@@ -1,6 +1,0 @@
-use Rattle.std.proofs.Common.{◌≡◌, ◌++◌, flat_map, take, string_bytes}
-use Rattle.il_reports.specs.Xref.{unit_rows}
-use Rattle.il_reports.proofs.xref.put_units.Given as goal
-
-abbrev pub invariant-units : goal.invariant-units
-invariant-units l = string_bytes l.text ≡ string_bytes l.initial.text ++ flat_map (unit_rows l.form) (take l.unit-index l.units)

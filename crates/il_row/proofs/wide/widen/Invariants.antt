@@ -1,6 +1,0 @@
-use Rattle.std.proofs.Common.{◌≡◌, ◌≤◌, length, take, vec_capacity}
-use Rattle.il_row.specs.Ranges.{widened}
-use Rattle.il_row.proofs.wide.widen.Given as goal
-
-abbrev pub invariant-loop-number : goal.invariant-loop-number
-invariant-loop-number l = record { is : l.wide.items ≡ take l.number (widened l.words); room : vec_capacity l.initial.wide ≤ vec_capacity l.wide; enough : length (widened l.words) ≤ vec_capacity l.initial.wide }

@@ -1,5 +1,0 @@
-use Rattle.il_rows.proofs.TypeRows.{two_writers-row}
-use Rattle.il_rows.proofs.globals_have_one_writer.Goals as goal
-
-pub returns : goal.returns
-returns k = two_writers-row

@@ -1,5 +1,0 @@
-use Rattle.il_rows.proofs.TypeRows.{written_input-row}
-use Rattle.il_rows.proofs.inputs_are_not_written.Goals as goal
-
-pub returns : goal.returns
-returns k = written_input-row

@@ -1,5 +1,0 @@
-use Rattle.il_rows.proofs.TypeRows.{behind_return-row}
-use Rattle.il_rows.proofs.instructions_are_reached.Goals as goal
-
-pub returns : goal.returns
-returns k = behind_return-row

@@ -1,5 +1,0 @@
-use Rattle.il_rows.proofs.TypeRows.{unknown_label-row}
-use Rattle.il_rows.proofs.labels_are_known.Goals as goal
-
-pub returns : goal.returns
-returns k = unknown_label-row

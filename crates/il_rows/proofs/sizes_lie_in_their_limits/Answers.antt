@@ -1,5 +1,0 @@
-use Rattle.il_rows.proofs.DeclarationRows.{no_cars-row}
-use Rattle.il_rows.proofs.sizes_lie_in_their_limits.Goals as goal
-
-pub returns : goal.returns
-returns k = no_cars-row

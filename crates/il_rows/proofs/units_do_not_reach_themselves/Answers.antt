@@ -1,5 +1,0 @@
-use Rattle.il_rows.proofs.FirstRows.{calls_itself-first}
-use Rattle.il_rows.proofs.units_do_not_reach_themselves.Goals as goal
-
-pub returns : goal.returns
-returns k = calls_itself-first

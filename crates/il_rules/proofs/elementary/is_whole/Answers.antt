@@ -1,5 +1,0 @@
-use Rattle.std.proofs.Common.{rules}
-use Rattle.il_rules.proofs.elementary.is_whole.Goals as goal
-
-pub returns : goal.returns
-returns c = search rules

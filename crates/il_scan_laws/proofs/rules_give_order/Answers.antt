@@ -1,5 +1,0 @@
-use Rattle.il_scan_laws.proofs.rules_give_order.Goals as goal
-use Rattle.il_scan_laws.proofs.Premises.{in_order}
-
-pub returns : goal.returns
-returns c = in_order

@@ -1,5 +1,0 @@
-use Rattle.il_scan_laws.proofs.scans_are_sound.Goals as goal
-use Rattle.il_scan_laws.proofs.Scanning.{scans_sound}
-
-pub returns : goal.returns
-returns c = scans_sound

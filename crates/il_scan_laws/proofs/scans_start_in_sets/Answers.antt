@@ -1,5 +1,0 @@
-use Rattle.il_scan_laws.proofs.scans_start_in_sets.Goals as goal
-use Rattle.il_scan_laws.proofs.Starting.{starts_in_sets}
-
-pub returns : goal.returns
-returns c = starts_in_sets

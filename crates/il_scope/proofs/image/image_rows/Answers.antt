@@ -1,5 +1,0 @@
-use Rattle.std.proofs.Common.{refl}
-use Rattle.il_scope.proofs.image.image_rows.Goals as goal
-
-pub returns : goal.returns
-returns c config = refl

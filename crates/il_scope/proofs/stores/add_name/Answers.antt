@@ -1,5 +1,0 @@
-use Rattle.il_scope.proofs.Stored.{name_more}
-use Rattle.il_scope.proofs.stores.add_name.Goals as goal
-
-pub returns : goal.returns
-returns c = name_more c.args.stored.now c.put_new.new.self c.args.name.now c.in_ok-put_new.ensures.ok

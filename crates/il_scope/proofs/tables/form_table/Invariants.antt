@@ -1,6 +1,0 @@
-use Rattle.std.proofs.Common.{take}
-use Rattle.il_scope.specs.Tables.{HasForms}
-use Rattle.il_scope.proofs.tables.form_table.Given as goal
-
-abbrev pub invariant-loop-declaration : goal.invariant-loop-declaration
-invariant-loop-declaration l = HasForms l.config (take l.declaration-index l.declarations) l.table

@@ -1,6 +1,0 @@
-use Rattle.std.proofs.Common.{take}
-use Rattle.il_scope.specs.Tables.{HasList}
-use Rattle.il_scope.proofs.tables.put_list.Given as goal
-
-abbrev pub invariant-loop-declaration : goal.invariant-loop-declaration
-invariant-loop-declaration l = HasList l.config l.origin (take l.declaration-index l.declarations) l.fn.own l.own

@@ -1,6 +1,0 @@
-use Rattle.std.proofs.Common.{take}
-use Rattle.il_scope.specs.Tables.{HasNames}
-use Rattle.il_scope.proofs.tables.put_names.Given as goal
-
-abbrev pub invariant-loop-named : goal.invariant-loop-named
-invariant-loop-named g l = HasNames (take l.named-index l.names) l.value l.fn.table l.table

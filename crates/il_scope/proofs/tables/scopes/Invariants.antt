@@ -1,6 +1,0 @@
-use Rattle.std.proofs.Common.{take}
-use Rattle.il_scope.specs.Tables.{AreScopes}
-use Rattle.il_scope.proofs.tables.scopes.Given as goal
-
-abbrev pub invariant-loop-unit : goal.invariant-loop-unit
-invariant-loop-unit l = AreScopes l.config (take l.unit-index l.unit-items) l.scopes

@@ -1,8 +1,0 @@
-use Rattle.std.proofs.Common.{◌≡◌, map, take}
-use Rattle.il_rules.specs.Names.{Spelling}
-use Rattle.il_table.specs.NameMap.{get}
-use Rattle.il_scope.specs.Views.{place_of}
-use Rattle.il_scope.proofs.tables.unit_table.Given as goal
-
-abbrev pub invariant-loop-index : goal.invariant-loop-index
-invariant-loop-index l = (q : Spelling) → get l.table q ≡ place_of (map (λ u. u.name.name) (take l.index l.units)) q

@@ -1,5 +1,0 @@
-use Rattle.std.proofs.Common.{rules}
-use Rattle.il_snapshot.proofs.opening.opening_image.Goals as goal
-
-pub returns : goal.returns
-returns c = search rules

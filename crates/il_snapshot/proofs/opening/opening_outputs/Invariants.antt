@@ -1,6 +1,0 @@
-use Rattle.std.proofs.Common.{◌≡◌, replicate}
-use Rattle.lift_spec.specs.Image.{opening_outputs}
-use Rattle.il_snapshot.proofs.opening.opening_outputs.Given as goal
-
-abbrev pub invariant-loop : goal.invariant-loop
-invariant-loop l = l.outputs ≡ replicate l.counter opening_outputs

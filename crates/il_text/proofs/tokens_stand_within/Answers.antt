@@ -1,5 +1,0 @@
-use Rattle.il_text.proofs.Steps.{tokens_within}
-use Rattle.il_text.proofs.tokens_stand_within.Goals as goal
-
-pub returns : goal.returns
-returns c = λ text ts h. tokens_within text 0 ts h

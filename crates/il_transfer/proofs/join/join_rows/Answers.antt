@@ -1,6 +1,0 @@
-use Rattle.std.proofs.Common.{◌∙◌}
-use Rattle.il_transfer.proofs.Joins.{row_joined_is}
-use Rattle.il_transfer.proofs.join.join_rows.Goals as goal
-
-pub returns : goal.returns
-returns c = c.join.ensures ∙ row_joined_is c.args.row.now c.args.other.now

@@ -1,5 +1,0 @@
-use Rattle.il_typed.proofs.Units.{least_all}
-use Rattle.il_typed.proofs.answer.types_fault.Goals as goal
-
-pub returns : goal.returns
-returns c = least_all c.args.names.now c.in_ok-units.units c.in_ok-writers.writers c.earlier.result c.in_ok-units.ensures c.in_ok-writers.ensures c.earlier.ensures

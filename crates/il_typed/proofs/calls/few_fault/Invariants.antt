@@ -1,8 +1,0 @@
-use Rattle.std.proofs.Common.{◌≡◌, [], take, Some}
-use Rattle.il_rules.specs.Names.{BlockVariables}
-use Rattle.il_rules.specs.Types.{arguments_numbers, instance_block}
-use Rattle.il_rules.specs.Lowest.{lowest}
-use Rattle.il_typed.proofs.calls.few_fault.Given as goal
-
-abbrev pub invariant-loop-at : goal.invariant-loop-at
-invariant-loop-at g l = (block : BlockVariables) → instance_block (g.S.Scope.config l.scope) (g.S.Scope.unit l.scope) l.instance ≡ Some block → l.fault ≡ lowest (arguments_numbers (g.S.Scope.config l.scope) (g.S.Scope.unit l.scope) block [] (take l.at l.arguments))

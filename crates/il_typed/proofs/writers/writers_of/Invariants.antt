@@ -1,5 +1,0 @@
-use Rattle.il_typed.specs.Writers.{AreWriters}
-use Rattle.il_typed.proofs.writers.writers_of.Given as goal
-
-abbrev pub invariant-loop-line : goal.invariant-loop-line
-invariant-loop-line l = AreWriters l.names l.line l.writers

@@ -1,6 +1,0 @@
-use Rattle.std.proofs.Common.{subst}
-use Rattle.il_run.specs.Annotation.{Annotated}
-use Rattle.il_verify.proofs.container.Checked.code.Goals as goal
-
-pub returns-clause-annotated : goal.returns-clause-annotated
-returns-clause-annotated c = subst Annotated c.self.view_is c.self.invariant

@@ -1,4 +1,0 @@
-use Rattle.il_verify.proofs.costing.with_paths.Goals as goal
-
-pub returns-clause-units : goal.returns-clause-units
-returns-clause-units c = c.requires.exact.greatest

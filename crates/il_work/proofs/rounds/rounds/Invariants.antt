@@ -1,6 +1,0 @@
-use Rattle.std.proofs.Common.{◌≡◌}
-use Rattle.il_work.specs.Rounds.{rounds}
-use Rattle.il_work.proofs.rounds.rounds.Given as goal
-
-abbrev pub invariant-rounds : goal.invariant-rounds
-invariant-rounds l = l.works ≡ rounds l._round l.all

@@ -1,7 +1,0 @@
-use Rattle.std.proofs.Common.{◌≡◌, drop}
-use Rattle.il_work.specs.Sizes.{with_declared}
-use Rattle.il_work.proofs.sizes.with_declared.Given as goal
-
--- the declarations that are left complete the sum
-abbrev pub invariant-declarations : goal.invariant-declarations
-invariant-declarations l = with_declared l.all (drop l.declaration-index l.declarations) ≡ with_declared l.total l.declarations

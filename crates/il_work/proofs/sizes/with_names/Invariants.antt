@@ -1,7 +1,0 @@
-use Rattle.std.proofs.Common.{◌≡◌, drop}
-use Rattle.il_work.specs.Sizes.{with_names}
-use Rattle.il_work.proofs.sizes.with_names.Given as goal
-
--- the names that are left complete the sum
-abbrev pub invariant-names : goal.invariant-names
-invariant-names l = with_names l.all l.size (drop l._name-index l.names) ≡ with_names l.total l.size l.names

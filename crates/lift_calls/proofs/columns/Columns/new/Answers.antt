@@ -1,5 +1,0 @@
-use Rattle.lift_calls.proofs.Four.{all_free}
-use Rattle.lift_calls.proofs.columns.Columns.new.Goals as goal
-
-pub returns : goal.returns
-returns c = all_free c.args.count c.requires

@@ -1,9 +1,0 @@
-//! The calls of a lift group: the slots that they enter, and the tickets under which they stand there.
-#![tactic(auto)]
-
-pub mod book;
-pub mod columns;
-
-pub use lift_spec::calls::{Answer, Call, Entering, Slot};
-pub use lift_spec::hand::Hand;
-pub use lift_spec::image::Sizes;

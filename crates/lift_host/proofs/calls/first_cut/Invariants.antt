@@ -1,8 +1,0 @@
-use Rattle.std.proofs.Common.{◌≡◌, ◌+◌, drop}
-use Rattle.std.specs.List.{position_or_len}
-use Rattle.lift_host.specs.CallsFile.{is_cut}
-use Rattle.lift_host.proofs.calls.first_cut.Given as goal
-
--- the bytes that are left tell
-abbrev pub invariant-bytes : goal.invariant-bytes
-invariant-bytes l = (l.place ≡ l.byte-index) × (position_or_len (is_cut l.cut) l.text ≡ l.place + position_or_len (is_cut l.cut) (drop l.byte-index l.text))

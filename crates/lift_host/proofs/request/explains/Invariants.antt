@@ -1,7 +1,0 @@
-use Rattle.std.proofs.Common.{◌≡◌, drop, map, string_bytes}
-use Rattle.lift_host.specs.Requests.{explains}
-use Rattle.lift_host.proofs.request.explains.Given as goal
-
--- the words that are left tell
-abbrev pub invariant-words : goal.invariant-words
-invariant-words l = explains (map string_bytes l.words) ≡ explains (map string_bytes (drop l.word-index l.words))

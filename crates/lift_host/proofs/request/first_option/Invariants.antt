@@ -1,8 +1,0 @@
-use Rattle.std.proofs.Common.{ℕ, List, ◌≡◌, ◌<◌, map}
-use Rattle.std.specs.Prelude.{slice_get, Some, string_bytes}
-use Rattle.lift_host.specs.Requests.{IsOption}
-use Rattle.lift_host.proofs.request.first_option.Given as goal
-
--- none of the words so far
-abbrev pub invariant-words : goal.invariant-words
-invariant-words l = (l.place ≡ l.word-index) × ((k : ℕ) (word : List ℕ) → k < l.word-index → slice_get (map string_bytes l.words) k ≡ Some word → IsOption word → ⊥)

@@ -1,7 +1,0 @@
-use Rattle.std.proofs.Common.{◌≡◌, drop, map, string_bytes}
-use Rattle.lift_host.specs.Requests.{own_second}
-use Rattle.lift_host.proofs.request.own_second.Given as goal
-
--- the words that are left tell
-abbrev pub invariant-words : goal.invariant-words
-invariant-words l = own_second (map string_bytes l.words) ≡ own_second (map string_bytes (drop l.word-index l.words))

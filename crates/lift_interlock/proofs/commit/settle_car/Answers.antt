@@ -1,7 +1,0 @@
-use Rattle.std.proofs.Common.{rules}
-use Rattle.lift_spec.specs.Settle.{settled_car}
-use Rattle.lift_interlock.proofs.commit.settle_car.Goals as goal
-
-pub returns : goal.returns
-unfolding settled_car
-returns c = search rules

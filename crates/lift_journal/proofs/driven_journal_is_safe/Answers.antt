@@ -1,5 +1,0 @@
-use Rattle.lift_journal.proofs.Driven.{driven_journal_is_safe}
-use Rattle.lift_journal.proofs.driven_journal_is_safe.Goals as goal
-
-pub returns : goal.returns
-returns c = driven_journal_is_safe

@@ -1,7 +1,0 @@
-use Rattle.std.proofs.Common.{◌≡◌, drop}
-use Rattle.lift_journeys.specs.Logs.{all_told_by}
-use Rattle.lift_journeys.proofs.log.tell_all.Given as goal
-
--- those that are left lead to the same
-abbrev pub invariant-answers : goal.invariant-answers
-invariant-answers l = all_told_by l.round (drop l.answered-index l.answers) l.journeys ≡ all_told_by l.round l.answers l.initial.journeys

@@ -1,8 +1,0 @@
-use Rattle.std.proofs.Common.{◌≡◌, ◌≤◌, drop}
-use Rattle.std.specs.Prelude.{max}
-use Rattle.il_spec.specs.Grammar.{greatest_depth}
-use Rattle.lift_output.proofs.limits.greatest_depth.Given as goal
-
--- the instructions that are left complete the search
-abbrev pub invariant-steps : goal.invariant-steps
-invariant-steps l = (max l.greatest (greatest_depth l.depth (drop l.step-index l.steps)) ≡ greatest_depth 0 l.steps) × (l.depth ≤ l.step-index)

@@ -1,6 +1,0 @@
-use Rattle.std.proofs.Common.{◌≡◌, ◌++◌, string_bytes, take}
-use Rattle.lift_output.specs.Paths.{path_text}
-use Rattle.lift_output.proofs.path.put_path.Given as goal
-
-abbrev pub invariant-lines : goal.invariant-lines
-invariant-lines l = string_bytes l.text ≡ string_bytes l.initial.text ++ path_text (take l.line-index l.path)

@@ -1,5 +1,0 @@
-use Rattle.lift_plant.proofs.Safe.{safe_step}
-use Rattle.lift_plant.proofs.plant.step_is_safe.Goals as goal
-
-pub returns : goal.returns
-returns c = safe_step

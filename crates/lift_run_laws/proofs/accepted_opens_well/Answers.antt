@@ -1,5 +1,0 @@
-use Rattle.lift_run_laws.proofs.Accepted.{opens_well}
-use Rattle.lift_run_laws.proofs.accepted_opens_well.Goals as goal
-
-pub returns : goal.returns
-returns c = opens_well

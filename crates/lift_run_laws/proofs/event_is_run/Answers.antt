@@ -1,5 +1,0 @@
-use Rattle.lift_run_laws.proofs.Histories.{event_is_run}
-use Rattle.lift_run_laws.proofs.event_is_run.Goals as goal
-
-pub returns : goal.returns
-returns c = event_is_run

@@ -1,5 +1,0 @@
-use Rattle.lift_run_laws.proofs.Events.{event_leads}
-use Rattle.lift_run_laws.proofs.event_keeps.Goals as goal
-
-pub returns : goal.returns
-returns c = event_leads

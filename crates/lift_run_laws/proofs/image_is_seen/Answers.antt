@@ -1,5 +1,0 @@
-use Rattle.lift_run_laws.proofs.Seen.{image_is_seen}
-use Rattle.lift_run_laws.proofs.image_is_seen.Goals as goal
-
-pub returns : goal.returns
-returns c = image_is_seen

@@ -1,5 +1,0 @@
-use Rattle.lift_run_laws.proofs.Running.{opening_rests}
-use Rattle.lift_run_laws.proofs.opening_holds.Goals as goal
-
-pub returns : goal.returns
-returns c = opening_rests

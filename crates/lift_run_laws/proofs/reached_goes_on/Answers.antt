@@ -1,5 +1,0 @@
-use Rattle.lift_run_laws.proofs.Following.{goes_on}
-use Rattle.lift_run_laws.proofs.reached_goes_on.Goals as goal
-
-pub returns : goal.returns
-returns c = goes_on

@@ -1,5 +1,0 @@
-use Rattle.lift_run_laws.proofs.Running.{reached_world_holds}
-use Rattle.lift_run_laws.proofs.reached_holds.Goals as goal
-
-pub returns : goal.returns
-returns c = reached_world_holds

@@ -1,5 +1,0 @@
-use Rattle.lift_run_laws.proofs.Resting.{reached_rests as law}
-use Rattle.lift_run_laws.proofs.reached_rests.Goals as goal
-
-pub returns : goal.returns
-returns c = law

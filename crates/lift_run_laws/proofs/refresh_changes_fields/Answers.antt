@@ -1,5 +1,0 @@
-use Rattle.lift_run_laws.proofs.Fields.{fields_changed}
-use Rattle.lift_run_laws.proofs.refresh_changes_fields.Goals as goal
-
-pub returns : goal.returns
-returns c = fields_changed

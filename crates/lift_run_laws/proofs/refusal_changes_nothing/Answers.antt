@@ -1,5 +1,0 @@
-use Rattle.lift_run_laws.proofs.Coming.{refused_unchanged}
-use Rattle.lift_run_laws.proofs.refusal_changes_nothing.Goals as goal
-
-pub returns : goal.returns
-returns c = refused_unchanged

@@ -1,5 +1,0 @@
-use Rattle.lift_run_laws.proofs.Following.{replies_are_before}
-use Rattle.lift_run_laws.proofs.replies_follow.Goals as goal
-
-pub returns : goal.returns
-returns c = replies_are_before

@@ -1,5 +1,0 @@
-use Rattle.lift_run_laws.proofs.Resting.{rests_at_rest as law}
-use Rattle.lift_run_laws.proofs.rests_at_rest.Goals as goal
-
-pub returns : goal.returns
-returns c = law

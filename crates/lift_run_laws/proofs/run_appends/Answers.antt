@@ -1,5 +1,0 @@
-use Rattle.lift_run_laws.proofs.Following.{appends}
-use Rattle.lift_run_laws.proofs.run_appends.Goals as goal
-
-pub returns : goal.returns
-returns c = appends

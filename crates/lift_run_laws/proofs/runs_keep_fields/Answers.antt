@@ -1,5 +1,0 @@
-use Rattle.lift_run_laws.proofs.Fields.{fields_kept}
-use Rattle.lift_run_laws.proofs.runs_keep_fields.Goals as goal
-
-pub returns : goal.returns
-returns c = fields_kept

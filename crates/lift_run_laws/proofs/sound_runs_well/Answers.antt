@@ -1,5 +1,0 @@
-use Rattle.lift_run_laws.proofs.Running.{runs_well}
-use Rattle.lift_run_laws.proofs.sound_runs_well.Goals as goal
-
-pub returns : goal.returns
-returns c = runs_well

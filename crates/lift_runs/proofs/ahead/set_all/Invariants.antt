@@ -1,7 +1,0 @@
-use Rattle.std.proofs.Common.{◌≡◌, drop}
-use Rattle.lift_runs.specs.Driven.{set_all}
-use Rattle.lift_runs.proofs.ahead.set_all.Given as goal
-
--- what is still to be set leads to the same
-abbrev pub invariant-settings : goal.invariant-settings
-invariant-settings l = set_all l.switches (drop l.setting-index l.settings) ≡ set_all l.fn.before l.settings

@@ -1,6 +1,0 @@
-use Rattle.std.proofs.Common.{ap, sym}
-use Rattle.lift_spec.specs.Replies.{Committed}
-use Rattle.lift_runs.proofs.along.committed.Goals as goal
-
-pub returns-clause-taken : goal.returns-clause-taken
-returns-clause-taken c = let rest = c.in_ok-finish_and_commit.ensures.taken in (rest.0, ap Committed (sym rest.1))

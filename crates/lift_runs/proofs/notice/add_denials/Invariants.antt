@@ -1,6 +1,0 @@
-use Rattle.std.proofs.Common.{◌≡◌, ◌++◌, map, take}
-use Rattle.lift_runs.specs.declared.notice.Notice.TheVariants.{Denied}
-use Rattle.lift_runs.proofs.notice.add_denials.Given as goal
-
-abbrev pub invariant-denials : goal.invariant-denials
-invariant-denials l = l.notices ≡ l.initial.notices ++ map Denied (take l.denial-index l.denials)

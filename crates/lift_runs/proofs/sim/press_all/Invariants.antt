@@ -1,9 +1,0 @@
-use Rattle.std.proofs.Common.{◌≡◌, map, take}
-use Rattle.lift_spec.specs.declared.event.Event.TheVariants.{Press}
-use Rattle.lift_journal.specs.Rounds.{Happen}
-use Rattle.lift_runs.specs.Driven.{call_of}
-use Rattle.lift_runs.proofs.sim.press_all.Given as goal
-
--- the presses so far were made
-abbrev pub invariant-presses : goal.invariant-presses
-invariant-presses l = Happen l.initial.world.program.config l.initial.world.world (map Press (map call_of (take l.press-index l.presses))) l.world.world × (l.world.program ≡ l.initial.world.program)

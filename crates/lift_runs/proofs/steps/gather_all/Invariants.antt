@@ -1,8 +1,0 @@
-use Rattle.std.proofs.Common.{◌≡◌, map}
-use Rattle.lift_spec.specs.declared.event.Event.TheVariants.{Gather}
-use Rattle.lift_journal.specs.Rounds.{Happen, counting_from}
-use Rattle.lift_runs.proofs.steps.gather_all.Given as goal
-
--- so many floors were gathered
-abbrev pub invariant-floors : goal.invariant-floors
-invariant-floors l = Happen l.initial.world.program.config l.initial.world.world (map Gather (counting_from 1 l.below)) l.world.world × (l.world.program ≡ l.initial.world.program)

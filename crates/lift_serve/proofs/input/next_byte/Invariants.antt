@@ -1,7 +1,0 @@
-use Rattle.std.proofs.Common.{[]}
-use Rattle.std.specs.Io.KnownBytes.{Consumes}
-use Rattle.lift_serve.proofs.input.next_byte.Given as goal
-
--- nothing was taken
-abbrev pub invariant-tries : goal.invariant-tries
-invariant-tries g l = Consumes (g.R.Read.remaining l.initial.reader) (g.R.Read.remaining l.reader) []

@@ -1,5 +1,0 @@
-use Rattle.lift_spec.proofs.Hands.{words_order}
-use Rattle.lift_spec.proofs.hand.Hand.in_order.Goals as goal
-
-pub returns : goal.returns
-returns c = rw (← c.self.view_is) (words_order 1 c.self.inside.words)

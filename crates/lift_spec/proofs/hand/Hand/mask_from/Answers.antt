@@ -1,7 +1,0 @@
-use Rattle.std.proofs.Common.{sym, arith}
-use Rattle.lift_spec.specs.Words.{mask_in_words}
-use Rattle.lift_spec.proofs.hand.Hand.mask_from.Goals as goal
-
-pub returns : goal.returns
-returns c =
-    rw (← c.self.view_is) (sym (mask_in_words c.self.inside.words c.from.result c.args.floor (omega arith) c.self.invariant (omega arith)))

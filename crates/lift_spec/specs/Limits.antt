@@ -1,7 +1,0 @@
--- Limits of a group (own rules).
-use Rattle.std.specs.Prelude.{ℕ}
-use Rattle.lift_spec.specs.declared.image.TheConstants.{MOST_CARS}
-
--- the most cars
-abbrev pub most_cars : ℕ
-most_cars = MOST_CARS

@@ -1,8 +1,0 @@
-use Rattle.std.proofs.Common.{take}
-use Rattle.std.specs.List.{AllByRecursion}
-use Rattle.lift_state.specs.Saying.{IsHexDigit}
-use Rattle.lift_state.proofs.head.is_digest.Given as goal
-
--- digits before the place
-abbrev pub invariant-digits : goal.invariant-digits
-invariant-digits l = AllByRecursion IsHexDigit (take l.digit-index l.digits)

@@ -1,7 +1,0 @@
-use Rattle.std.proofs.Common.{◌≡◌, ◌++◌, take, string_bytes}
-use Rattle.lift_state.specs.Text.{hex_text}
-use Rattle.lift_state.proofs.put.put_bytes.Given as goal
-
--- the digits so far
-abbrev pub invariant-bytes : goal.invariant-bytes
-invariant-bytes l = string_bytes l.text ≡ string_bytes l.initial.text ++ hex_text (take l.byte-index l.bytes)

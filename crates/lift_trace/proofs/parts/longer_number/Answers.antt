@@ -1,9 +1,0 @@
-use Rattle.std.proofs.Common.{rules, arith, ◌-◌, length, take, drop}
-use Rattle.lift_trace.specs.Parts.{Ends}
-use Rattle.lift_trace.proofs.Numbers.{digits_text}
-use Rattle.lift_trace.proofs.parts.longer_number.Goals as goal
-
-pub returns-in-32-clause-found : goal.returns-in-32-clause-found
-returns-in-32-clause-found c =
-    let ends : Ends 32 (take (length c.args.text.now - 3) (drop 3 c.args.text.now)) = search rules in
-    (omega arith, digits_text c.args.text.now (omega arith) (omega arith) (omega arith) (omega arith) (omega arith) (omega arith), ends)

@@ -1,5 +1,0 @@
-use Rattle.lift_watch.proofs.Wishing as law
-use Rattle.lift_watch.proofs.asked.assign_is_wished.Goals as goal
-
-pub returns : goal.returns
-returns c = law.assign_is_wished

@@ -1,6 +1,0 @@
-use Rattle.std.proofs.Common.{◌≡◌, ◌++◌, take, string_bytes}
-use Rattle.lift_watch.specs.Denials.{answers_rows}
-use Rattle.lift_watch.proofs.denials.put_answers.Given as goal
-
-abbrev pub invariant-answers : goal.invariant-answers
-invariant-answers l = string_bytes l.text ≡ string_bytes l.initial.text ++ answers_rows l.form l.round l.task (take l.answer-index l.answers)

@@ -1,6 +1,0 @@
-use Rattle.std.proofs.Common.{◌≡◌, ◌++◌, take, string_bytes}
-use Rattle.lift_watch.specs.Denials.{denials_rows}
-use Rattle.lift_watch.proofs.denials.put_denials.Given as goal
-
-abbrev pub invariant-denials : goal.invariant-denials
-invariant-denials l = string_bytes l.text ≡ string_bytes l.initial.text ++ denials_rows l.form l.round (take l.denial-index l.denials)

@@ -1,6 +1,0 @@
-use Rattle.std.proofs.Common.{◌≡◌, ◌++◌, take, string_bytes}
-use Rattle.lift_watch.specs.Denials.{refresh_rows}
-use Rattle.lift_watch.proofs.denials.put_refresh.Given as goal
-
-abbrev pub invariant-denials : goal.invariant-denials
-invariant-denials l = string_bytes l.text ≡ string_bytes l.initial.text ++ refresh_rows l.form l.all l.round (take l.denial-index l.denials)

@@ -1,7 +1,0 @@
-use Rattle.std.proofs.Common.{◌≡◌, ◌++◌, map, take, string_bytes}
-use Rattle.lift_watch.specs.Names.{upper_case}
-use Rattle.lift_watch.proofs.names.add_upper.Given as goal
-
--- the names so far
-abbrev pub invariant-names : goal.invariant-names
-invariant-names l = map string_bytes l.upper.items ≡ map string_bytes l.initial.upper.items ++ map upper_case (map string_bytes (take l.name-index l.names))

@@ -1,5 +1,0 @@
-use Rattle.lift_watch.proofs.Knowing.{starred_is}
-use Rattle.lift_watch.proofs.words.starred.Goals as goal
-
-pub returns : goal.returns
-returns c = starred_is c.args.word.now c.strip_suffix.result c.strip_suffix.ensures.cases

@@ -1,6 +1,0 @@
-use Rattle.std.proofs.Common.{◌≡◌, [], take}
-use Rattle.lift_workers.specs.Panels.{calls_at}
-use Rattle.lift_workers.proofs.panel.is_pressed.Given as goal
-
-abbrev pub invariant-presses : goal.invariant-presses
-invariant-presses l = calls_at l.pass.floor l.pass.panel (take l.press-index l.presses) ≡ []

@@ -1,9 +1,0 @@
-use Rattle.std.proofs.Common.{ap, ◌∙◌}
-use Rattle.std.specs.Prelude.{is_some}
-use Rattle.lift_spec.specs.World.{task_at}
-use Rattle.lift_world.proofs.Grouped.{memory_some}
-use Rattle.lift_world.specs.Groups.{GroupOf}
-use Rattle.lift_world.proofs.group.Core.has_task.Goals as goal
-
-pub returns : goal.returns
-returns c = c.is_some.ensures ∙ memory_some c.self.inside.program.value.config c.self.inside.shared c.args.task _ c.memory.ensures ∙ ap (λ (k : GroupOf). is_some (task_at k.group c.args.task)) c.self.view_is

@@ -1,8 +1,0 @@
-use Rattle.std.proofs.Common.{◌≡◌, take, length}
-use Rattle.lift_world.proofs.taking.take_cars.Given as goal
-
-abbrev pub invariant-cars : goal.invariant-cars
-invariant-cars l = record {
-  many : length l.cars ≡ l.count;
-  same : take l.index l.cars ≡ take l.index l.all;
-}

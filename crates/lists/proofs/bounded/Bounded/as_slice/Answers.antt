@@ -1,5 +1,0 @@
-use Rattle.std.proofs.Common.{rules}
-use Rattle.lists.proofs.bounded.Bounded.as_slice.Goals as goal
-
-pub returns : goal.returns
-returns g c = search rules

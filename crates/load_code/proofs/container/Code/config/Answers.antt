@@ -1,0 +1,16 @@
+use Rattle.std.proofs.Common.{subst}
+use Rattle.il_statics.specs.Written.{IsNested}
+use Rattle.load_code.proofs.Contained.{declared_along, typed_along, ordered_along}
+use Rattle.load_code.proofs.container.Code.config.Goals as goal
+
+pub returns-clause-declared : goal.returns-clause-declared
+returns-clause-declared c = declared_along c.self.inside.ordered c.args.self.now c.self.view_is c.self.invariant.0.declared
+
+pub returns-clause-typed : goal.returns-clause-typed
+returns-clause-typed c = typed_along c.self.inside.ordered c.args.self.now c.self.view_is c.self.invariant.0.typed
+
+pub returns-clause-ordered : goal.returns-clause-ordered
+returns-clause-ordered c = ordered_along c.self.inside.ordered c.args.self.now c.self.view_is c.self.invariant.0.ordered
+
+pub returns-clause-nested : goal.returns-clause-nested
+returns-clause-nested c = subst IsNested c.self.view_is c.config.ensures.nested

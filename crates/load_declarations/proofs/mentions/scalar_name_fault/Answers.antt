@@ -1,0 +1,9 @@
+use Rattle.std.proofs.Common.{ap, ◌∙◌}
+use Rattle.il_statics.specs.Names.{meaning}
+use Rattle.load_declarations.specs.Places.{lowest_at}
+use Rattle.load_declarations.specs.Mentions.{scalar_of}
+use Rattle.load_declarations.proofs.MentionLaws.{scalar_is}
+use Rattle.load_declarations.proofs.mentions.scalar_name_fault.Goals as goal
+
+pub returns : goal.returns
+returns c = c.scalar_fault.ensures ∙ ap (λ b. lowest_at (scalar_of b) c.args.place) c.declared_type.ensures ∙ ap (λ l. lowest_at l c.args.place) (scalar_is c.args.here.now.config (meaning c.args.here.now.config c.args.here.now.unit c.args.name.now))

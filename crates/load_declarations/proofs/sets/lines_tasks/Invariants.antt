@@ -1,0 +1,6 @@
+use Rattle.std.proofs.Common.{map, take}
+use Rattle.load_declarations.specs.TaskRules.{IsSet}
+use Rattle.load_declarations.proofs.sets.lines_tasks.Given as goal
+
+abbrev pub invariant-loop-line : goal.invariant-loop-line
+invariant-loop-line l = IsSet (map (λ t. t.task.name) (take l.line-index l.lines)) l.set

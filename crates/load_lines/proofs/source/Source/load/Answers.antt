@@ -1,0 +1,24 @@
+use Rattle.load_lines.specs.Reads.{SpellsRoomyBy}
+use Rattle.load_lines.proofs.ByError.{up_by}
+use Rattle.load_lines.proofs.Leaves.{word_there}
+use Rattle.load_lines.proofs.Instructions.{load_refused}
+use Rattle.il_syntax.specs.declared.tree.Instruction.TheVariants as instruction
+use Rattle.il_syntax.specs.declared.keyword.Keyword.TheVariants as word
+use Rattle.load_lines.specs.Reads.{SpellsRoomyOf}
+use Rattle.load_lines.proofs.Breaks.{map_breaks, part_tight}
+use Rattle.il_syntax_laws.proofs.Samples.{operand_line_sampled}
+use Rattle.il_syntax_laws.proofs.Open.{word_fills}
+use Rattle.load_lines.proofs.Completions.{as_effect, up_so}
+use Rattle.std.proofs.Common.{refl}
+use Rattle.load_lines.specs.Reads.Effect.{Even}
+use Rattle.load_lines.proofs.source.Source.load.Goals as goal
+
+pub returns-in_err-operand-clause-refused : goal.returns-in_err-operand-clause-refused
+returns-in_err-operand-clause-refused c = up_by (SpellsRoomyBy c.args.room) _ c.from_residual.ensures.1 (load_refused c.args.self.now _ _ _ _ c.requires (rw c.advance.ensures.rest at c.in_err-operand.ensures.refused))
+
+pub returns-clause-reads : goal.returns-clause-reads
+returns-clause-reads c = record { found = (tt, (_, word_there c.args.self.now _ _ c.requires, (rw c.advance.ensures.rest at c.in_ok-operand.ensures.reads).found)) }
+
+pub returns-in_err-operand-clause-begins : goal.returns-in_err-operand-clause-begins
+returns-in_err-operand-clause-begins c =
+    up_so _ _ c.from_residual.ensures.1 (as_effect Even (map_breaks {Q = λ text. SpellsRoomyOf text c.args.room Even} (λ x. instruction.Load c.args.negated x) (λ x other us r w. (refl, (tt, w))) (part_tight (word_fills (word.Load c.args.negated)) (record { found = word_there c.args.self.now _ _ c.requires }) operand_line_sampled (rw c.advance.ensures.rest at c.in_err-operand.ensures.begins))))

@@ -1,0 +1,48 @@
+use Rattle.std.proofs.Common.{arith, refl}
+use Rattle.il_syntax.specs.declared.token.Sign.TheVariants.{Colon}
+use Rattle.il_syntax.specs.Grammar.{loose, ◌⋯◌, TheSign}
+use Rattle.load_lines.specs.Settings.{SpellsSized}
+use Rattle.load_lines.proofs.Chain.{up, first_missing, behind}
+use Rattle.load_lines.proofs.Through.{ok_through, err_through}
+use Rattle.il_syntax_laws.proofs.Local.{sign_local, text_local}
+use Rattle.il_syntax_laws.proofs.Alike.{loose_gap}
+use Rattle.load_lines.proofs.Breaks.{at_first, map_breaks, part_loose, s_part, up_breaks}
+use Rattle.il_syntax_laws.proofs.Open.{sign_fills, text_fills}
+use Rattle.il_syntax_laws.proofs.Samples.{sign_sampled}
+use Rattle.load_lines.proofs.Completions.{size_word_sampled, sized_sampled}
+use Rattle.load_lines.proofs.source.Source.size.Goals as goal
+
+pub returns-in_err-plain_word-clause-refused : goal.returns-in_err-plain_word-clause-refused
+returns-in_err-plain_word-clause-refused c =
+    up _ c.from_residual.ensures.1 (first_missing loose (λ text s. TheSign Colon ⋯ SpellsSized text s) c.in_err-plain_word.ensures.refused)
+
+pub returns-in_err-sign-clause-refused : goal.returns-in_err-sign-clause-refused
+returns-in_err-sign-clause-refused c =
+    up _ c.from_residual-in_err-sign.ensures.1
+    (behind loose_gap (λ text s. TheSign Colon ⋯ SpellsSized text s) (text_local c.args.word.now) c.in_ok-plain_word.ensures.reads
+    (first_missing loose (λ text s. SpellsSized text s) (rw c.skip_lines.ensures.rest at c.in_err-sign.ensures.refused)))
+
+pub returns-clause-refused : goal.returns-clause-refused
+returns-clause-refused c = err_through c.sized.result c.sized.ensures.refused (λ e bad.
+    (behind loose_gap (λ text s. TheSign Colon ⋯ SpellsSized text s) (text_local c.args.word.now) c.in_ok-plain_word.ensures.reads
+    (behind loose_gap (λ text s. SpellsSized text s) (sign_local Colon) (rw c.skip_lines.ensures.rest at c.in_ok-sign.ensures.reads)
+    (rw c.skip_lines-2.ensures.rest at bad))))
+
+pub returns-clause-reads : goal.returns-clause-reads
+returns-clause-reads c = ok_through c.sized.result c.sized.ensures.reads (λ x here.
+    record { found = (_, c.in_ok-plain_word.ensures.reads.found, (_, (rw c.skip_lines.ensures.rest at c.in_ok-sign.ensures.reads).found, (rw c.skip_lines-2.ensures.rest at here).found)) })
+
+pub returns-clause-shorter : goal.returns-clause-shorter
+returns-clause-shorter c = ok_through c.sized.result c.sized.ensures.shorter (λ x less. omega (arith, less, c.in_ok-plain_word.ensures.shorter, c.skip_lines.ensures.shorter, c.in_ok-sign.ensures.shorter, c.skip_lines-2.ensures.shorter))
+
+pub returns-in_err-plain_word-clause-begins : goal.returns-in_err-plain_word-clause-begins
+returns-in_err-plain_word-clause-begins c =
+    λ is. up_breaks _ c.from_residual.ensures.1 (map_breaks (λ x. x) (λ x other us r w. w) (at_first (s_part (size_word_sampled c.args.word.now is) (s_part (sign_sampled Colon) (sized_sampled) refl) refl) c.in_err-plain_word.ensures.first))
+
+pub returns-in_err-sign-clause-begins : goal.returns-in_err-sign-clause-begins
+returns-in_err-sign-clause-begins c =
+    λ is. up_breaks _ c.from_residual-in_err-sign.ensures.1 (map_breaks (λ x. x) (λ x other us r w. w) (part_loose (text_fills c.args.word.now) c.in_ok-plain_word.ensures.reads (s_part (sign_sampled Colon) (sized_sampled) refl) refl (at_first (s_part (sign_sampled Colon) (sized_sampled) refl) (rw c.skip_lines.ensures.rest at c.in_err-sign.ensures.first))))
+
+pub returns-clause-begins : goal.returns-clause-begins
+returns-clause-begins c = λ is. err_through c.sized.result c.sized.ensures.begins (λ e bad.
+    (map_breaks (λ x. x) (λ x other us r w. w) (part_loose (text_fills c.args.word.now) c.in_ok-plain_word.ensures.reads (s_part (sign_sampled Colon) (sized_sampled) refl) refl (part_loose (sign_fills Colon) (rw c.skip_lines.ensures.rest at c.in_ok-sign.ensures.reads) (sized_sampled) refl (rw c.skip_lines-2.ensures.rest at bad)))))

@@ -1,0 +1,6 @@
+use Rattle.std.proofs.Common.{option_and_then}
+use Rattle.il_statics.specs.Types.{instance_block, member_form}
+use Rattle.load_scope.proofs.unit.UnitScope.member_scalar.Goals as goal
+
+pub returns : goal.returns
+returns c = c.scalar_if.ensures c.args.self.now.config (option_and_then (member_form c.args.word.now) (instance_block c.args.self.now.config c.args.self.now.unit c.args.name.now)) c.member.ensures

@@ -1,0 +1,8 @@
+use Rattle.std.proofs.Common.{rules}
+use Rattle.load_tree.proofs.units.is_full.Goals as goal
+
+pub returns-clause-yes : goal.returns-clause-yes
+returns-clause-yes c = search rules
+
+pub returns-clause-no : goal.returns-clause-no
+returns-clause-no c = search rules

@@ -1,0 +1,60 @@
+// The units of a text.
+
+ghost use Rattle.load_lines.specs.Reads.{Reads, Refuses, fault_at, turn, RefusesBy};
+ghost use Rattle.load_tree.specs.Late.{LeavesLate, AreLateUnits};
+ghost use Rattle.load_tree.specs.GoesOn.{BreaksUnits};
+ghost use Rattle.std.specs.Prelude.{◌≡◌, length, IsTrue, IsFalse, IfOk, IfErr, ◌⊎◌};
+ghost use Rattle.load_lines.specs.declared.stop.SyntaxError.{SyntaxError};
+ghost use Rattle.load_tree.specs.Parts.{SpellsFewUnits, SpellsFewUnitsBy};
+ghost use Rattle.load_lines.specs.Lead.{lead_at};
+ghost use Rattle.load_lines.specs.declared.stop.SyntaxError.TheVariants.{Unexpected, TooMany};
+ghost use Rattle.load_tree.specs.Units.{unit_begins};
+
+use crate::one_unit::unit;
+use load_lines::{Lead, Source, Stop, SyntaxError, Tokens};
+use il_syntax::keyword::Keyword;
+use il_syntax::tree::Unit;
+use base_lists::Items;
+
+// Whether a text has as many units as it may have.
+fn is_full(units: &Items<Unit>) -> bool
+    ensures yes { IsTrue result → length units.now ≡ 64 }
+    ensures no { IsFalse result → length units.now ≡ 64 → ⊥ }
+{
+    units.as_slice().len() == 64
+}
+
+// Why no unit may stand here: it is one too many, or it is none.
+fn surplus(source: &Source, tokens: &Tokens) -> Stop
+    ensures { ((result ≡ fault_at TooMany tokens.now)
+        × IsTrue (unit_begins (lead_at source.now tokens.now)))
+        ⊎ ((result ≡ fault_at Unexpected tokens.now)
+        × IsFalse (unit_begins (lead_at source.now tokens.now))) }
+{
+    match source.lead(tokens) {
+        Lead::Reserved(Keyword::Function | Keyword::FunctionBlock | Keyword::Program) => {
+            tokens.fault(SyntaxError::TooMany)
+        }
+        _ => tokens.outside(),
+    }
+}
+
+/// The units of a text, and CONFIGURATION.
+pub fn units(source: &Source, tokens: &mut Tokens) -> Result<Items<Unit>, Stop>
+    ensures reads { IfOk result (λ us. Reads (SpellsFewUnits source.now) tokens.old us tokens.new) }
+    ensures refused { IfErr result (λ e. RefusesBy SpellsFewUnitsBy source.now tokens.old e) }
+    ensures begins { IfErr result (λ e. BreaksUnits source.now tokens.old e) }
+    ensures late { IfErr result (λ e. LeavesLate AreLateUnits
+        (SpellsFewUnitsBy Unexpected) source.now tokens.old e) }
+{
+    let mut units = Items::new(source.alloc());
+    'units: while !source.eat_word(tokens, Keyword::Configuration) {
+        if is_full(&units) {
+            return Err(surplus(source, tokens));
+        }
+        let unit = unit(source, tokens)?;
+        units.push(unit)?;
+        tokens.skip_lines();
+    }
+    Ok(units)
+}

@@ -1,0 +1,7 @@
+use Rattle.std.proofs.Common.{◌≡◌, ◌++◌, flat_map, take, string_bytes}
+use Rattle.reasons_faults.specs.LimitReasons.{unit_lines}
+use Rattle.reasons_faults.proofs.limits.put_units.Given as goal
+
+-- the units so far
+abbrev pub invariant-units : goal.invariant-units
+invariant-units l = string_bytes l.text ≡ string_bytes l.initial.text ++ flat_map (unit_lines l.offset) (take l.unit-index l.units)

@@ -1,0 +1,7 @@
+use Rattle.std.proofs.Common.{◌≡◌, map, drop}
+use Rattle.il_syntax.specs.declared.tree.ProgramLine.{ProgramLine}
+use Rattle.il_statics.specs.Names.{is_one_of}
+use Rattle.reasons_faults.proofs.tasks.is_named.Given as goal
+
+abbrev pub invariant-lines : goal.invariant-lines
+invariant-lines l = is_one_of (map (λ (p : ProgramLine). p.program.name) (drop l.line-index l.lines)) l.program ≡ is_one_of (map (λ (p : ProgramLine). p.program.name) l.lines) l.program

@@ -1,0 +1,6 @@
+use Rattle.std.proofs.Common.{◌≡◌, ◌++◌, flat_map, take, string_bytes}
+use Rattle.reasons_names.specs.NamesUnknown.{argument_text}
+use Rattle.reasons_names.proofs.names_unknown.put_arguments.Given as goal
+
+abbrev pub invariant-arguments : goal.invariant-arguments
+invariant-arguments l = string_bytes l.text ≡ string_bytes l.initial.text ++ flat_map (argument_text l.here.config l.here.unit) (take l.argument-index l.arguments)

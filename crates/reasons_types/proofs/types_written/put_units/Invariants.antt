@@ -1,0 +1,7 @@
+use Rattle.std.proofs.Common.{◌≡◌, ◌++◌, flat_map, take, string_bytes}
+use Rattle.reasons_types.specs.WrittenReasons.{unit_written}
+use Rattle.reasons_types.proofs.types_written.put_units.Given as goal
+
+-- the units so far
+abbrev pub invariant-units : goal.invariant-units
+invariant-units l = string_bytes l.text ≡ string_bytes l.initial.text ++ flat_map (unit_written l.globals l.offset) (take l.unit-index l.units)

@@ -1,5 +1,0 @@
-use Rattle.std.proofs.Common.{rules}
-use Rattle.std_blocks.proofs.bistable.ResetDominant.rs.Goals as goal
-
-pub returns : goal.returns
-returns c = search rules

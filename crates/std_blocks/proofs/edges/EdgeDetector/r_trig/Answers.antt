@@ -1,5 +1,0 @@
-use Rattle.std.proofs.Common.{rules}
-use Rattle.std_blocks.proofs.edges.EdgeDetector.r_trig.Goals as goal
-
-pub returns : goal.returns
-returns c = search rules

@@ -1,5 +1,0 @@
-use Rattle.std.proofs.Common.{length}
-use Rattle.uses.proofs.presses.fn.press_all.scope.Given as goal
-
-abbrev pub decreases-started : goal.decreases-started
-decreases-started g l = length l.started.items

@@ -1,5 +1,0 @@
-use Rattle.std.proofs.Common.{◌≡◌}
-use Rattle.uses.proofs.presses.press_often.Given as goal
-
-abbrev pub invariant-times : goal.invariant-times
-invariant-times l = l.pass.table ≡ l.fn.desk.table
