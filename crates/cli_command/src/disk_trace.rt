@@ -1,7 +1,7 @@
 // A trace on disk.
 
-use serve_blackbox::sink::TraceSink;
 use cli_host::sink::{Sink, SinkFault};
+use serve_blackbox::sink::TraceSink;
 use std::fs::{File, Files, OpenFile, OpenOptions};
 use std::io;
 use std::io::Write;

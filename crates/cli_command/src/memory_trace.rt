@@ -3,8 +3,8 @@
 ghost use Rattle.std.specs.Prelude.{◌≡◌, false, option_map};
 ghost use Rattle.cli_command.specs.Programs.{traced_by};
 
-use serve_blackbox::sink::TraceSink;
 use cli_host::sink::{Sink, SinkFault};
+use serve_blackbox::sink::TraceSink;
 use std::alloc::Global;
 
 /// A trace in memory, once it is created. Where it goes on in another, it has that alone.

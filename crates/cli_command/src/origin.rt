@@ -7,14 +7,14 @@ ghost use Rattle.serve_lines.specs.Waiting.{waiting_events};
 ghost use Rattle.serve_blackbox.specs.Heads.{IsAgain, head_text};
 ghost use Rattle.cli_command.specs.Origins.{IsOrigin, IsNoOrigin, IsPrepared, dropped_text};
 
+use cli_host::files::TextFiles;
+use cli_host::status::Fault;
+use group_world::World;
 use scan_task::Verified;
 use serve_blackbox::head::{TraceHead, head_of};
 use serve_blackbox::resume::{Origin, resume};
-use cli_host::files::TextFiles;
-use cli_host::status::Fault;
-use trace_text::read::GREATEST_TRACE;
-use group_world::World;
 use std::alloc::{AllocError, Global};
+use trace_text::read::GREATEST_TRACE;
 
 /// A group that is to serve, with what is told of its beginning and the head of its trace.
 pub struct Prepared {

@@ -3,9 +3,9 @@
 ghost use Rattle.std.specs.Prelude.{◌≡◌, flat_map, IfOk, OnOk, ◌++◌};
 ghost use Rattle.cli_command.specs.Others.{AreOthers, is_named, unless_named};
 
+use cli_shell::commands::OtherFault;
 use il_syntax::tree::Place;
 use load_text::{UnitFault, unit_faults};
-use cli_shell::commands::OtherFault;
 use std::alloc::{AllocError, Global};
 
 /// The first faults of the units of a text, but for the one that is named, in the order of the units.

@@ -13,23 +13,23 @@ ghost use Rattle.cli_command.specs.Servings.{IsUntouched, held_trace, between, I
 
 use crate::liftplc::loaded;
 use crate::origin::{Prepared, prepare};
-use scan_task::Verified;
-use reasons_faults::reason;
-use serve_blackbox::group::{Halt, Head, serve_group};
-use serve_blackbox::keep::KeepFault;
-use serve_blackbox::sink::TraceSink;
 use cli_host::files::{Cause, ReadFault, TextFiles};
 use cli_host::serving::{Serving, Tracing};
 use cli_host::sink::{Sink, SinkFault, put_all};
 use cli_host::status::{Fault, LineFault, Status};
 use cli_messages::place::text_below;
 use cli_messages::show::tell;
+use cli_shell::explained::Explained;
+use cli_shell::run::{MOST_BYTES, unread_explained};
+use reasons_faults::reason;
+use scan_task::Verified;
+use serve_blackbox::group::{Halt, Head, serve_group};
+use serve_blackbox::keep::KeepFault;
+use serve_blackbox::sink::TraceSink;
 use serve_lines::input::Came;
 use serve_lines::said::WrongLine;
 use serve_lines::serve::Stop;
 use serve_lines::server::ServeFault;
-use cli_shell::explained::Explained;
-use cli_shell::run::{MOST_BYTES, unread_explained};
 use std::alloc::{AllocError, Global};
 use std::io::Read;
 

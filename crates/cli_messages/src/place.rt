@@ -7,9 +7,9 @@ ghost use Rattle.cli_messages.specs.Places.{IsTitle, IsMore, IsShownBelow, IsTex
 use crate::lines::{line_around, line_at};
 use crate::mark::{put_line, put_mark};
 use base_shown::shown::shown;
+use cli_explain::title;
 use il_syntax::tree::Place;
 use itoa::Buffer;
-use cli_explain::title;
 use std::alloc::{AllocError, Global};
 
 // The most bytes of a line that are shown.

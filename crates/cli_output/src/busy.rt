@@ -8,10 +8,10 @@ ghost use Rattle.load_work.specs.Sizes.{capped};
 ghost use Rattle.cli_output.specs.Busy.{busy_line, busy_by, busy_lines};
 
 use crate::limits::number_at;
-use load_scope::Scoped;
-use il_syntax::tree::{Config, Unit};
-use load_work::works;
 use base_lists::Items;
+use il_syntax::tree::{Config, Unit};
+use load_scope::Scoped;
+use load_work::works;
 use std::alloc::{AllocError, Global};
 
 // More work than this is warned of: the greatest budget.

@@ -9,10 +9,10 @@ ghost use Rattle.group_spec.specs.Snapshot.{motor_number};
 ghost use Rattle.trace_text.specs.Text.{flag, flags};
 ghost use Rattle.cli_output.specs.ImageText.{truth_text, fields_text, car_text, cars_text, slot_text, slots_text, global_text, globals_text, image_text};
 
-use scan_task::Value;
 use group_spec::calls::Slot;
 use group_spec::{CarFields, CarOutputs, Fields, Motor};
 use group_world::World;
+use scan_task::Value;
 use std::alloc::{AllocError, Global};
 
 /// The output of `replay`: NOW in milliseconds, RUNLIMIT and FIRE, each car with its fields and

@@ -16,13 +16,13 @@ ghost use Rattle.load_work.specs.Sizes.{capped};
 
 use base_json::form::Form;
 use base_json::object::Object;
-use scan_task::Verified;
+use base_lists::Items;
+use il_syntax::tree::{Config, Instruction, Step, Unit};
 use load_order::relation::{Relation, holds};
 use load_order::uses::uses;
 use load_scope::Scoped;
-use il_syntax::tree::{Config, Instruction, Step, Unit};
 use load_work::works;
-use base_lists::Items;
+use scan_task::Verified;
 use std::alloc::{AllocError, Global};
 
 const MOST_BYTES: usize = 262_144;

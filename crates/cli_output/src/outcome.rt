@@ -29,10 +29,7 @@ use crate::scan::scan_outcome;
 use crate::span::span_of;
 use crate::telling::Telling;
 use base_json::form::Form;
-use scan_task::Verified;
-use show_names::{ranges_in, warnings_text, xref_in};
-use threads_desk::DeskClosed;
-use show_picture::{Stop, drawing};
+use base_lists::Items;
 use cli_host::calls::{CallsFault, CallsFile, read_calls};
 use cli_host::files::Reading;
 use cli_host::press::{Press, Set, Setting, fire_round, presses};
@@ -40,9 +37,6 @@ use cli_host::request::{
     Checked, Following, Name, Named, Request, Rounds, Showing, Shown, Simulating, Traced, Words,
 };
 use cli_host::status::{Fault, LineFault};
-use show_calls::lines::lines_in;
-use show_calls::log::Log;
-use show_calls::summary::summary_text;
 use cli_messages::output;
 use cli_messages::output::{Output, Warned};
 use group_rounds::along;
@@ -50,21 +44,27 @@ use group_rounds::replay::{Refused, replay};
 use group_rounds::sim::{Drive, simulate, simulate_before, simulate_on};
 use group_spec::Sizes;
 use group_state::begin::{Beginning, begin};
-use trace_text::trace::Trace;
+use group_world::World;
+use scan_task::Verified;
+use show_calls::lines::lines_in;
+use show_calls::log::Log;
+use show_calls::summary::summary_text;
+use show_names::{ranges_in, warnings_text, xref_in};
+use show_picture::{Stop, drawing};
 use show_values::calls::call_log;
 use show_values::changes::shown_text;
 use show_values::denials::Denials;
 use show_values::following::{denied_in, rows_along};
 use show_values::watch::Watch;
 use show_values::words::meant;
-use threads_workers::RunFault;
-use threads_workers::gate::{Open, Together};
-use threads_workers::run::{Plan, Ran, run};
-use group_world::World;
-use base_lists::Items;
 use std::alloc::{AllocError, Global};
 use std::sync::Wait;
 use std::thread::Threads;
+use threads_desk::DeskClosed;
+use threads_workers::RunFault;
+use threads_workers::gate::{Open, Together};
+use threads_workers::run::{Plan, Ran, run};
+use trace_text::trace::Trace;
 
 /// What a request that isn't `run` prints over the verified configuration of a text, `source`, with what was read of its trace or its file behind
 /// `--calls`, or why it prints nothing. A trace of another text is refused, 85, where it has a state (own rule). With `--json` each row is an object.

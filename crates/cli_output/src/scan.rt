@@ -8,11 +8,11 @@ ghost use Rattle.cli_output.specs.Parts.{AreScanned};
 ghost use Rattle.cli_output.specs.Scans.{first_word, IsCut, IsTask, IsPart, IsPartFault, IsRoundWord, IsRoundFault, IsLast, IsNoLast, AreLines, AreNoLines, AreLinesOf, IsLinesFault, IsBadScan, IsAsked, IsUnasked, IsUncommittedBy};
 
 use crate::outcome::{Whole, fault_of_event, whole_of};
-use scan_task::Verified;
 use cli_host::files::Reading;
 use cli_host::request::{Traced, Words, number_to};
 use cli_host::status::{Fault, ScanFault};
 use cli_messages::output::Output;
+use scan_task::Verified;
 use show_scan::{Asked, Lines, ScanStop, lines_of_unit, scan_text};
 use show_values::names::task_of;
 use std::alloc::{AllocError, Global};

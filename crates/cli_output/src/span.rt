@@ -5,9 +5,9 @@ ghost use Rattle.show_picture.specs.declared.span.Span.{Span};
 ghost use Rattle.cli_host.specs.Presses.{parts_of};
 ghost use Rattle.cli_output.specs.Spans.{IsEnd, IsSpan, IsSpanWord, IsNoSpan, greatest_round};
 
-use show_picture::Span;
 use cli_host::request::number_to;
 use cli_host::status::Fault;
+use show_picture::Span;
 use std::alloc::Global;
 
 // The most that a word says.

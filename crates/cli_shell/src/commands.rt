@@ -10,11 +10,11 @@ ghost use Rattle.cli_shell.specs.Runs.{runs};
 ghost use Rattle.cli_shell.specs.declared.commands.OtherFault.{OtherFault as OtherFaultOf};
 ghost use Rattle.cli_messages.specs.Outputs.{Outcome};
 
-use il_syntax::tree::Place;
 use cli_host::files::Reading;
 use cli_host::request::{Request, Simulating};
 use cli_host::status::Fault;
 use cli_messages::output::Output;
+use il_syntax::tree::Place;
 use std::alloc::{AllocError, Global};
 use std::sync::Wait;
 use std::thread::Threads;

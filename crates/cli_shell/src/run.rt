@@ -21,10 +21,10 @@ use cli_messages::notice::{file_notice, plain_notice, word_notice};
 use cli_messages::output::Output;
 use cli_messages::place::below;
 use cli_messages::show::show;
-use trace_text::read::GREATEST_TRACE;
 use std::alloc::{AllocError, Global};
 use std::sync::Wait;
 use std::thread::Threads;
+use trace_text::read::GREATEST_TRACE;
 
 /// The most bytes of FILE that are read: one more than a text may have.
 pub const MOST_BYTES: usize = 262_145;

@@ -6,11 +6,11 @@ ghost use Rattle.cli_shell.specs.Also.{also_line, AreAlsoTold};
 ghost use Rattle.cli_shell.specs.Runs.{asks_all, asks_json, explains_text, AreOthersTold, IsRefusedBelow, IsTextBelow, IsTextTold};
 
 use crate::commands::{Commands, OtherFault};
+use cli_host::request::Request;
+use cli_messages::place::text_below;
 use il_syntax::tree::Place;
 use itoa::Buffer;
-use cli_host::request::Request;
 use show_refusal::refusal::refusal_line;
-use cli_messages::place::text_below;
 use std::alloc::{AllocError, Global};
 
 /// What stands below a refusal of FILE: what is told of it, where faults are explained, and then the first faults of the other units, where those

@@ -9,9 +9,9 @@ ghost use Rattle.il_syntax.specs.declared.tree.Place.{Place};
 ghost use Rattle.load_text.specs.Loading.{IsAccepted, IsExplained, IsRefusedFor, IsSpelled, IsSpelledWith, ReportsFaultOfText, ReportsFaultOfGrammar};
 ghost use Rattle.example_library.specs.Budgets.{AreBudgets};
 
-use scan_task::Verified;
 use il_syntax::fault::Refusal;
 use load_text::load;
+use scan_task::Verified;
 use std::alloc::{AllocError, Global};
 
 /// The budget of each task of a text, CAR1 to CARn and then GROUP, or why the text is refused.

@@ -10,14 +10,14 @@ mod texts;
 mod threads;
 
 use crate::texts::{COUNTS, RUNS_OVER};
-use scan_task::Value;
 use il_syntax::fault::Refusal;
-use threads_station::Closed;
+use scan_task::Value;
 use std::alloc::Global;
 use std::io::Print;
 use std::sync::Wait;
 use std::thread::Threads;
 use std::{env, io};
+use threads_station::Closed;
 
 // What the loader found of a text.
 fn check<R: Print>(rt: &R, alloc: Global, text: &[u8]) -> io::Result<()> {

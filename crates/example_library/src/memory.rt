@@ -17,8 +17,8 @@ mod trace;
 mod world;
 
 use crate::memory::lines::{allocation, no_allocation, print};
-use il_syntax::fault::Refusal;
 use group_spec::report::Report;
+use il_syntax::fault::Refusal;
 use std::alloc::Global;
 use std::io;
 use std::io::Print;

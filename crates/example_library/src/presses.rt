@@ -3,12 +3,12 @@
 ghost use Rattle.std.specs.Prelude.{◌≡◌, ◌≤◌, All, IfOk};
 ghost use Rattle.std.specs.Thread.{IsSync};
 
-use threads_desk::{Desk, PanelPass, Pressed};
 use std::alloc::{AllocError, Global};
 use std::io::Print;
 use std::sync::Wait;
 use std::thread::{JoinHandle, Scope, Threads};
 use std::{io, thread};
+use threads_desk::{Desk, PanelPass, Pressed};
 
 // How many presses were answered so.
 #[derive(Clone, Copy)]

@@ -6,9 +6,9 @@ ghost use Rattle.load_text.specs.Loading.{IsAccepted};
 ghost use Rattle.group_spec.specs.World.{opening, task_at};
 ghost use Rattle.example_library.specs.Stepping.{IsWellReached};
 
-use scan_task::Value;
-use load_text::load;
 use group_world::{Call, Event, EventFault, Refusal, Reply, Report, World};
+use load_text::load;
+use scan_task::Value;
 use std::alloc::Global;
 
 /// What is read of a world: the variable N of car 1, the global LAST, and the time of the image in milliseconds.

@@ -3,15 +3,15 @@
 ghost use Rattle.std.specs.Prelude.{◌≡◌, ◌+◌, ℕ, IfOk, slice_index_or};
 ghost use Rattle.group_journal.specs.Pages.{Kept};
 
-use scan_task::Verified;
+use group_spec::report::Report;
 use il_syntax::fault::Refusal;
 use load_text::load;
-use group_spec::report::Report;
-use threads_station::{Blanks, Closed, Naming, Station, TaskPass};
+use scan_task::Verified;
 use std::alloc::{AllocError, Global};
 use std::marker::Brand;
 use std::sync::Wait;
 use std::thread::{Threads, join};
+use threads_station::{Blanks, Closed, Naming, Station, TaskPass};
 
 // How many scans each car runs.
 const SCANS: u32 = 100;

@@ -8,9 +8,9 @@ ghost use Rattle.group_calls.specs.Columns.{shown_of};
 ghost use Rattle.group_calls.specs.Sets.{is_free, is_waiting, is_told, kept_of, IsLowest};
 
 use crate::columns::Columns;
+use base_lists::Bounded;
 use group_spec::calls::{Answer, Call, Entering, Slot};
 use group_spec::image::{MOST_CARS, SLOT_PLACES, Sizes};
-use base_lists::Bounded;
 use std::marker::Model;
 
 // The last ticket that is given (own rule).

@@ -7,8 +7,8 @@ use crate::scan::{finish_and_commit, taken};
 use group_spec::event::{Event, EventFault};
 use group_spec::report::Report;
 use group_spec::trace::TraceEvent;
-use trace_text::trace::Trace;
 use group_world::World;
+use trace_text::trace::Trace;
 
 /// The first event that the world refused, by its index, and why.
 #[derive(Clone, Copy)]

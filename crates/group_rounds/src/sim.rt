@@ -20,8 +20,6 @@ use crate::ahead::{at_first, presses_by_round, presses_due, set_in, settings_by_
 use crate::observer::{Nobody, Observer};
 use crate::scan::scan;
 use crate::steps::{gather_all, tasks_in};
-use scan_task::Verified;
-use il_syntax::fault::Refusal;
 use cli_host::press::{Press, Setting};
 use group_journal::entered::calls_of;
 use group_plant::plant::Plant;
@@ -32,6 +30,8 @@ use group_spec::journal::Entry;
 use group_spec::report::Report;
 use group_spec::{Fields, Sizes};
 use group_world::World;
+use il_syntax::fault::Refusal;
+use scan_task::Verified;
 use std::alloc::{AllocError, Global};
 
 /// What drives a simulation: the presses, and what the building sets of the plant, each in any order of rounds. Those of one round

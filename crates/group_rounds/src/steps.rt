@@ -5,11 +5,11 @@ ghost use Rattle.group_spec.specs.declared.event.Event.TheVariants.{Gather as Ga
 ghost use Rattle.group_spec.specs.Image.{sizes_of};
 ghost use Rattle.group_journal.specs.Rounds.{Happen, floors_rising, tasks_in_order};
 
-use scan_task::Verified;
 use group_spec::event::Event;
 use group_spec::report::Report;
 use group_spec::{Bounded, Sizes, TASK_PLACES};
 use group_world::World;
+use scan_task::Verified;
 
 /// The tasks that the group has, in the order in which a round runs them: CAR1 to CARn, and then GROUP.
 pub fn tasks_in(verified: &Verified) -> Bounded<u8, TASK_PLACES>

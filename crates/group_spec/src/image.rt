@@ -4,8 +4,8 @@ ghost use Rattle.std.specs.Prelude.{◌≡◌};
 ghost use Rattle.group_spec.specs.Image.{runs};
 
 use crate::outputs::Outputs;
-use il_statics::limits;
 use base_lists::Bounded;
+use il_statics::limits;
 
 /// The most cars that a group may have (own rule).
 pub const MOST_CARS: u8 = limits::MOST_CARS;

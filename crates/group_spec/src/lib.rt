@@ -12,10 +12,10 @@ pub mod outputs;
 pub mod report;
 pub mod trace;
 
+pub use base_lists::Bounded;
 pub use bounds::{in_range, is_floor, range_is_tested};
 pub use image::{
     CAR_PLACES, CarFields, CarOutputs, Fields, Image, MOST_CARS, Motor, SLOT_PLACES, Sizes,
     TASK_PLACES,
 };
-pub use base_lists::Bounded;
 pub use outputs::Outputs;

@@ -15,13 +15,13 @@ use crate::fault::StateError;
 use crate::lines::behind;
 use crate::read::{Begun, read_state};
 use cli_host::status::{Fault, LineFault};
+use group_world::{Core, Refusal, Verified, World};
+use sha2::{Digest, Sha256};
+use std::alloc::Global;
 use trace_text::fault::TraceFault;
 use trace_text::format::Format;
 use trace_text::read::{Front, GREATEST_TRACE, read_events, read_front};
 use trace_text::trace::Trace;
-use group_world::{Core, Refusal, Verified, World};
-use sha2::{Digest, Sha256};
-use std::alloc::Global;
 
 /// How a trace begins and what stands in it.
 pub struct Beginning<'t> {

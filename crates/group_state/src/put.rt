@@ -14,10 +14,10 @@ ghost use Rattle.group_state.specs.Writing.{PutsLines};
 
 use crate::values::{first_value, is_same};
 use crate::variables::owner_prefix;
-use scan_task::Value;
 use group_spec::calls::Slot;
 use group_spec::{CarFields, CarOutputs, Fields, Motor};
 use group_world::World;
+use scan_task::Value;
 use std::alloc::AllocError;
 
 /// Puts the state of a group between scans, with the first line of its text. The digest is the SHA-256 of the bytes of

@@ -18,8 +18,8 @@ use crate::lines::next_line;
 use crate::setting::{set_global, set_head, set_variable};
 use crate::values::first_value;
 use crate::variables::{take_end, take_variable};
-use scan_task::Verified;
 use group_world::Core;
+use scan_task::Verified;
 use std::alloc::Global;
 
 /// A group that was read, what is behind its state, and how many lines stand before that, with the first line of the text.

@@ -12,10 +12,10 @@ ghost use Rattle.group_state.specs.Parts.{calls_of};
 ghost use Rattle.group_state.specs.Holding.{HoldsHead, with_head, with_slots, SlotsHold, with_globals, IsOwnCell};
 
 use crate::head::Head;
-use scan_task::{Cell, Value, Verified};
 use group_spec::SLOT_PLACES;
 use group_spec::calls::Slot;
 use group_world::Core;
+use scan_task::{Cell, Value, Verified};
 
 // Sets each slot of a group whose slots are free.
 fn set_slots(core: &mut Core, slots: &[Slot])

@@ -11,9 +11,9 @@ ghost use Rattle.group_state.specs.Variables.{SpellsValue};
 
 use crate::lines::behind;
 use crate::numbers::number_of;
-use scan_task::{Cell, FirstRows, Value};
 use il_statics::elementary::{declared_limits, is_within};
 use il_syntax::tree::Scalar;
+use scan_task::{Cell, FirstRows, Value};
 
 // The Boolean that a word spells.
 fn truth_of(word: &[u8]) -> Option<bool>

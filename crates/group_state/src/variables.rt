@@ -8,8 +8,8 @@ ghost use Rattle.group_state.specs.Variables.{IsOfVariable, IsAbsent, TakesVaria
 use crate::fault::StateFault;
 use crate::lines::{behind, next_line};
 use crate::values::{is_same, value_of};
-use scan_task::{Cell, Value};
 use group_spec::MOST_CARS;
+use scan_task::{Cell, Value};
 
 /// What stands before a path: nothing for a global, and the name of its task and a point for a variable of a task.
 pub fn owner_prefix(owner: Option<u8>) -> &'static str

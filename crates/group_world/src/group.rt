@@ -14,14 +14,14 @@ ghost use Rattle.group_world.specs.Setting.{IsSeated, IsFreshAt, resting, rested
 use crate::calling::{clear, enter_all};
 use crate::shared::{Shared, settle_cars};
 use crate::taking::{take_fields, take_outputs};
-use scan_task::{
-    Begin, Store, Unset, Value, Verified, finish, opening_image, set_global, variable,
-};
 use group_calls::book::CallBook;
 use group_spec::calls::Slot;
 use group_spec::hand::Hand;
 use group_spec::report::Report;
 use group_spec::{Bounded, Fields, Image, SLOT_PLACES};
+use scan_task::{
+    Begin, Store, Unset, Value, Verified, finish, opening_image, set_global, variable,
+};
 use std::alloc::{AllocError, Global};
 use std::marker::Model;
 use std::snapshot::Snapshot;

@@ -12,13 +12,13 @@ mod tickets;
 mod world;
 
 pub use group::Core;
-pub use scan_task::{Unset, Verified};
-pub use il_syntax::fault::Refusal;
 pub use group_spec::calls::{Answer, Call, Slot};
 pub use group_spec::event::{Event, EventFault, Reply};
 pub use group_spec::hand::Hand;
 pub use group_spec::report::{Denial, Report, Rule};
 pub use group_spec::{Bounded, CarFields, CarOutputs, Fields, Image, Motor, Sizes};
+pub use il_syntax::fault::Refusal;
 pub use replies::Replies;
+pub use scan_task::{Unset, Verified};
 pub use stores::{Opened, opening};
 pub use world::World;

@@ -16,12 +16,12 @@ ghost use Rattle.scan_task.specs.Sharing.{globals_in};
 use crate::calling::{clear, report_denials, serve, tell_all, tell_all_now, ticket_in};
 use crate::taking::{take_fields, take_outputs};
 use crate::tickets::Tickets;
-use scan_task::{FirstRows, Rows, Store, Unset, Value, Verified, opening_image, set_variable};
 use group_calls::book::CallBook;
 use group_interlock::{replace, settle_car, settle_each};
 use group_spec::image::Wishes;
 use group_spec::report::{Answered, Report};
 use group_spec::{Bounded, Fields, Image, MOST_CARS, Motor, SLOT_PLACES};
+use scan_task::{FirstRows, Rows, Store, Unset, Value, Verified, opening_image, set_variable};
 use std::alloc::{AllocError, Global};
 
 /// What a task keeps: its variables as its last commit left them, and the tickets of the call slots that its open scan saw, if it has one.

@@ -13,10 +13,10 @@ ghost use Rattle.group_world.specs.Setting.{IsSeated};
 ghost use Rattle.group_world.specs.Worlds.{Steps, RunsOut};
 
 use crate::group::Core;
-use scan_task::{Stepped, Store, Verified, finish, step};
-use il_syntax::pair::both;
 use group_spec::MOST_CARS;
 use group_spec::event::{EventFault, Reply};
+use il_syntax::pair::both;
+use scan_task::{Stepped, Store, Verified, finish, step};
 use std::alloc::{AllocError, Global};
 
 // A store for a task, if the group has it, with the task's variables.

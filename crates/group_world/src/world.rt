@@ -27,14 +27,14 @@ use crate::group::Core;
 use crate::held::{Held, refresh};
 use crate::replies::Replies;
 use crate::stores::{advance, begin, resumed, run_out};
-use scan_task::{Store, Value, Verified};
-use il_syntax::fault::Refusal;
-use il_syntax::pair::both;
 use group_spec::calls::{Call, Slot};
 use group_spec::event::{Event, EventFault, Reply};
 use group_spec::hand::Hand;
 use group_spec::report::Report;
 use group_spec::{Bounded, Fields, Image, SLOT_PLACES, Sizes, in_range, is_floor};
+use il_syntax::fault::Refusal;
+use il_syntax::pair::both;
+use scan_task::{Store, Value, Verified};
 use std::alloc::Global;
 use std::marker::Model;
 

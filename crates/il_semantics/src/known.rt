@@ -1,7 +1,7 @@
 // What is known of values.
 
-use ranges_interval::Interval;
 use il_syntax::tree::{Elementary, Operator};
+use ranges_interval::Interval;
 
 /// What is known of a value: that it is a Boolean, or its type and an interval of it. Booleans are never narrowed.
 #[derive(Clone, Copy)]

@@ -2,13 +2,13 @@
 
 ghost use Rattle.std.specs.Prelude.{◌≡◌, ◌↔◌, true};
 
+use base_lists::Items;
 use il_syntax::name::Name;
 use il_syntax::tree::{
     Argument, Arithmetic, Body, Comparison, Condition, Config, Declaration, Elementary, Form,
     Index, Initial, Instruction, Literal, Logic, Named, Operand, Operator, Place, ProgramLine,
     Reference, Scalar, Size, Step, Store, Subrange, Task, Unit, UnitKind, WrittenType,
 };
-use base_lists::Items;
 
 /// What can be compared by value.
 pub trait Same {

@@ -4,8 +4,8 @@ ghost use Rattle.std.specs.Prelude.{◌≡◌, is_some, Option, Some, None, IfSo
 ghost use Rattle.std.specs.Option.{ForSome};
 ghost use Rattle.liftplc_c.specs.Handles.{Rests};
 
-use liftplc_c_rounds::Held;
 use group_rounds::kept::Rounds;
+use liftplc_c_rounds::Held;
 use std::alloc::Global;
 use std::mem::replace;
 

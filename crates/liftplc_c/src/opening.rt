@@ -17,9 +17,9 @@ use crate::handle::Handle;
 use crate::history::led;
 use crate::refusal::{TextRefusal, refuse_text};
 use crate::status::Status;
-use load_text::load;
 use group_rounds::kept::Rounds;
 use group_world::{Refusal, World};
+use load_text::load;
 use std::alloc::Global;
 
 // The world of a text as it opens.

@@ -16,11 +16,11 @@ use crate::handle::Handle;
 use crate::history::led;
 use crate::refusal::{TextRefusal, refuse_text, refuse_trace};
 use crate::status::Status;
-use serve_blackbox::resume::{Origin, resume};
 use cli_host::status::Fault;
-use load_text::load;
 use group_rounds::kept::Rounds;
 use group_world::Verified;
+use load_text::load;
+use serve_blackbox::resume::{Origin, resume};
 use std::alloc::Global;
 
 // A controller that goes on, and how many events of its trace are dropped.

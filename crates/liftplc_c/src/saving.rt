@@ -8,8 +8,8 @@ ghost use Rattle.liftplc_c.specs.States.{whole_state, IsTooShort, StandsIn};
 
 use crate::handle::Handle;
 use crate::status::Status;
-use serve_blackbox::head::{TraceHead, head_of};
 use group_world::World;
+use serve_blackbox::head::{TraceHead, head_of};
 use std::alloc::{AllocError, Global};
 
 // The state of a world between scans as a whole trace without rounds, where the text is that of its configuration.

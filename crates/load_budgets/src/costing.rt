@@ -13,10 +13,10 @@ use crate::costs::{all_ways, longest};
 use crate::tasks::task_costs;
 use crate::units::{too_long, unit_paths};
 use crate::ways::Way;
-use il_statics::refusal;
-use load_scope::Scoped;
-use il_syntax::fault::Refusal;
 use base_lists::Items;
+use il_statics::refusal;
+use il_syntax::fault::Refusal;
+use load_scope::Scoped;
 use std::alloc::{AllocError, Global};
 
 /// What each unit and each task costs at most, and a control path of that cost of each unit: 50 at the heading of the first unit

@@ -5,8 +5,8 @@ ghost use Rattle.load_budgets.specs.Rounds.{unit_ways, unit_cost, costs_by, roun
 
 use crate::table::{Rest, rest_up, rests};
 use crate::ways::{Way, ways};
-use load_scope::Scoped;
 use base_lists::Items;
+use load_scope::Scoped;
 use std::alloc::{AllocError, Global};
 
 // How deep units may use one another (own rule).

@@ -21,10 +21,10 @@ pub use answer::{Budget, Path};
 pub use container::Checked;
 pub use costing::budget;
 pub use fault::BudgetFault;
-use load_code::Code;
-use ranges_pass::annotated;
 use il_syntax::fault::Refusal;
 use il_syntax::pair::both;
+use load_code::Code;
+use ranges_pass::annotated;
 use std::alloc::Global;
 
 /// Finds ranges for each instruction of each unit, by one forward pass with joins where paths meet (own rule).

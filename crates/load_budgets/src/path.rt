@@ -4,8 +4,8 @@ ghost use Rattle.std.specs.Prelude.{◌≡◌, IfOk, map, length, Some};
 ghost use Rattle.load_budgets.specs.Rounds.{line_at, followed};
 
 use crate::table::{Rest, rest_up};
-use il_syntax::tree::Body;
 use base_lists::Items;
+use il_syntax::tree::Body;
 use std::alloc::{AllocError, Global};
 
 /// The lines of the path that begins at the first place.

@@ -5,8 +5,8 @@ ghost use Rattle.load_budgets.specs.declared.ways.Way.{Way};
 ghost use Rattle.load_budgets.specs.Tables.{capped, number_at, callee_cost, rest_up, dearer, passing, jumping, way_rest, rests_above};
 
 use crate::ways::Way;
-use il_syntax::tree::Condition;
 use base_lists::Items;
+use il_syntax::tree::Condition;
 use std::alloc::{AllocError, Global};
 
 /// The most that a unit may cost (own rule). No cost that is kept is greater than one more.

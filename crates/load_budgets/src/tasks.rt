@@ -4,9 +4,9 @@ ghost use Rattle.std.specs.Prelude.{◌≡◌, IfOk, map};
 ghost use Rattle.load_budgets.specs.Units.{task_cost};
 
 use crate::table::number_at;
-use load_scope::Scoped;
-use il_syntax::tree::ProgramLine;
 use base_lists::Items;
+use il_syntax::tree::ProgramLine;
+use load_scope::Scoped;
 use std::alloc::{AllocError, Global};
 
 /// The greatest cost of the program of each PROGRAM line.

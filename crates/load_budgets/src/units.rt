@@ -10,10 +10,10 @@ use crate::fault::BudgetFault;
 use crate::path::path;
 use crate::table::{MOST, number_at, rests};
 use crate::ways::Way;
-use il_statics::{Found, earlier, fault_if};
-use load_scope::Scoped;
-use il_syntax::tree::Body;
 use base_lists::Items;
+use il_statics::{Found, earlier, fault_if};
+use il_syntax::tree::Body;
+use load_scope::Scoped;
 use std::alloc::{AllocError, Global};
 
 /// The first unit that costs too much.

@@ -4,10 +4,10 @@ ghost use Rattle.std.specs.Prelude.{◌≡◌, IfOk, Some, map, slice_get};
 ghost use Rattle.il_syntax.specs.declared.tree.Unit.{Unit as ProgramUnit};
 ghost use Rattle.load_budgets.specs.Ways.{way_of, callee_of};
 
+use base_lists::Items;
+use il_syntax::tree::{Condition, Instruction, Unit};
 use load_scope::Scoped;
 use load_scope::entry::{Binding, BlockType, VariableType};
-use il_syntax::tree::{Condition, Instruction, Unit};
-use base_lists::Items;
 use std::alloc::{AllocError, Global};
 
 /// How a control path goes on behind an instruction.

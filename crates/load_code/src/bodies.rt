@@ -10,9 +10,9 @@ use crate::calls::call;
 use crate::here::Here;
 use crate::invokes::invoke;
 use crate::operands::{beside, loaded};
-use load_slots::flat::{Flat, Operand};
-use il_syntax::tree::{Condition, Instruction, Operand as Written};
 use base_lists::Items;
+use il_syntax::tree::{Condition, Instruction, Operand as Written};
+use load_slots::flat::{Flat, Operand};
 use std::alloc::{AllocError, Global};
 
 // The place of a label, or 0 where there is none.

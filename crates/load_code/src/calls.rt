@@ -6,10 +6,10 @@ ghost use Rattle.load_code.specs.Resolving.{assigned_at, copied_at, with_input, 
 
 use crate::here::Here;
 use crate::operands::{Known, name_operand, operand_for, resolve, slot_known};
-use load_slots::flat::{Assignment, Copied, Flat, Operand, Slot};
-use load_scope::entry::{BlockType, VariableType};
-use il_syntax::tree::{Argument, Condition, Named, Operand as Written};
 use base_lists::Items;
+use il_syntax::tree::{Argument, Condition, Named, Operand as Written};
+use load_scope::entry::{BlockType, VariableType};
+use load_slots::flat::{Assignment, Copied, Flat, Operand, Slot};
 use std::alloc::{AllocError, Global};
 
 // The slot of an operand that names a variable.

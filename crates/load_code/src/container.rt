@@ -11,11 +11,11 @@ ghost use Rattle.load_code.specs.Tasks.{IsTaskOf, AreGlobals, Belongs};
 ghost use Rattle.load_slots.specs.Whole.{unit_code};
 
 use crate::task::TaskCode;
-use load_slots::flat::UnitCode;
+use base_lists::Items;
+use il_syntax::tree::Config;
 use load_order::Ordered;
 use load_scope::Scoped;
-use il_syntax::tree::Config;
-use base_lists::Items;
+use load_slots::flat::UnitCode;
 use std::marker::Model;
 
 /// What the code of a configuration keeps beside it.

@@ -9,10 +9,10 @@ ghost use Rattle.load_code.specs.Laying.{openings_to, openings_of, has_frame, wi
 ghost use Rattle.load_slots.specs.Making.{shown};
 
 use crate::laying::{Blocks, Opening, add_variables};
-use load_slots::variables::{Variable, function_variables, own_variables};
-use load_order::Ordered;
-use il_syntax::tree::{Unit, UnitKind};
 use base_lists::Items;
+use il_syntax::tree::{Unit, UnitKind};
+use load_order::Ordered;
+use load_slots::variables::{Variable, function_variables, own_variables};
 use std::alloc::{AllocError, Global};
 
 // How deep instances stand in one another at most.

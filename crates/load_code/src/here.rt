@@ -7,12 +7,12 @@ ghost use Rattle.load_slots.specs.Making.{IsChecked, all_offsets, unit_offsets};
 ghost use Rattle.load_code.specs.Resolving.{known, known_by, word_offset, input_known, output_known, function_known, unit_inputs, IsSmall};
 
 use crate::operands::Known;
-use load_slots::standard_offset;
-use load_slots::variables::{Variable, input_variables};
+use base_lists::Items;
+use base_maps::Table;
 use load_scope::UnitScope;
 use load_scope::entry::{BlockType, VariableType};
-use base_maps::Table;
-use base_lists::Items;
+use load_slots::standard_offset;
+use load_slots::variables::{Variable, input_variables};
 use std::alloc::{AllocError, Global};
 
 /// A unit of a configuration with the offsets of its names, and those of all names.

@@ -5,12 +5,12 @@ ghost use Rattle.load_code.specs.Resolving.{resolve, by_resolved, literal_beside
 
 use crate::here::Here;
 use crate::operands::{Resolved, natural, operand_for, resolve, slot_known, typed, untyped};
+use base_lists::Items;
+use il_statics::names::StandardFunction;
+use il_syntax::tree::{Literal, Named, Operand as Written};
+use load_scope::functions::standard_function;
 use load_slots::flat::{Assignment, Flat, Operand};
 use load_slots::variables::Variable;
-use il_statics::names::StandardFunction;
-use load_scope::functions::standard_function;
-use il_syntax::tree::{Literal, Named, Operand as Written};
-use base_lists::Items;
 use std::alloc::{AllocError, Global};
 
 // A literal among the further arguments of a standard function: those of SEL have types of their own.

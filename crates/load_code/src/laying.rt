@@ -10,16 +10,16 @@ ghost use Rattle.load_slots.specs.Making.{block_lists, list_if, standard_list, w
 ghost use Rattle.load_code.specs.declared.laying.Opening.{Opening as OpeningOf};
 ghost use Rattle.load_code.specs.Laying.{opening, element_opening, variable_openings, list_openings, block_openings};
 
-use load_slots::sizes::array_size;
-use load_slots::variables::{Variable, initial_value};
+use base_lists::Items;
+use il_semantics::value::Value;
 use il_statics::names::StandardBlock;
 use il_statics::standard::{BlockWord, words_of};
-use il_semantics::value::Value;
-use load_scope::Scoped;
-use load_scope::entry::{BlockType, VariableType};
 use il_syntax::name::Name;
 use il_syntax::tree::Scalar;
-use base_lists::Items;
+use load_scope::Scoped;
+use load_scope::entry::{BlockType, VariableType};
+use load_slots::sizes::array_size;
+use load_slots::variables::{Variable, initial_value};
 use std::alloc::{AllocError, Global};
 
 /// A slot: its path and type, and the value with which it begins.

@@ -9,10 +9,10 @@ ghost use Rattle.load_code.specs.Tasks.{AreGlobals, Belongs};
 use crate::container::{Code, Parts};
 use crate::placing::tasks_and_globals;
 use crate::units::unit_codes;
-use load_slots::sizes::block_lists;
+use il_syntax::fault::Refusal;
 use load_order::Ordered;
 use load_scope::Scoped;
-use il_syntax::fault::Refusal;
+use load_slots::sizes::block_lists;
 use std::alloc::{AllocError, Global};
 
 // How many units there are.

@@ -10,12 +10,12 @@ ghost use Rattle.load_slots.specs.Flattened.{slot_of, index_in, numbered, typed,
 ghost use Rattle.load_code.specs.Resolving.{scalar_operand, direct_operand, numbered_by, numbered_operand, index_by, indexed_operand, inside_by, member_by, member_operand, element_operand, resolve, known, by_resolved, literal_known, slot_known, IsSmall};
 
 use crate::here::Here;
+use il_semantics::value::{Content, Value};
+use il_statics::elementary::{declared_limits, has_value, is_within};
+use il_syntax::tree::{Elementary, Index, Literal, Reference, Scalar, Subrange};
+use load_scope::entry::VariableType;
 use load_slots::flat::{Operand, Slot};
 use load_slots::sizes::sum;
-use il_statics::elementary::{declared_limits, has_value, is_within};
-use il_semantics::value::{Content, Value};
-use load_scope::entry::VariableType;
-use il_syntax::tree::{Elementary, Index, Literal, Reference, Scalar, Subrange};
 
 /// A variable, or a word of a block: its type, and how far it stands from the first.
 #[derive(Clone, Copy)]

@@ -13,11 +13,11 @@ ghost use Rattle.load_code.specs.Tasks.{IsTaskOf, AreTasksOf};
 use crate::framing::{Frames, add_openings, add_own, bases_of, framed_units, frames_of};
 use crate::laying::{Blocks, Opening};
 use crate::task::TaskCode;
-use load_slots::variables::{Variable, global_variables, other_variables};
+use base_lists::Items;
+use il_syntax::tree::{ProgramLine, Unit};
 use load_order::Ordered;
 use load_scope::{Scoped, is_program};
-use il_syntax::tree::{ProgramLine, Unit};
-use base_lists::Items;
+use load_slots::variables::{Variable, global_variables, other_variables};
 use std::alloc::{AllocError, Global};
 
 // The slots of what a program sees beside its own variables: its externals, and the image.

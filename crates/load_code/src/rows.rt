@@ -5,8 +5,8 @@ ghost use Rattle.load_slots.specs.Layout.{rows};
 ghost use Rattle.load_code.specs.Laying.{with_value, with_values};
 
 use crate::laying::Opening;
-use load_slots::parts::parts_of;
 use il_semantics::value::Value;
+use load_slots::parts::parts_of;
 use std::alloc::{AllocError, Global};
 use std::marker::Model;
 

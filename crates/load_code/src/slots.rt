@@ -5,10 +5,10 @@ ghost use Rattle.load_code.specs.Laying.{cell_of};
 ghost use Rattle.load_code.specs.Tasks.{AreIndexed};
 
 use crate::laying::Opening;
-use load_slots::flat::Cell;
-use il_syntax::name::Name;
-use base_maps::Table;
 use base_lists::Items;
+use base_maps::Table;
+use il_syntax::name::Name;
+use load_slots::flat::Cell;
 use std::alloc::{AllocError, Global};
 
 /// The slot of each path.

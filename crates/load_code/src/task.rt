@@ -10,9 +10,9 @@ ghost use Rattle.load_slots.specs.Paths.{slot_at, path_at};
 use crate::laying::Opening;
 use crate::rows::FirstRows;
 use crate::slots::{cells_of, index_of};
-use load_slots::flat::Cell;
-use base_maps::Table;
 use base_lists::Items;
+use base_maps::Table;
+use load_slots::flat::Cell;
 use std::alloc::{AllocError, Global};
 use std::marker::Model;
 

@@ -11,16 +11,16 @@ ghost use Rattle.load_slots.specs.Whole.{unit_code};
 use crate::bodies::flat_code;
 use crate::here::Here;
 use crate::operands::{slot_known, slot_of};
+use base_lists::Items;
+use base_maps::Table;
+use il_semantics::value::Content;
+use il_syntax::name::Name;
+use il_syntax::tree::{Literal, UnitKind};
+use load_scope::entry::VariableType;
+use load_scope::{Scoped, UnitScope};
 use load_slots::flat::{Assignment, FunctionCode, Operand, Slot, UnitCode};
 use load_slots::tables::all_offsets;
 use load_slots::variables::{Variable, function_variables, initial_value, input_variables};
-use il_semantics::value::Content;
-use load_scope::entry::VariableType;
-use load_scope::{Scoped, UnitScope};
-use il_syntax::name::Name;
-use il_syntax::tree::{Literal, UnitKind};
-use base_maps::Table;
-use base_lists::Items;
 use std::alloc::{AllocError, Global};
 
 // What a variable begins with, if it is a scalar.

@@ -7,9 +7,9 @@ ghost use Rattle.il_statics.specs.Least.{IsLeast};
 ghost use Rattle.load_declarations.specs.Again.{AgainFrom, NamedAgain, after};
 
 use crate::fault::DeclareFault;
+use base_maps::Table;
 use il_statics::{Found, earlier, fault_if};
 use il_syntax::tree::{Body, Declaration, Named, ProgramLine, Step, Task, Unit};
-use base_maps::Table;
 use std::alloc::{AllocError, Global};
 
 // Whether a name was seen; now it is.

@@ -9,9 +9,9 @@ ghost use Rattle.load_declarations.specs.CarRules.{is_number, MissesCar};
 
 use crate::fault::DeclareFault;
 use il_statics::{Found, fault_if};
+use il_syntax::tree::Task;
 use load_scope::Scoped;
 use load_scope::roles::car_number;
-use il_syntax::tree::Task;
 use std::alloc::{AllocError, Global};
 use std::collections::HashSet;
 

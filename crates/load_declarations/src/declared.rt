@@ -4,8 +4,8 @@ ghost use Rattle.std.specs.Prelude.{◌≡◌};
 ghost use Rattle.il_statics.specs.Faults.{HasNoFault, BreaksDeclarations};
 ghost use Rattle.il_statics.specs.Written.{IsWritten, HasFewInstructions, IsNested};
 
-use load_scope::Scoped;
 use il_syntax::tree::Config;
+use load_scope::Scoped;
 use std::marker::Model;
 
 /// A configuration of which no rule of declarations is broken, with what its names mean.

@@ -10,9 +10,9 @@ ghost use Rattle.load_declarations.specs.Externals.{BreaksExternal, BreaksExtern
 
 use crate::fault::DeclareFault;
 use il_statics::{Found, earlier, fault_if};
+use il_syntax::tree::{Declaration, Form, Named, Scalar, Subrange};
 use load_scope::Scoped;
 use load_scope::entry::VariableType;
-use il_syntax::tree::{Declaration, Form, Named, Scalar, Subrange};
 
 /// The first fault of externals: a name that is no global's, or a type that is not the global's.
 pub fn externals_fault(names: &Scoped, externals: &[Declaration]) -> Option<Found<DeclareFault>>

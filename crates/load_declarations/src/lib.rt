@@ -23,8 +23,8 @@ use crate::whole::declared_fault;
 pub use declared::Declared;
 pub use fault::DeclareFault;
 use il_statics::{Written, refusal};
-use load_scope::Scoped;
 use il_syntax::fault::Refusal;
+use load_scope::Scoped;
 pub use per_unit::{UnitFault, put_found, unit_faults};
 use std::alloc::Global;
 

@@ -10,10 +10,10 @@ ghost use Rattle.load_declarations.specs.Mentions.{shown_access, scalar_type_num
 
 use crate::fault::DeclareFault;
 use il_statics::{Found, earlier, fault_if};
+use il_syntax::tree::{Argument, Index, Instruction, Named, Operand, Place, Reference, Step};
 use load_scope::entry::{Binding, BlockType, VariableType};
 use load_scope::functions::standard_function;
 use load_scope::{Scoped, UnitScope};
-use il_syntax::tree::{Argument, Index, Instruction, Named, Operand, Place, Reference, Step};
 
 /// Whether an operand is read or stored into.
 #[derive(Clone, Copy)]

@@ -8,8 +8,8 @@ ghost use Rattle.load_declarations.specs.declared.per_unit.UnitFault.{UnitFault 
 
 use crate::units::unit_fault;
 use il_statics::{Found, PhaseFault};
-use load_scope::{Scoped, UnitScope};
 use il_syntax::tree::Place;
+use load_scope::{Scoped, UnitScope};
 use std::alloc::{AllocError, Global};
 
 /// A fault of a unit.

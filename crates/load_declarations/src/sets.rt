@@ -4,8 +4,8 @@ ghost use Rattle.std.specs.Prelude.{◌≡◌, IfOk, is_some, map};
 ghost use Rattle.base_maps.specs.NameMap as table;
 ghost use Rattle.load_declarations.specs.TaskRules.{IsSet};
 
-use il_syntax::tree::{ProgramLine, Task};
 use base_maps::Table;
+use il_syntax::tree::{ProgramLine, Task};
 use std::alloc::{AllocError, Global};
 
 /// Whether a set has a name.

@@ -9,8 +9,8 @@ ghost use Rattle.load_declarations.specs.Taken.{InLists, TakenName, TakenNames, 
 
 use crate::fault::DeclareFault;
 use il_statics::{Found, earlier, fault_if};
-use load_scope::Scoped;
 use il_syntax::tree::{Declaration, Named, Unit};
+use load_scope::Scoped;
 
 /// The first fault of a unit's name and of its variables' names: one that is predeclared, or a variable with a unit's.
 pub fn taken_in_unit(names: &Scoped, unit: &Unit) -> Option<Found<DeclareFault>>

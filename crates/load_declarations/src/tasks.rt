@@ -8,12 +8,12 @@ ghost use Rattle.load_declarations.specs.TaskRules.{IsSet, other_role, TaskBreak
 
 use crate::fault::DeclareFault;
 use crate::sets::{has_name, lines_programs, lines_tasks, task_names};
+use base_maps::Table;
 use il_statics::names::Role;
 use il_statics::{Found, earlier, fault_if};
+use il_syntax::tree::{ProgramLine, Task, Unit};
 use load_scope::roles::task_role;
 use load_scope::{Scoped, is_program};
-use il_syntax::tree::{ProgramLine, Task, Unit};
-use base_maps::Table;
 use std::alloc::{AllocError, Global};
 
 /// The first fault of TASK lines: a task that is none of the group's, or one without a PROGRAM line.

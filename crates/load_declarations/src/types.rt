@@ -12,10 +12,10 @@ ghost use Rattle.load_declarations.specs.Written.{shown, BreaksInitial, Misdecla
 use crate::fault::DeclareFault;
 use il_statics::elementary::{declared_limits, has_value, is_same_type, is_whole, is_within_any};
 use il_statics::{Found, earlier, fault_if};
-use load_scope::Scoped;
 use il_syntax::tree::{
     Declaration, Elementary, Form, Initial, Literal, Place, Scalar, Subrange, WrittenType,
 };
+use load_scope::Scoped;
 
 /// Which types a list of declarations admits (own rule).
 #[derive(Clone, Copy)]

@@ -14,8 +14,8 @@ use crate::mentions::steps_fault;
 use crate::taken::taken_in_unit;
 use crate::types::{Admitted, declarations_fault, subrange_fault};
 use il_statics::{Found, earlier};
-use load_scope::{Scoped, UnitScope};
 use il_syntax::tree::{Unit, UnitKind};
+use load_scope::{Scoped, UnitScope};
 use std::alloc::{AllocError, Global};
 
 /// The first fault of units.

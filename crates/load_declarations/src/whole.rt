@@ -18,8 +18,8 @@ use crate::tasks::{program_lines_fault, task_lines_fault, unused_fault};
 use crate::types::{Admitted, declarations_fault};
 use crate::units::units_fault;
 use il_statics::{Found, earlier};
-use load_scope::Scoped;
 use il_syntax::tree::Config;
+use load_scope::Scoped;
 use std::alloc::{AllocError, Global};
 
 /// The first fault of declarations: at the earliest place, at one place the one with the lowest number.

@@ -9,9 +9,9 @@ use crate::lead::Lead;
 use crate::source::Source;
 use crate::stop::Stop;
 use crate::tokens::{Gap, Tokens};
+use base_lists::Items;
 use il_syntax::token::Sign;
 use il_syntax::tree::{Argument, Named, Operand};
-use base_lists::Items;
 
 impl<'t> Source<'t> {
     /// Operands with commas between them, and the end of the line.

@@ -12,12 +12,12 @@ use crate::lead::Lead;
 use crate::source::Source;
 use crate::stop::Stop;
 use crate::tokens::Tokens;
+use base_lists::Items;
 use il_syntax::keyword::Keyword;
 use il_syntax::token::Sign;
 use il_syntax::tree::{
     Declaration, Form, Initial, Literal, Named, Place, Scalar, Subrange, WrittenType,
 };
-use base_lists::Items;
 
 impl<'t> Source<'t> {
     /// Names with commas between them, and a colon.

@@ -18,10 +18,10 @@ use crate::relation::{Relation, closed, holds};
 use crate::slots::{MOST, counts, is_over, unit_counts, with_variables};
 use crate::uses::{are_named, uses};
 use crate::variables::{all_listed, units_listed};
-use il_statics::{Found, PhaseFault, earlier, fault_if};
-use load_scope::Scoped;
-use il_syntax::tree::Place;
 use base_lists::Items;
+use il_statics::{Found, PhaseFault, earlier, fault_if};
+use il_syntax::tree::Place;
+use load_scope::Scoped;
 use std::alloc::{AllocError, Global};
 
 /// What is found of a configuration's order.

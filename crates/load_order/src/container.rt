@@ -7,8 +7,8 @@ ghost use Rattle.il_statics.specs.Written.{IsWritten, HasFewInstructions, IsNest
 ghost use Rattle.load_order.specs.Instances.{Needs, needed};
 
 use crate::relation::{Relation, holds};
-use load_scope::Scoped;
 use il_syntax::tree::Config;
+use load_scope::Scoped;
 use load_types::Typed;
 use std::marker::Model;
 

@@ -7,12 +7,12 @@ ghost use Rattle.load_order.specs.Counted.{capped, standard_slots, number_at, bl
 
 use crate::relation::{Relation, holds};
 use crate::variables::Variables;
+use base_lists::Items;
 use il_statics::names::StandardBlock;
 use il_statics::standard::words_of;
+use il_syntax::tree::{ProgramLine, Subrange, UnitKind};
 use load_scope::Scoped;
 use load_scope::entry::{BlockType, VariableType};
-use il_syntax::tree::{ProgramLine, Subrange, UnitKind};
-use base_lists::Items;
 use std::alloc::{AllocError, Global};
 
 /// The most slots of a task, and of the globals (own rule).

@@ -5,10 +5,10 @@ ghost use Rattle.load_order.specs.Related.{tabulate};
 ghost use Rattle.load_order.specs.Used.{numbers, own_number, called, called_by, declared_in, has_name, all_named, are_named, counted_in, declared_by, used_by, is_among, uses_row, uses};
 
 use crate::relation::Relation;
+use base_lists::Items;
+use il_syntax::tree::{Declaration, Form, Instruction, Named, Step, Unit};
 use load_scope::Scoped;
 use load_scope::entry::BlockType;
-use il_syntax::tree::{Declaration, Form, Instruction, Named, Step, Unit};
-use base_lists::Items;
 use std::alloc::{AllocError, Global};
 
 /// Which units use which: they call that function, or declare an instance of that block (IEC 61131-3:2003, 2.5.1, 2.5.2).

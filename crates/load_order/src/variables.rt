@@ -3,10 +3,10 @@
 ghost use Rattle.std.specs.Prelude.{◌≡◌, ◌++◌, IfOk};
 ghost use Rattle.load_order.specs.Counted.{listed, all_listed, unit_listed, units_listed};
 
+use base_lists::Items;
+use il_syntax::tree::{Declaration, Unit};
 use load_scope::Scoped;
 use load_scope::entry::VariableType;
-use il_syntax::tree::{Declaration, Unit};
-use base_lists::Items;
 use std::alloc::{AllocError, Global};
 
 /// The variables of one declaration: how many, and of which type.

@@ -3,8 +3,8 @@
 ghost use Rattle.std.specs.Prelude.{◌≡◌, ◌++◌, Some, IfOk, map};
 ghost use Rattle.load_scope.specs.Units.{scalar_of, input_scalars, declared_scalars};
 
-use il_syntax::tree::{Declaration, Form, Named, Scalar, Unit};
 use base_lists::Items;
+use il_syntax::tree::{Declaration, Form, Named, Scalar, Unit};
 use std::alloc::{AllocError, Global};
 
 /// The scalar types of a unit's inputs, one for each name.

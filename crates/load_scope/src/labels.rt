@@ -3,8 +3,8 @@
 ghost use Rattle.std.specs.Prelude.{IfOk};
 ghost use Rattle.load_scope.specs.LabelTables.{AreFrom, AreWith, HasLabels};
 
-use il_syntax::tree::{Body, Named};
 use base_maps::Table;
+use il_syntax::tree::{Body, Named};
 use std::alloc::{AllocError, Global};
 
 /// The place of each label of a body, counted from 0; the first with a name counts.

@@ -16,9 +16,9 @@ use crate::blocks::{standard_input, standard_output};
 use crate::entry::{BlockType, VariableType};
 use crate::image::plain;
 use crate::tables::Tables;
+use base_maps::Table;
 use il_statics::names::StandardBlock;
 use il_syntax::tree::Scalar;
-use base_maps::Table;
 
 /// Whether a unit has a name, predeclared or not.
 pub fn is_unit(units: &Table<usize>, name: &str) -> bool

@@ -9,8 +9,8 @@ ghost use Rattle.load_scope.specs.Tables.{AreUnits};
 use crate::blocks::standard_block;
 use crate::entry::BlockType;
 use crate::words::is_predeclared;
-use il_syntax::tree::{Config, UnitKind};
 use base_maps::Table;
+use il_syntax::tree::{Config, UnitKind};
 
 /// The number of the unit of a name; a unit with a predeclared name is none (IEC 61131-3:2003, 2.5).
 #[tactic(auto, unfolding(crate::specs::Views::unit_number))]

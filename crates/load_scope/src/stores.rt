@@ -4,8 +4,8 @@ ghost use Rattle.std.specs.Prelude.{◌∷◌, [], flat_map, IfOk, OnOk};
 ghost use Rattle.il_statics.specs.Types.{named_variable, argument_targets, stored_names};
 ghost use Rattle.load_scope.specs.StoredNames.{AddsNames, HasStored};
 
-use il_syntax::tree::{Argument, Instruction, Reference, Step};
 use base_maps::Table;
+use il_syntax::tree::{Argument, Instruction, Reference, Step};
 use std::alloc::{AllocError, Global};
 
 /// The names that instructions store into.

@@ -15,10 +15,10 @@ use crate::meaning::image_seen;
 use crate::numbers::block_type;
 use crate::roles::task_role;
 use crate::stores::stored_by;
+use base_lists::Items;
+use base_maps::Table;
 use il_statics::names::{Origin, Role};
 use il_syntax::tree::{Config, Declaration, Form, Named, ProgramLine, Scalar, Unit, UnitKind};
-use base_maps::Table;
-use base_lists::Items;
 use std::alloc::{AllocError, Global};
 
 /// The variables, the labels and the stores of a unit by their names.

@@ -1,10 +1,10 @@
 // Flat code.
 
-use il_statics::names::{StandardBlock, StandardFunction};
+use base_lists::Items;
 use il_semantics::value::Content;
+use il_statics::names::{StandardBlock, StandardFunction};
 use il_syntax::name::Name;
 use il_syntax::tree::{Condition, Elementary, Operator, Scalar, Store, Subrange};
-use base_lists::Items;
 
 /// What a slot keeps: the variable of a path, of a scalar type.
 #[derive(Drop)]

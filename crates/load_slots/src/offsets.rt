@@ -5,8 +5,8 @@ ghost use Rattle.load_slots.specs.Making.{no_offsets, with_offset, with_offsets,
 
 use crate::sizes::{sum, variable_size};
 use crate::variables::Variable;
-use base_maps::Table;
 use base_lists::Items;
+use base_maps::Table;
 use std::alloc::{AllocError, Global};
 
 /// Offsets by names, and how many slots all take.

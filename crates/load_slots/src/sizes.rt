@@ -7,10 +7,10 @@ ghost use Rattle.load_slots.specs.Places.{capped};
 
 use crate::standard::standard_size;
 use crate::variables::{Variable, own_variables};
+use base_lists::Items;
+use il_syntax::tree::{Subrange, Unit};
 use load_scope::Scoped;
 use load_scope::entry::{BlockType, VariableType};
-use il_syntax::tree::{Subrange, Unit};
-use base_lists::Items;
 use std::alloc::{AllocError, Global};
 
 // The own variables of each unit.

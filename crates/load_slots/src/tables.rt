@@ -8,10 +8,10 @@ ghost use Rattle.il_semantics.specs.Meaning.{own_entities};
 use crate::offsets::offsets_of;
 use crate::sizes::block_sizes;
 use crate::variables::{Variable, other_variables};
-use load_scope::Scoped;
-use il_syntax::tree::Unit;
-use base_maps::Table;
 use base_lists::Items;
+use base_maps::Table;
+use il_syntax::tree::Unit;
+use load_scope::Scoped;
 use std::alloc::{AllocError, Global};
 
 // The offsets of a unit's names.

@@ -9,13 +9,13 @@ ghost use Rattle.load_slots.specs.Making.{variable, shown, added, is_in_part, se
 ghost use Rattle.load_slots.specs.Flattened.{function_entities};
 ghost use Rattle.load_slots.specs.Places.{seen_image, unit_entities};
 
-use il_statics::names::{Audience, Role};
+use base_lists::Items;
 use il_semantics::value::Value;
-use load_scope::entry::VariableType;
-use load_scope::{ImageRow, Scoped, image_rows, is_program, is_seen_by};
+use il_statics::names::{Audience, Role};
 use il_syntax::name::Name;
 use il_syntax::tree::{Declaration, Elementary, Initial, Literal, Named, Scalar, Unit, UnitKind};
-use base_lists::Items;
+use load_scope::entry::VariableType;
+use load_scope::{ImageRow, Scoped, image_rows, is_program, is_seen_by};
 use std::alloc::{AllocError, Global};
 
 /// A variable of a unit: its type with its block found, and its initial value if it has one.

@@ -18,17 +18,17 @@ ghost use Rattle.il_work_laws.specs.Work.{ScansDoNoMore};
 ghost use Rattle.group_laws.specs.Runs.{RunsWell};
 ghost use Rattle.load_text.specs.Loading.{IsSpelled, SpellsOnly, SpellsNone, IsUnbroken, IsAccepted, IsRefusedFor, IsSpelledWith, IsExplained, ReportsFaultOfText, ReportsFaultOfGrammar};
 
-use load_code::code;
-use load_declarations::declare;
 use il_fault_laws::one_fault_of_grammar;
-use scan_task::{Tables, Verified, tables_of};
-use load_order::{Ordered, ordered};
-use load_tree::{Written, parse};
 use il_syntax::fault::Refusal;
 use il_syntax::pair::both;
-use load_tokens::tokens;
-use load_types::typed;
 use load_budgets::{Budget, Checked, Path, budget, verify};
+use load_code::code;
+use load_declarations::declare;
+use load_order::{Ordered, ordered};
+use load_tokens::tokens;
+use load_tree::{Written, parse};
+use load_types::typed;
+use scan_task::{Tables, Verified, tables_of};
 use std::alloc::Global;
 
 /// The configuration that a text spells, verified.

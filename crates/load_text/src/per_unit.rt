@@ -6,10 +6,10 @@ ghost use Rattle.load_text.specs.Loading.{IsSpelled, SpellsNone};
 ghost use Rattle.load_text.specs.UnitFaults.{AreUnitFaults};
 
 use crate::loader::parsed;
-use load_declarations::{UnitFault, declare_scoped};
-use load_tree::Written;
-use load_scope::Scoped;
 use il_syntax::fault::Refusal;
+use load_declarations::{UnitFault, declare_scoped};
+use load_scope::Scoped;
+use load_tree::Written;
 use std::alloc::{AllocError, Global};
 
 /// The first fault of each unit of a text, in the order of the units: of its declarations, where `load` refuses the text in that phase, and

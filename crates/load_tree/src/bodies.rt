@@ -13,11 +13,11 @@ ghost use Rattle.load_lines.specs.declared.lead.Lead.TheVariants as begins;
 ghost use Rattle.load_tree.specs.GoesOn.{BreaksPlaced, BreaksFrom, BreaksSteps, BreaksWith};
 ghost use Rattle.load_tree.specs.Late.{EndsNone, LeavesRest, LeavesSteps, LeavesWith};
 
-use load_lines::{Lead, Source, Stop, SyntaxError, Tokens};
+use base_lists::Items;
 use il_syntax::keyword::Keyword;
 use il_syntax::token::{Kind, Sign};
 use il_syntax::tree::{Body, Instruction, Named, Place, Step};
-use base_lists::Items;
+use load_lines::{Lead, Source, Stop, SyntaxError, Tokens};
 
 /// What comes next in a body: an instruction with its labels, or the end with those that name it.
 #[derive(Drop)]

@@ -13,10 +13,10 @@ ghost use Rattle.load_tree.specs.GoesOn.{stopped, BreaksAll};
 
 use crate::units::units;
 use crate::variables::comes;
-use load_lines::{Source, Stop, Tokens};
+use base_lists::Items;
 use il_syntax::keyword::Keyword;
 use il_syntax::tree::{Config, Declaration, Place, ProgramLine, Size, Task, Unit};
-use base_lists::Items;
+use load_lines::{Source, Stop, Tokens};
 
 // Globals, and the place of their list if there is one.
 type Globals = (Option<Place>, Items<Declaration>);

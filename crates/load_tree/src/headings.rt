@@ -10,11 +10,11 @@ ghost use Rattle.load_tree.specs.Late.{LeavesWith};
 ghost use Rattle.load_tree.specs.GoesOn.{BreaksWith, SpellsWholeProgram, SpellsWholeBlock, SpellsWholeFunction};
 
 use crate::insides::{block_inside, function_inside, program_inside};
-use load_lines::{Source, Stop, Tokens};
+use base_lists::Items;
 use il_syntax::keyword::Keyword;
 use il_syntax::token::Sign;
 use il_syntax::tree::{Body, Declaration, Named, Place, Scalar};
-use base_lists::Items;
+use load_lines::{Source, Stop, Tokens};
 
 // A scalar type with its place.
 fn placed_scalar(source: &Source, tokens: &mut Tokens) -> Result<(Place, Scalar), Stop>

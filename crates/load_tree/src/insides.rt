@@ -11,10 +11,10 @@ ghost use Rattle.load_tree.specs.GoesOn.{BreaksWith, SpellsProgramRest, SpellsBl
 
 use crate::bodies::body;
 use crate::variables::{externals, filled_list, full_list, no_list, optional_list};
-use load_lines::{Source, Stop, Tokens};
+use base_lists::Items;
 use il_syntax::keyword::Keyword;
 use il_syntax::tree::{Body, Declaration};
-use base_lists::Items;
+use load_lines::{Source, Stop, Tokens};
 
 /// The variables and the externals of a program, and its body.
 pub fn program_inside(

@@ -10,10 +10,10 @@ ghost use Rattle.load_tree.specs.Late.{LeavesWith};
 ghost use Rattle.load_tree.specs.GoesOn.{BreaksWith};
 
 use crate::headings::{block, function, program};
-use load_lines::{Source, Stop, Tokens};
+use base_lists::Items;
 use il_syntax::keyword::Keyword;
 use il_syntax::tree::{Unit, UnitKind};
-use base_lists::Items;
+use load_lines::{Source, Stop, Tokens};
 
 // A program.
 fn program_unit(source: &Source, tokens: &mut Tokens) -> Result<Unit, Stop>

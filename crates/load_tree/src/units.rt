@@ -11,10 +11,10 @@ ghost use Rattle.load_lines.specs.declared.stop.SyntaxError.TheVariants.{Unexpec
 ghost use Rattle.load_tree.specs.Units.{unit_begins};
 
 use crate::one_unit::unit;
-use load_lines::{Lead, Source, Stop, SyntaxError, Tokens};
+use base_lists::Items;
 use il_syntax::keyword::Keyword;
 use il_syntax::tree::Unit;
-use base_lists::Items;
+use load_lines::{Lead, Source, Stop, SyntaxError, Tokens};
 
 // Whether a text has as many units as it may have.
 fn is_full(units: &Items<Unit>) -> bool

@@ -9,11 +9,11 @@ ghost use Rattle.load_lines.specs.declared.stop.Stop.TheVariants.{Memory};
 ghost use Rattle.load_tree.specs.Ahead.{RefusesAhead, MissesAhead};
 ghost use Rattle.load_tree.specs.Lists.{SpellsFull, SpellsExternalsInside};
 
-use load_lines::{Source, Stop, Tokens};
+use base_lists::Items;
 use il_syntax::keyword::Keyword;
 use il_syntax::token::Sign;
 use il_syntax::tree::Declaration;
-use base_lists::Items;
+use load_lines::{Source, Stop, Tokens};
 
 /// Whether the word comes next, behind any line ends.
 pub fn comes(source: &Source, tokens: &Tokens, keyword: Keyword) -> bool

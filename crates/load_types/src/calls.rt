@@ -12,8 +12,8 @@ use crate::fault::{LowestFault, TypeFault, lower, unless};
 use crate::functions::agreement_fault;
 use crate::operands::{index_fault, maybe_wanted_fault};
 use crate::scope::Scope;
-use il_syntax::tree::{Argument, Elementary, Reference};
 use base_maps::Table;
+use il_syntax::tree::{Argument, Elementary, Reference};
 use std::alloc::{AllocError, Global};
 
 // The most arguments of which each is compared with all before it: for few, that is cheaper than a table of their words.

@@ -4,9 +4,9 @@ ghost use Rattle.std.specs.Prelude.{◌≡◌};
 ghost use Rattle.il_statics.specs.Faults.{Broken, Typing, HasNoFault, BreaksDeclarations};
 ghost use Rattle.il_statics.specs.Written.{IsWritten, HasFewInstructions, IsNested};
 
+use il_syntax::tree::Config;
 use load_declarations::Declared;
 use load_scope::Scoped;
-use il_syntax::tree::Config;
 use std::marker::Model;
 
 /// A configuration of which no rule of declarations and none of types is broken, with what its names mean.

@@ -23,10 +23,10 @@ ghost use Rattle.il_statics.specs.Faults.{Broken, Typing, HasNoFault, IsRefusedB
 use crate::answer::types_fault;
 pub use container::Typed;
 pub use fault::TypeFault;
-use load_declarations::Declared;
 use il_statics::refusal;
-use load_scope::Scoped;
 use il_syntax::fault::Refusal;
+use load_declarations::Declared;
+use load_scope::Scoped;
 pub use per_unit::unit_faults;
 use std::alloc::Global;
 

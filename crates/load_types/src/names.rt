@@ -11,10 +11,10 @@ ghost use Rattle.load_types.specs.Types.{elementary_of};
 use crate::fault::{LowestFault, TypeFault, unless};
 use crate::scope::{Scope, Target};
 use il_statics::names::{Origin, StandardFunction};
+use il_syntax::tree::{Elementary, Operand, Scalar};
 use load_scope::UnitScope;
 use load_scope::entry::VariableType;
 use load_scope::functions::standard_function;
-use il_syntax::tree::{Elementary, Operand, Scalar};
 
 /// The type of a scalar, if there is one.
 #[inline(always)]

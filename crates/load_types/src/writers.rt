@@ -9,11 +9,11 @@ ghost use Rattle.load_types.specs.Faults.{HasStoreOfTwo};
 ghost use Rattle.load_types.specs.Writers.{is_external_origin, is_external, is_same_task, writer_after, note, noted, noted_line, if_stored, declared_stored, is_several, is_shared, stores_shared, HasSharedStore, HasSharedStores, AreWriters};
 
 use crate::fault::TypeFault;
+use base_maps::Table;
 use il_statics::names::Origin;
 use il_statics::{Found, earlier, fault_if};
-use load_scope::{Scoped, UnitScope};
 use il_syntax::tree::{Argument, Declaration, Instruction, Named, ProgramLine, Reference, Unit};
-use base_maps::Table;
+use load_scope::{Scoped, UnitScope};
 use std::alloc::{AllocError, Global};
 
 /// Who writes a global: the task of a PROGRAM line, by the line's number, or several tasks.

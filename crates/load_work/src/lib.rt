@@ -13,8 +13,8 @@ ghost use Rattle.load_work.specs.Sizes.{capped};
 use crate::rounds::rounds;
 use crate::sizes::unit_sizes;
 use crate::weights::all_weighed;
-use load_scope::Scoped;
 use base_lists::Items;
+use load_scope::Scoped;
 use std::alloc::{AllocError, Global};
 
 /// The most work that a scan of each unit does, in the order of the text: a step counts 1, a `CAL` one more for each

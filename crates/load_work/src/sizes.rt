@@ -4,8 +4,8 @@ ghost use Rattle.std.specs.Prelude.{◌≡◌, ◌+◌, IfOk, map};
 ghost use Rattle.il_semantics.specs.Meaning.{width};
 ghost use Rattle.load_work.specs.Sizes.{capped, number_at, form_size, with_names, with_declared, unit_size};
 
-use il_syntax::tree::{Config, Declaration, Form, Named, Subrange, Unit, UnitKind};
 use base_lists::Items;
+use il_syntax::tree::{Config, Declaration, Form, Named, Subrange, Unit, UnitKind};
 use std::alloc::{AllocError, Global};
 
 /// The sum of two numbers, or the greatest number.

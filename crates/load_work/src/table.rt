@@ -6,9 +6,9 @@ ghost use Rattle.load_work.specs.Table.{called_work, own_work, left_up, passing,
 
 use crate::sizes::{number_at, sum};
 use crate::weights::Weighed;
+use base_lists::Items;
 use il_syntax::tree::Condition;
 use load_budgets::ways::Way;
-use base_lists::Items;
 use std::alloc::{AllocError, Global};
 
 // The work of the own unit that an instruction runs.

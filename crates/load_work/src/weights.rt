@@ -5,10 +5,10 @@ ghost use Rattle.il_syntax.specs.declared.tree.Unit.{Unit as ProgramUnit};
 ghost use Rattle.load_work.specs.Weights.{invoked_moves, moves_of, weighed_of, unit_weighed};
 
 use crate::sizes::{number_at, sum};
-use load_scope::Scoped;
+use base_lists::Items;
 use il_syntax::tree::{Instruction, Unit};
 use load_budgets::ways::{Way, way_of};
-use base_lists::Items;
+use load_scope::Scoped;
 use std::alloc::{AllocError, Global};
 
 /// How a control path goes on behind an instruction, and how many values the instruction moves.

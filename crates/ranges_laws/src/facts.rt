@@ -1,8 +1,8 @@
 // What the pass keeps of a place.
 
-use ranges_rows::Row;
-use il_semantics::known::{Known, KnownDeferred};
 use base_lists::Items;
+use il_semantics::known::{Known, KnownDeferred};
+use ranges_rows::Row;
 
 /// A range for each variable that has a number, the current result, and what is set aside.
 #[derive(Drop)]

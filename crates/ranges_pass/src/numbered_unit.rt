@@ -17,14 +17,14 @@ ghost use Rattle.ranges_pass.specs.Numbering.{HaveRanges};
 ghost use Rattle.ranges_pass.specs.Units.{names_of};
 
 use crate::numbering::{Numbering, declared_range};
-use ranges_interval::Interval;
-use ranges_rows::Row;
-use il_statics::names::StandardFunction;
 use il_semantics::known::Known;
+use il_statics::names::StandardFunction;
+use il_syntax::tree::{Index, Reference, Scalar, Subrange};
 use load_scope::UnitScope;
 use load_scope::entry::VariableType;
 use load_scope::functions::standard_function;
-use il_syntax::tree::{Index, Reference, Scalar, Subrange};
+use ranges_interval::Interval;
+use ranges_rows::Row;
 use ranges_transfer::{Meant, Scope, known_of, range};
 use std::marker::Model;
 

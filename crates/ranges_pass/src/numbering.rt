@@ -4,13 +4,13 @@ ghost use Rattle.std.specs.Prelude.{◌≡◌, ◌<◌, ◌++◌, ◌∷◌, [],
 ghost use Rattle.base_maps.specs.NameMap as map;
 ghost use Rattle.ranges_pass.specs.Numbering.{range_of, Adds, HasNumberIn, is_conditional, is_conditional_step, is_comparison, is_comparison_step, may_test, IsTargetNumbered, IsArgumentNumbered, AreNumbered, IsStepNumbered, AreDeclaredOperands, IsNumberingOf};
 
+use base_lists::Items;
+use base_maps::Table;
+use il_syntax::tree::{Argument, Condition, Instruction, Operator, Reference, Step};
+use load_scope::UnitScope;
 use ranges_interval::Interval;
 use ranges_rows::Row;
-use load_scope::UnitScope;
-use il_syntax::tree::{Argument, Condition, Instruction, Operator, Reference, Step};
-use base_maps::Table;
 use ranges_transfer::range;
-use base_lists::Items;
 use std::alloc::{AllocError, Global};
 
 /// A number for each ranged variable that a unit stores or may test, and the declared range of each number.

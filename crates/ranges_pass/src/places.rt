@@ -7,10 +7,10 @@ ghost use Rattle.il_semantics.specs.Annotation.{Knowledge};
 ghost use Rattle.ranges_laws.specs.Facts.{shown};
 
 use crate::numbered_unit::NumberedUnit;
-use ranges_interval::Interval;
-use ranges_laws::facts::Facts;
 use il_semantics::known::{Known, KnownDeferred};
 use il_syntax::tree::Step;
+use ranges_interval::Interval;
+use ranges_laws::facts::Facts;
 use std::alloc::AllocError;
 use std::marker::Model;
 

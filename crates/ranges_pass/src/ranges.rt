@@ -9,8 +9,8 @@ ghost use Rattle.ranges_pass.specs.Lacking.{BreaksRanges};
 use crate::fault::RangeFault;
 use crate::unit_flow::unit_fault;
 use il_statics::{Found, earlier, refusal};
-use load_scope::Scoped;
 use il_syntax::fault::Refusal;
+use load_scope::Scoped;
 use std::alloc::{AllocError, Global};
 
 // The fault that stands earliest in the text, of all units.

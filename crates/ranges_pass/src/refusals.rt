@@ -11,10 +11,10 @@ ghost use Rattle.ranges_transfer.specs.Scopes.{denoted};
 ghost use Rattle.ranges_pass.specs.Kinds.{is_division, is_argument_inside};
 
 use crate::fault::RangeFault;
-use ranges_laws::facts::Facts;
-use ranges_rows::Row;
 use il_semantics::known::{Known, KnownDeferred};
 use il_syntax::tree::{Argument, Arithmetic, Instruction, Operand, Operator, Reference};
+use ranges_laws::facts::Facts;
+use ranges_rows::Row;
 use ranges_transfer::{Scope, found_operated, is_inside, may_be_zero, right_inside};
 
 // 42 where an index may lie outside of its array, otherwise this fault.

@@ -10,16 +10,16 @@ use crate::fault::RangeFault;
 use crate::numbered_unit::NumberedUnit;
 use crate::numbering::{Numbering, numbering_of};
 use crate::refusals::fault_of;
-use ranges_laws::facts::Facts;
+use base_lists::Items;
 use il_statics::Found;
-use load_scope::{Scoped, UnitScope};
 use il_syntax::tree::{Step, Unit};
+use load_scope::{Scoped, UnitScope};
+use ranges_laws::facts::Facts;
 use ranges_transfer::carried::Carried;
 use ranges_transfer::hand_on;
 use ranges_transfer::join::join_facts;
 use ranges_transfer::observer::Nobody;
 use ranges_transfer::pass::{Flow, Handed, pass};
-use base_lists::Items;
 use std::alloc::{AllocError, Global};
 
 // What is known where two paths meet.

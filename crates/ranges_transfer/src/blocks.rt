@@ -16,8 +16,8 @@ use crate::join::join_rows;
 use crate::known::known_of;
 use crate::meant::{store_in, target_fits};
 use crate::scope::Scope;
-use ranges_rows::Row;
 use il_syntax::tree::{Argument, Condition, Scalar};
+use ranges_rows::Row;
 use std::alloc::{AllocError, Global};
 
 // Whether a target takes all values of an output, if that is scalar.

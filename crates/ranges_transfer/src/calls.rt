@@ -18,11 +18,11 @@ use crate::known::fits_range;
 use crate::meant::{Meant, natural_of, operand_in};
 use crate::operands::operand;
 use crate::scope::Scope;
+use il_semantics::known::Known;
+use il_statics::names::StandardFunction;
+use il_syntax::tree::{Elementary, Operand, Reference, Scalar};
 use ranges_laws::facts::Facts;
 use ranges_rows::Row;
-use il_statics::names::StandardFunction;
-use il_semantics::known::Known;
-use il_syntax::tree::{Elementary, Operand, Reference, Scalar};
 
 // The type of a bare literal among a function's further arguments.
 fn argument_type(function: StandardFunction, first: Known, meant: Meant) -> Elementary

@@ -7,11 +7,11 @@ ghost use Rattle.ranges_laws.specs.Facts.{IsFineKnown};
 ghost use Rattle.ranges_laws.specs.Found.{found_selected, found_applied};
 
 use crate::known::fitting;
-use ranges_interval::Interval;
-use ranges_rows::hull;
+use il_semantics::known::Known;
 use il_statics::elementary::{is_same_type, is_whole};
 use il_statics::names::StandardFunction;
-use il_semantics::known::Known;
+use ranges_interval::Interval;
+use ranges_rows::hull;
 
 /// A function of the current result alone.
 pub fn applied_alone(function: StandardFunction, first: Known) -> Option<Known>

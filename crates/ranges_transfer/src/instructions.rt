@@ -17,9 +17,9 @@ use crate::meant::{store_in, target_fits};
 use crate::operands::{loaded, loaded_operand, operated};
 use crate::pass::Handed;
 use crate::scope::Scope;
-use ranges_laws::facts::Facts;
 use il_semantics::known::{Known, KnownDeferred};
 use il_syntax::tree::{Argument, Condition, Instruction, Operand, Operator, Reference, Store};
+use ranges_laws::facts::Facts;
 use std::alloc::{AllocError, Global};
 
 /// C and CN ask for a Boolean.

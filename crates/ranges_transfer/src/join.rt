@@ -5,11 +5,11 @@ ghost use Rattle.ranges_laws.specs.Facts.{known_join, result_join, is_same_opera
 ghost use Rattle.il_semantics.specs.declared.known.KnownDeferred.{KnownDeferred};
 
 use crate::carried::Carried;
+use base_lists::Items;
+use il_semantics::known::{Known, KnownDeferred};
+use il_statics::elementary::is_same_type;
 use ranges_laws::facts::Facts;
 use ranges_rows::{Row, hull};
-use il_statics::elementary::is_same_type;
-use il_semantics::known::{Known, KnownDeferred};
-use base_lists::Items;
 
 // What is known of a value from two paths, if it has one type.
 fn known_join(first: Known, second: Known) -> Option<Known>

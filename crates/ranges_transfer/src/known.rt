@@ -12,12 +12,12 @@ ghost use Rattle.ranges_laws.specs.Facts.{IsFineKnown};
 ghost use Rattle.ranges_laws.specs.Found.{is_part, fits, fitting, found_literal, fits_range, found_loaded, combined, compares_flags, found_operated};
 ghost use Rattle.ranges_laws.specs.Steps.{flag_there};
 
-use ranges_interval::Interval;
+use il_semantics::known::Known;
 use il_statics::elementary::{
     declared_limits, has_value, is_counted, is_same_type, is_whole, limits,
 };
-use il_semantics::known::Known;
 use il_syntax::tree::{Arithmetic, Comparison, Elementary, Literal, Operator, Scalar, Subrange};
+use ranges_interval::Interval;
 
 // The numbers of limits, if there are some.
 fn range_of(limits: Option<Subrange>) -> Option<Interval>

@@ -10,11 +10,11 @@ ghost use Rattle.ranges_transfer.specs.Meant.{range_in, index_fits, operand_in, 
 use crate::known::{
     fits_range, found_literal, is_part, known_of, literal_type, only, range, range_of_bounds,
 };
+use il_semantics::known::Known;
+use il_statics::elementary::is_whole;
+use il_syntax::tree::{Elementary, Literal, Scalar, Subrange};
 use ranges_interval::Interval;
 use ranges_rows::Row;
-use il_statics::elementary::is_whole;
-use il_semantics::known::Known;
-use il_syntax::tree::{Elementary, Literal, Scalar, Subrange};
 
 /// What an operand means (IEC 61131-3:2003, 3.2.1).
 #[derive(Clone, Copy)]

@@ -11,9 +11,9 @@ ghost use Rattle.ranges_transfer.specs.Scopes.{denoted, named};
 use crate::known::{found_loaded, found_operated};
 use crate::meant::{context_of, is_inside_in, natural_of, operand_in, operand_inside_in};
 use crate::scope::Scope;
-use ranges_rows::Row;
 use il_semantics::known::Known;
 use il_syntax::tree::{Elementary, Operator, Reference};
+use ranges_rows::Row;
 
 /// What is known of an operand, of a bare literal with the type that is given.
 #[tactic(auto, using(crate::proofs::Resolved::operand_is, crate::proofs::Resolved::operand_fine))]

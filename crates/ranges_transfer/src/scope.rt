@@ -12,8 +12,8 @@ ghost use Rattle.load_scope.specs.Units.{scalar_of, is_block, AreInputsOf};
 ghost use Rattle.ranges_transfer.specs.Scopes.{denoted, named, form_in, result_by, input_form, output_form};
 
 use crate::meant::Meant;
-use il_statics::names::StandardFunction;
 use il_semantics::known::Known;
+use il_statics::names::StandardFunction;
 use il_syntax::tree::{Reference, Scalar};
 
 /// What names mean in a unit.

@@ -16,12 +16,12 @@ use crate::instructions::copy_of;
 use crate::meant::{Meant, put, range_in};
 use crate::pass::Handed;
 use crate::scope::Scope;
-use ranges_interval::Interval;
-use ranges_rows::Row;
 use il_statics::elementary::{has_value, is_counted, is_same_type, is_whole};
 use il_syntax::tree::{
     Comparison, Condition, Elementary, Instruction, Literal, Operator, Reference, Scalar, Step,
 };
+use ranges_interval::Interval;
+use ranges_rows::Row;
 use std::alloc::{AllocError, Global};
 
 /// A scalar variable, with its number if it has one, is compared with a literal's number.

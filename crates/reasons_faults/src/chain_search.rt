@@ -1,9 +1,9 @@
 // The search for chains of uses. What it finds is checked use by use where it is told.
 
+use base_lists::Items;
 use load_order::relation::{Relation, holds, is_set};
 use load_order::uses::uses;
 use load_scope::Scoped;
-use base_lists::Items;
 use std::alloc::{AllocError, Global};
 
 // How many uses a chain of too many units has (own rule).

@@ -5,11 +5,11 @@ ghost use Rattle.base_texts.specs.Puts.{Puts};
 ghost use Rattle.il_statics.specs.Names.{or_else};
 ghost use Rattle.reasons_faults.specs.ChainReasons.{UsesIn, use_text, AreAdded, is_named, is_apart, is_number, is_own, is_call_of, is_type_of, call_line, instance_line, use_line};
 
-use reasons_names::names_spots::unit_at;
-use reasons_names::writing::{put_numbered, put_three};
+use il_syntax::tree::{Declaration, Form, Instruction, Step, Unit};
 use load_scope::Scoped;
 use load_scope::entry::BlockType;
-use il_syntax::tree::{Declaration, Form, Instruction, Step, Unit};
+use reasons_names::names_spots::unit_at;
+use reasons_names::writing::{put_numbered, put_three};
 use std::alloc::AllocError;
 
 // Whether a number is there and is this one.

@@ -5,8 +5,8 @@ ghost use Rattle.reasons_faults.specs.ChainReasons.{AreToldBetween, IsRecursionT
 
 use crate::chain_search::{too_long, way_to_itself};
 use crate::chain_uses::{is_apart, put_uses};
-use load_scope::Scoped;
 use il_syntax::tree::{Place, Unit};
+use load_scope::Scoped;
 use std::alloc::{AllocError, Global};
 
 // A unit, and its number.

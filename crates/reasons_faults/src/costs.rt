@@ -5,13 +5,13 @@ ghost use Rattle.base_texts.specs.Puts.{Puts};
 ghost use Rattle.load_budgets.specs.Rounds.{unit_ways, line_at};
 ghost use Rattle.reasons_faults.specs.CostReasons.{costs_of, places_by, is_callee, is_run_by, run_at, runs_of, costs_text, once_text, often_text, run_line, runs_lines, own_line, most_lines, heading_lines, AreToldOfCosts};
 
-use reasons_names::writing::put_two;
-use load_scope::Scoped;
+use base_lists::Items;
 use il_syntax::tree::{Body, Place, Unit};
 use load_budgets::costs::{all_ways, longest};
 use load_budgets::table::{MOST, Rest, number_at, rest_up, rests};
 use load_budgets::ways::Way;
-use base_lists::Items;
+use load_scope::Scoped;
+use reasons_names::writing::put_two;
 use std::alloc::{AllocError, Global};
 
 /// What is told of the unit at a heading (own rule): of each own unit that its most expensive path runs what it costs, how often

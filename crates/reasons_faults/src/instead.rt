@@ -8,9 +8,9 @@ ghost use Rattle.reasons_faults.specs.TokenReasons.{token_at};
 use crate::left_out::token_before;
 use crate::parentheses::open_at;
 use crate::unexpected::{in_upper_case, token_at, word_of};
-use load_lines::Source;
 use il_syntax::token::{Kind, Sign, Token};
 use il_syntax::tree::Place;
+use load_lines::Source;
 use std::alloc::{AllocError, Global};
 
 /// What stands at a place, as far as it is looked at.

@@ -26,13 +26,13 @@ mod unexpected;
 
 use crate::fractions::put_literal;
 use crate::left_out::put_stray;
-use load_tree::parse;
 use il_statics::Written;
-use load_scope::Scoped;
 use il_syntax::fault::Refusal;
 use il_syntax::token::Token;
 use il_syntax::tree::Place;
+use load_scope::Scoped;
 use load_tokens::tokens;
+use load_tree::parse;
 use std::alloc::{AllocError, Global};
 
 /// What is told of the refusal of a text with a number at a place: lines, each with its line feed, or none (own rule).

@@ -6,11 +6,11 @@ ghost use Rattle.il_statics.specs.Declarations.{names_of_tasks};
 ghost use Rattle.il_statics.specs.Names.{is_one_of};
 ghost use Rattle.reasons_faults.specs.TaskReasons.{foreign_line, no_task_line, no_program_line, second_line, no_such_line, group_line, car_line, unused_line, foreign_by, foreign_lines, idle_lines, task_lines, unknown_task_lines, first_place, second_by, second_lines, no_such_by, no_such_lines, role_by, role_lines, wrong_lines, program_lines, car_words, missing_car, missing_lines, unused_lines, bad_task_lines, size_lines, sizes_lines};
 
-use reasons_names::writing::{put_in_line, put_two};
 use il_statics::names::Role;
+use il_syntax::tree::{Config, Place, ProgramLine, Size, Task, Unit};
 use load_scope::roles::task_role;
 use load_scope::{Scoped, is_program};
-use il_syntax::tree::{Config, Place, ProgramLine, Size, Task, Unit};
+use reasons_names::writing::{put_in_line, put_two};
 use std::alloc::AllocError;
 
 // The name of a car's task.

@@ -14,12 +14,12 @@ ghost use Rattle.reasons_types.specs.WrittenReasons.{misplaced_lines};
 
 use crate::limits::{put_limits_at, put_slots};
 use crate::tasks::{put_bad_task, put_sizes};
+use il_syntax::tree::{Config, Instruction, Place, Step, Unit};
+use load_scope::{Scoped, UnitScope};
 use reasons_names::names_again::put_again_at;
 use reasons_names::names_labels::put_jump;
 use reasons_names::names_targets::put_targets;
 use reasons_names::names_unknown::{put_instruction as put_names, put_unknown_at};
-use load_scope::{Scoped, UnitScope};
-use il_syntax::tree::{Config, Instruction, Place, Step, Unit};
 use reasons_types::types::{is_type_number, put_types};
 use reasons_types::types_arguments::put_taken;
 use reasons_types::types_initials::put_initials;

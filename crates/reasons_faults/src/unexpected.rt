@@ -13,10 +13,10 @@ use crate::instead::put_instead;
 use crate::left_out::{put_named, put_words, token_before};
 use crate::parentheses::put_open;
 use crate::spelled;
-use load_lines::{Source, keyword_of};
 use il_syntax::fault::Refusal;
 use il_syntax::token::{Kind, Token};
 use il_syntax::tree::Place;
+use load_lines::{Source, keyword_of};
 use std::alloc::{AllocError, Global};
 
 // How many kinds are told at most.

@@ -11,8 +11,8 @@ use crate::names_spots::{
     unit_spots,
 };
 use crate::writing::{put_in_line, put_two};
-use load_scope::Scoped;
 use il_syntax::tree::{Body, Declaration, Place, ProgramLine, Task, Unit};
+use load_scope::Scoped;
 use std::alloc::{AllocError, Global};
 
 /// Adds what is told of the name that is declared again at a place: that it is predeclared, a unit's, or declared before (own rule).

@@ -9,8 +9,8 @@ ghost use Rattle.reasons_names.specs.NamesKnown.{own_function, own_block, seen_i
 use crate::names_near::{Candidate, push_spots};
 use crate::names_spots::{declared_spots, unit_spots};
 use il_statics::standard::{NamedBlock, NamedFunction, standard_blocks, standard_functions};
-use load_scope::{ImageRow, UnitScope, image_rows};
 use il_syntax::tree::{Config, Declaration, Form, Named, Unit, UnitKind};
+use load_scope::{ImageRow, UnitScope, image_rows};
 use std::alloc::{AllocError, Global};
 
 // A word of the language.

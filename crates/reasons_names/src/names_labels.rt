@@ -7,8 +7,8 @@ ghost use Rattle.reasons_names.specs.NamesLabels.{missing_line, labels_near, mis
 
 use crate::names_near::{Near, nearest, push_spots, put_ended};
 use crate::names_spots::label_spots;
-use load_scope::UnitScope;
 use il_syntax::tree::{Body, Instruction};
+use load_scope::UnitScope;
 use std::alloc::{AllocError, Global};
 
 /// Adds what is told of the label of a jump: that it doesn't stand in its unit, and one that is near (own rule).

@@ -4,8 +4,8 @@ ghost use Rattle.std.specs.Prelude.{◌≡◌, ◌++◌, IfOk, OnOk, find, flat_
 ghost use Rattle.il_statics.specs.Declarations.{names_in, unit_names, labels_of};
 ghost use Rattle.reasons_names.specs.NameSpots.{spot_shown, shown, headings, task_name, line_name, is_at, named_at, first_of};
 
-use load_scope::Scoped;
 use il_syntax::tree::{Body, Declaration, Named, Place, ProgramLine, Step, Task, Unit};
+use load_scope::Scoped;
 use std::alloc::{AllocError, Global};
 
 /// A name, and the place that tells of it.

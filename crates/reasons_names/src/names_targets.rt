@@ -6,8 +6,8 @@ ghost use Rattle.reasons_names.specs.NamesTargets.{name_text, target_text, argum
 
 use crate::names_stores::{put_literal_line, put_member, put_variable};
 use crate::names_tasks::put_stored;
-use load_scope::UnitScope;
 use il_syntax::tree::{Argument, Instruction, Reference};
+use load_scope::UnitScope;
 use std::alloc::{AllocError, Global};
 
 /// Adds what is told of the targets of an instruction: of 38 the tasks that store into each global, if there are two; otherwise

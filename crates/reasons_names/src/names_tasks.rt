@@ -11,8 +11,8 @@ use crate::names_spots::unit_at;
 use crate::names_stores::origin_named;
 use crate::writing::{put_in_line, put_three, put_two};
 use il_statics::names::Origin;
-use load_scope::{Scoped, UnitScope};
 use il_syntax::tree::{Argument, Instruction, ProgramLine, Reference, Step};
+use load_scope::{Scoped, UnitScope};
 use std::alloc::{AllocError, Global};
 
 /// A task whose program stores into a global, and the line of the first of its stores.

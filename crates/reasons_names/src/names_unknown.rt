@@ -15,12 +15,12 @@ use crate::names_meant::{Access, Meant, is_visible, meaning_of};
 use crate::names_near::{Candidate, Near, nearest, put_ended};
 use crate::names_spots::is_at;
 use crate::writing::{put_four, put_two};
-use load_scope::functions::standard_function;
-use load_scope::{Scoped, UnitScope};
 use il_syntax::tree::{
     Argument, Declaration, Form, Index, Instruction, Named, Operand, Place, Reference, Unit,
     UnitKind,
 };
+use load_scope::functions::standard_function;
+use load_scope::{Scoped, UnitScope};
 use std::alloc::{AllocError, Global};
 
 /// Adds what is told of the declared names that are unknown at a place: an external's or a type's, with one that is near (own rule).

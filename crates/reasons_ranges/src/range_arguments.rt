@@ -7,12 +7,12 @@ ghost use Rattle.reasons_ranges.specs.RangeReasons.{of_text, input_text, input_b
 use crate::range_divisors::put_value;
 use crate::range_inputs::put_function;
 use crate::range_operands::{lies_in, range_at};
-use ranges_interval::Interval;
-use reasons_names::writing::{put_three, put_two};
-use ranges_pass::PlaceFacts;
 use il_statics::elementary::declared_limits;
-use load_scope::UnitScope;
 use il_syntax::tree::{Argument, Instruction, Reference, Scalar, Subrange, Unit};
+use load_scope::UnitScope;
+use ranges_interval::Interval;
+use ranges_pass::PlaceFacts;
+use reasons_names::writing::{put_three, put_two};
 use reasons_types::range_words::{put_line_of, put_scalar};
 use std::alloc::AllocError;
 

@@ -7,11 +7,11 @@ ghost use Rattle.reasons_types.specs.RangeWords.{ends_text, reference_text};
 ghost use Rattle.reasons_ranges.specs.RangeReasons.{operand_name, divided_by, inner_text, divisor_text, value_text};
 
 use crate::range_operands::range_at;
+use il_semantics::known::Known;
+use il_syntax::tree::{Arithmetic, Instruction, Operator, Reference};
+use load_scope::UnitScope;
 use ranges_interval::Interval;
 use ranges_pass::PlaceFacts;
-use il_semantics::known::Known;
-use load_scope::UnitScope;
-use il_syntax::tree::{Arithmetic, Instruction, Operator, Reference};
 use reasons_types::range_words::{put_range, put_reference};
 use std::alloc::AllocError;
 

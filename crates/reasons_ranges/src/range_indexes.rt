@@ -5,11 +5,11 @@ ghost use Rattle.base_texts.specs.Puts.{Puts};
 ghost use Rattle.reasons_ranges.specs.RangeReasons.{index_range, array_has_text, outside_text, element_text, operand_index_text, argument_index_text, operands_index_text, arguments_index_text, indexes_text};
 
 use crate::range_operands::{bounds_named, lies_within, only};
-use ranges_interval::Interval;
-use reasons_names::writing::put_three;
-use ranges_pass::PlaceFacts;
-use load_scope::UnitScope;
 use il_syntax::tree::{Argument, Index, Instruction, Operand, Reference, Subrange, Unit};
+use load_scope::UnitScope;
+use ranges_interval::Interval;
+use ranges_pass::PlaceFacts;
+use reasons_names::writing::put_three;
 use reasons_types::range_words::{put, put_ends, put_index_name, put_limits, put_line_of};
 use std::alloc::AllocError;
 

@@ -7,13 +7,13 @@ ghost use Rattle.reasons_ranges.specs.RangeReasons.{first_text, first_by, furthe
 
 use crate::range_divisors::put_value;
 use crate::range_operands::{lies_in, range_at};
-use ranges_interval::Interval;
-use reasons_names::writing::put_three;
-use ranges_pass::PlaceFacts;
-use il_statics::elementary::declared_limits;
 use il_semantics::known::Known;
-use load_scope::UnitScope;
+use il_statics::elementary::declared_limits;
 use il_syntax::tree::{Operand, Reference, Scalar};
+use load_scope::UnitScope;
+use ranges_interval::Interval;
+use ranges_pass::PlaceFacts;
+use reasons_names::writing::put_three;
 use reasons_types::range_words::{put_range, put_scalar};
 use std::alloc::AllocError;
 

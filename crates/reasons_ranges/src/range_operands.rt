@@ -8,11 +8,11 @@ ghost use Rattle.il_semantics.specs.Annotation.{only, range};
 ghost use Rattle.load_scope.specs.Views.{type_of};
 ghost use Rattle.reasons_ranges.specs.RangeReasons.{element_of, bounds_of, scalar_named, literal_range, range_at, lies_within, lies_in};
 
-use ranges_interval::Interval;
-use ranges_pass::PlaceFacts;
+use il_syntax::tree::{Literal, Reference, Scalar, Subrange};
 use load_scope::UnitScope;
 use load_scope::entry::VariableType;
-use il_syntax::tree::{Literal, Reference, Scalar, Subrange};
+use ranges_interval::Interval;
+use ranges_pass::PlaceFacts;
 use ranges_transfer::range;
 
 // The type of the elements of an array.

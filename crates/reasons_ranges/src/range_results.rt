@@ -9,14 +9,14 @@ ghost use Rattle.reasons_types.specs.RangeWords.{scalar_text};
 ghost use Rattle.reasons_ranges.specs.RangeReasons.{sign_text, is_end, is_operand, given_from, left_text, operated_text, operated_by, sides_text, operator_text, known_range, evaluated_text, converted_unless, absolute_text, absolute_of, function_text, invoked_text, overflow_text};
 
 use crate::range_operands::{lies_in, range_at};
-use ranges_interval::Interval;
-use ranges_pass::PlaceFacts;
+use il_semantics::known::{Known, KnownDeferred};
 use il_statics::elementary::limits;
 use il_statics::names::StandardFunction;
-use il_semantics::known::{Known, KnownDeferred};
+use il_syntax::tree::{Arithmetic, Elementary, Instruction, Operator, Reference, Scalar};
 use load_scope::UnitScope;
 use load_scope::functions::standard_function;
-use il_syntax::tree::{Arithmetic, Elementary, Instruction, Operator, Reference, Scalar};
+use ranges_interval::Interval;
+use ranges_pass::PlaceFacts;
 use ranges_transfer::may_be_zero;
 use reasons_types::range_words::{put, put_ends, put_range, put_scalar};
 use std::alloc::AllocError;

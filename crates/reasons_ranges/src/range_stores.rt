@@ -5,11 +5,11 @@ ghost use Rattle.base_texts.specs.Puts.{Puts};
 ghost use Rattle.reasons_ranges.specs.RangeReasons.{into_text, stored_text, result_text, store_text};
 
 use crate::range_operands::scalar_named;
+use il_semantics::known::Known;
+use il_syntax::tree::{Instruction, Reference, Scalar, Unit};
+use load_scope::UnitScope;
 use ranges_interval::Interval;
 use ranges_pass::PlaceFacts;
-use il_semantics::known::Known;
-use load_scope::UnitScope;
-use il_syntax::tree::{Instruction, Reference, Scalar, Unit};
 use reasons_types::range_words::{put, put_ends, put_reference, put_scalar, put_where};
 use std::alloc::AllocError;
 

@@ -12,13 +12,13 @@ use crate::range_divisors::put_divisor;
 use crate::range_indexes::put_indexes;
 use crate::range_results::put_overflow;
 use crate::range_stores::put_store;
-use load_order::Ordered;
-use ranges_pass::{PlaceFacts, RangeFault, Witness, shown_unit};
 use il_statics::{Found, PhaseFault};
-use load_scope::{Scoped, UnitScope};
 use il_syntax::fault::Refusal;
 use il_syntax::tree::{Instruction, Place, Step, Unit};
+use load_order::Ordered;
+use load_scope::{Scoped, UnitScope};
 use load_text::unbroken;
+use ranges_pass::{PlaceFacts, RangeFault, Witness, shown_unit};
 use std::alloc::{AllocError, Global};
 
 // Writes what is told of the instruction at an offset, should it have a fault.

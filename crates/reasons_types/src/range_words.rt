@@ -7,10 +7,10 @@ ghost use Rattle.il_statics.specs.Names.{or_else};
 ghost use Rattle.reasons_types.specs.RangeWords.{both_text, ends_text, limits_text, within_text, scalar_text, index_text, index_name, reference_text, line_among, line_in, result_line, declared_line, declared_text, instance_text, where_text};
 
 use crate::types_operands::type_word;
-use ranges_interval::Interval;
-use reasons_names::writing::{put_numbered, put_three, put_two};
 use il_statics::elementary::declared_limits;
 use il_syntax::tree::{Declaration, Index, Named, Reference, Scalar, Subrange, Unit, UnitKind};
+use ranges_interval::Interval;
+use reasons_names::writing::{put_numbered, put_three, put_two};
 use std::alloc::AllocError;
 
 /// A piece of text.

@@ -8,8 +8,8 @@ use crate::types_inputs::put_called;
 use crate::types_operands::put_operands_of;
 use crate::types_taken::put_taken;
 use crate::types_wanted::put_wanted;
-use load_scope::UnitScope;
 use il_syntax::tree::Instruction;
+use load_scope::UnitScope;
 use std::alloc::AllocError;
 
 /// The type that the current result must have, what the operator takes, the types of an own function's inputs, and those of the operands.

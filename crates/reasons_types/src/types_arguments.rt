@@ -7,12 +7,12 @@ ghost use Rattle.il_statics.specs.Types as rules;
 ghost use Rattle.reasons_types.specs.ArgumentReasons.{taken_count, arguments_text, standing_text, with_result, count_line, is_given, twice_line, enable_line, lacks_input, lacks_output, no_input_line, no_output_line, word_line, argument_lines, arguments_lines, call_lines, taken_lines};
 
 use crate::types_words::put_block;
-use reasons_names::names_meant::{has_input, has_output};
-use reasons_names::writing::{put_four, put_two};
 use il_statics::names::StandardFunction;
+use il_syntax::tree::{Argument, Instruction};
 use load_scope::UnitScope;
 use load_scope::functions::standard_function;
-use il_syntax::tree::{Argument, Instruction};
+use reasons_names::names_meant::{has_input, has_output};
+use reasons_names::writing::{put_four, put_two};
 use std::alloc::{AllocError, Global};
 
 // The arguments of a standard function, the current result as the first of them.

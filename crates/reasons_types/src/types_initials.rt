@@ -5,8 +5,8 @@ ghost use Rattle.base_texts.specs.Puts.{Puts};
 ghost use Rattle.reasons_types.specs.InitialReasons.{declared_line, initial_lines, declaration_lines, declarations_lines, unit_initials, initials_lines};
 
 use crate::types_operands::{put_literal, type_word};
-use reasons_names::writing::{put_four, put_two};
 use il_syntax::tree::{Config, Declaration, Form, Initial, Named, Unit};
+use reasons_names::writing::{put_four, put_two};
 use std::alloc::AllocError;
 
 // `V is BOOL`, `V is an array`, `V is an instance`, of a declared name.

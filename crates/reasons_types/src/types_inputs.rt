@@ -7,9 +7,9 @@ ghost use Rattle.il_statics.specs.Types.{scalar_type};
 ghost use Rattle.reasons_types.specs.TypeReasons.{input_line, declared_lines, inputs_lines, called_lines};
 
 use crate::types_operands::put_is;
-use reasons_names::writing::put_three;
-use load_scope::Scoped;
 use il_syntax::tree::{Declaration, Elementary, Form, Instruction, Named, Unit};
+use load_scope::Scoped;
+use reasons_names::writing::put_three;
 use std::alloc::AllocError;
 
 // The type of a scalar.

@@ -7,10 +7,10 @@ ghost use Rattle.il_statics.specs.Declarations.{scalar_numbers, array_numbers, c
 ghost use Rattle.load_declarations.specs.Mentions.{scalar_of, array_of, called_of};
 ghost use Rattle.reasons_types.specs.KindReasons.{is_other_kind, array_line, no_array_line, no_instance_line, index_kind, reference_kind, operand_kinds, argument_kind, argument_kinds, kind_lines};
 
-use reasons_names::writing::put_two;
+use il_syntax::tree::{Argument, Index, Instruction, Operand, Reference};
 use load_scope::UnitScope;
 use load_scope::entry::{Binding, VariableType};
-use il_syntax::tree::{Argument, Index, Instruction, Operand, Reference};
+use reasons_names::writing::put_two;
 use std::alloc::AllocError;
 
 // Whether a variable of this type is an array.

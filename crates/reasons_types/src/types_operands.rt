@@ -6,10 +6,10 @@ ghost use Rattle.reasons_types.specs.TypeWords.{type_word, truth_word, is_text, 
 ghost use Rattle.reasons_types.specs.TypeReasons.{name_line, index_line, element_line, member_line, reference_lines, operands_lines, argument_lines, arguments_lines, operand_lines};
 
 use crate::range_words::put_index;
-use reasons_names::writing::{put_four, put_three, put_two};
 use il_statics::elementary::has_value;
 use il_syntax::tree::{Argument, Elementary, Index, Instruction, Literal, Operand, Reference};
 use load_types::scope::Scope;
+use reasons_names::writing::{put_four, put_three, put_two};
 use std::alloc::AllocError;
 
 /// The word of a type.

@@ -7,11 +7,11 @@ ghost use Rattle.il_statics.specs.Types.{opener, IsResultAt, IsDeferredAt};
 ghost use Rattle.reasons_types.specs.ResultReasons.{jumps_to, jump_among, jump_to, jump_line, jump_lines, no_result_line, result_line, aside_line, deferred_lines, tested_line, result_lines, IsResultOf, IsResultTold};
 
 use crate::types_operands::type_word;
-use reasons_names::writing::put_three;
-use load_scope::{Scoped, UnitScope};
 use il_syntax::tree::{Body, Condition, Elementary, Instruction, Operator, Step};
+use load_scope::{Scoped, UnitScope};
 use load_types::places::{fresh, innermost, pass_on, result_at, set_aside};
 use load_types::scope::Scope;
+use reasons_names::writing::put_three;
 use std::alloc::{AllocError, Global};
 
 // What types come to a place: of the current result, and of what waits for a `)`.

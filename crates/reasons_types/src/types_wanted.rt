@@ -14,12 +14,12 @@ ghost use Rattle.load_types.specs.Types.{elementary_of};
 ghost use Rattle.reasons_types.specs.TypeReasons.{tested_type, stored_type, operated_type, standard_type, first_type, function_type, wanted_type, IsWanted, wanted_line};
 
 use crate::types_operands::type_word;
-use reasons_names::writing::put_three;
 use il_statics::names::StandardFunction;
+use il_syntax::tree::{Condition, Elementary, Instruction, Operator, Reference, Scalar, Store};
 use load_scope::UnitScope;
 use load_scope::functions::standard_function;
-use il_syntax::tree::{Condition, Elementary, Instruction, Operator, Reference, Scalar, Store};
 use load_types::scope::Scope;
+use reasons_names::writing::put_three;
 use std::alloc::AllocError;
 
 /// A law: with a current result of another type than the one that must be there, an instruction breaks a rule.

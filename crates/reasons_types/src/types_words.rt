@@ -7,13 +7,13 @@ ghost use Rattle.load_scope.specs.Views.{variables_of_block};
 ghost use Rattle.load_scope.specs.declared.entry.BlockType.TheVariants.{Own as OwnBlock};
 ghost use Rattle.reasons_types.specs.ArgumentReasons.{words_of, words_text, inputs_line, outputs_line, block_lines};
 
-use reasons_names::names_spots::unit_at;
-use reasons_names::writing::{put_three, put_two};
 use il_statics::names::StandardBlock;
 use il_statics::standard::{BlockWord, words_of};
+use il_syntax::tree::{Declaration, Named, Unit};
 use load_scope::Scoped;
 use load_scope::entry::BlockType;
-use il_syntax::tree::{Declaration, Named, Unit};
+use reasons_names::names_spots::unit_at;
+use reasons_names::writing::{put_three, put_two};
 use std::alloc::{AllocError, Global};
 
 // Words behind others.

@@ -7,9 +7,9 @@ ghost use Rattle.reasons_types.specs.WrittenReasons.{written_scalar, form_text, 
 
 use crate::range_words::{put, put_limits, put_within};
 use crate::types_operands::type_word;
-use reasons_names::writing::put_two;
 use il_statics::elementary::is_whole;
 use il_syntax::tree::{Config, Declaration, Form, Named, Scalar, Unit, UnitKind};
+use reasons_names::writing::put_two;
 use std::alloc::AllocError;
 
 /// What a list of declarations takes.

@@ -6,10 +6,10 @@ ghost use Rattle.group_spec.specs.Snapshot.{motor_number, number};
 ghost use Rattle.scan_image.specs.Image.{filled, call_values, group_values, car_values, position_value, motor_value, cars_values, role_values, image_values};
 
 use crate::rows::{put, put_parts};
-use il_semantics::value::Value;
-use scan_step::rows::Rows;
 use group_calls::book::CallBook;
 use group_spec::image::{CarFields, CarOutputs, Fields, Image, Motor, SLOT_PLACES, Sizes};
+use il_semantics::value::Value;
+use scan_step::rows::Rows;
 
 // The number of a motor.
 fn motor_number(motor: Motor) -> i64

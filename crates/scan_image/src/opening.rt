@@ -3,9 +3,11 @@
 ghost use Rattle.std.specs.Prelude.{◌≡◌, ◌≤◌, replicate};
 ghost use Rattle.group_spec.specs.Image.{opening_car, opening_outputs, opening_image};
 
-use group_spec::image::{CAR_PLACES, CarFields, CarOutputs, Fields, Image, MOST_CARS, Motor, Sizes};
-use group_spec::outputs::Outputs;
 use base_lists::Bounded;
+use group_spec::image::{
+    CAR_PLACES, CarFields, CarOutputs, Fields, Image, MOST_CARS, Motor, Sizes,
+};
+use group_spec::outputs::Outputs;
 
 // How a car stands in the opening world: at floor 1, locked (own rule).
 const OPENING: CarFields = CarFields {

@@ -5,8 +5,8 @@ ghost use Rattle.il_semantics.specs.declared.value.Value.{Value as Written};
 ghost use Rattle.load_slots.specs.Layout.{rows, number_part, flag_part};
 ghost use Rattle.scan_image.specs.Image.{with_slot, filled, spliced};
 
-use load_slots::parts::parts_of;
 use il_semantics::value::Value;
+use load_slots::parts::parts_of;
 use scan_step::rows::Rows;
 
 /// Gives a slot a value.

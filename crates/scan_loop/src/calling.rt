@@ -9,8 +9,8 @@ ghost use Rattle.scan_loop.specs.Quick.{is_timer, flat_of, standard, called_behi
 ghost use Rattle.scan_step.specs.Current.{left_of};
 
 use crate::quick::{Quick, Wide};
-use load_slots::flat::{Assignment, Copied, Flat, Operand, Slot};
 use il_syntax::tree::Condition;
+use load_slots::flat::{Assignment, Copied, Flat, Operand, Slot};
 use scan_step::blocks::call_block;
 use scan_step::current::Current;
 use scan_step::rows::{boolean_of, element, flag, number, number_of, put_flag, put_number, write};

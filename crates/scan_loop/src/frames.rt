@@ -8,11 +8,11 @@ ghost use Rattle.scan_loop.specs.Frames.{pair_of, operator_of, truth_of, rest_of
 
 use crate::quick::Quick;
 use arrayvec::ArrayVec;
-use load_slots::flat::UnitCode;
+use base_lists::Items;
 use il_semantics::value::Content;
 use il_syntax::tree::{Elementary, Logic, Operator};
+use load_slots::flat::UnitCode;
 use scan_step::current::{Current, Kind, content_by};
-use base_lists::Items;
 use std::marker::Model;
 use std::mem;
 

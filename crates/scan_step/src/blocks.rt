@@ -8,11 +8,11 @@ ghost use Rattle.il_statics.specs.declared.names.StandardBlock.TheVariants.{Sr, 
 ghost use Rattle.scan_step.specs.Blocks.{set_dominant_at, reset_dominant_at, detector_at, put_detector, up_counter_at, down_counter_at, put_counter, up_down_counter_at, put_up_down_counter, delay_timer_at, put_delay_timer, pulse_timer_at, put_pulse_timer, count_at, put_flag as flag_put, put_count, block_at, now_behind};
 
 use crate::rows::{flag, milliseconds, narrow, number};
-use il_statics::names::StandardBlock;
 use il_blocks::bistable::{ResetDominant, SetDominant};
 use il_blocks::counters::{DownCounter, UpCounter, UpDownCounter};
 use il_blocks::edges::EdgeDetector;
 use il_blocks::timers::{DelayTimer, PulseTimer};
+use il_statics::names::StandardBlock;
 
 // The INT of a word of an instance.
 #[inline(always)]

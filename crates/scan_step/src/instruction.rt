@@ -11,10 +11,10 @@ ghost use Rattle.load_slots.specs.Layout.{rows};
 ghost use Rattle.scan_step.specs.Effect.{with_some, place, operand, number_left, computed, compared_as, operated, applied_alone, applied_to, applied_to_both, applied, loaded, stored, effect, is_straight, from_base};
 
 use crate::rows::{Rows, boolean_of, element, number_of, read, write};
-use load_slots::flat::{Flat, Operand, Slot};
-use il_statics::names::StandardFunction;
 use il_semantics::value::{Content, Value};
+use il_statics::names::StandardFunction;
 use il_syntax::tree::{Arithmetic, Comparison, Elementary, Logic, Operator, Store};
+use load_slots::flat::{Flat, Operand, Slot};
 
 // A Boolean with its type.
 #[inline(always)]

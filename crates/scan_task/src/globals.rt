@@ -7,8 +7,8 @@ ghost use Rattle.scan_task.specs.Starting.{shared_value, listed_values};
 
 use crate::rows::value;
 use crate::sharing::Transfer;
-use load_slots::flat::Cell;
 use il_semantics::value::Value;
+use load_slots::flat::Cell;
 use scan_image::rows::put;
 use scan_step::rows::Rows;
 

@@ -9,10 +9,10 @@ ghost use Rattle.scan_task.specs.Looking.{stand_of, shown_stand};
 
 use crate::rows::value;
 use crate::verified::Verified;
+use il_semantics::value::Value;
+use load_slots::flat::UnitCode;
 use scan_loop::ScanState;
 use scan_loop::frames::Frame;
-use load_slots::flat::UnitCode;
-use il_semantics::value::Value;
 
 /// A body that runs or has called: the name of its unit, and the place at which it stands. Behind the last instruction stands a RET.
 #[derive(Clone, Copy)]

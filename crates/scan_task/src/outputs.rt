@@ -9,11 +9,11 @@ ghost use Rattle.scan_task.specs.Scanning.{value_at, IsScanOf};
 ghost use Rattle.scan_task.specs.Ran.{stands};
 
 use crate::verified::Verified;
-use scan_loop::ScanState;
-use load_slots::flat::Cell;
-use scan_step::rows::Rows;
-use group_spec::image::{Motor, SLOT_PLACES, Wishes};
 use base_lists::Bounded;
+use group_spec::image::{Motor, SLOT_PLACES, Wishes};
+use load_slots::flat::Cell;
+use scan_loop::ScanState;
+use scan_step::rows::Rows;
 
 // The motor of a number.
 fn motor_of(number: i64) -> Motor

@@ -12,12 +12,12 @@ ghost use Rattle.scan_task.specs.Listing.{program_line_of};
 
 use crate::sharing::{Transfer, between, image_count, slots_in, transfers};
 use crate::verified::line_number;
-use load_code::Code;
-use load_slots::flat::Cell;
-use load_scope::UnitScope;
-use il_syntax::tree::Config;
-use group_spec::image::{Sizes, TASK_PLACES};
 use base_lists::Items;
+use group_spec::image::{Sizes, TASK_PLACES};
+use il_syntax::tree::Config;
+use load_code::Code;
+use load_scope::UnitScope;
+use load_slots::flat::Cell;
 use std::alloc::{AllocError, Global};
 
 /// A task as it runs: the number of its PROGRAM line, the number of its program among the units, the slots of the globals that

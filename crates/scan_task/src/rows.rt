@@ -6,10 +6,10 @@ ghost use Rattle.load_slots.specs.Layout.{rows};
 ghost use Rattle.scan_task.specs.Scanning.{value_at, variables_in, FitsOwn};
 
 use crate::verified::Verified;
+use il_semantics::value::Value;
+use il_statics::elementary::declared_limits;
 use load_code::FirstRows;
 use load_slots::flat::Cell;
-use il_statics::elementary::declared_limits;
-use il_semantics::value::Value;
 use scan_step::rows::Rows;
 use std::alloc::{AllocError, Global};
 

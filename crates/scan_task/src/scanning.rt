@@ -23,13 +23,13 @@ use crate::globals::{Listed, take_written, write_listed};
 use crate::rows::{copied, take_front};
 use crate::store::Begin;
 use crate::verified::Verified;
-use scan_loop::ScanState;
-use scan_loop::frames::{Frame, Frames, Pairs};
-use scan_image::image::write_image;
-use scan_image::opening_image;
-use scan_step::rows::Rows;
 use group_calls::book::CallBook;
 use group_spec::image::{Image, Sizes};
+use scan_image::image::write_image;
+use scan_image::opening_image;
+use scan_loop::ScanState;
+use scan_loop::frames::{Frame, Frames, Pairs};
+use scan_step::rows::Rows;
 use std::alloc::{AllocError, Global};
 
 /// How a step left the scan.

@@ -8,11 +8,11 @@ ghost use Rattle.scan_task.specs.Sharing.{FitsGlobals, globals_in};
 ghost use Rattle.scan_task.specs.Setting.{SetsOwn, SetsGlobals, SetsSlot};
 
 use crate::verified::Verified;
-use load_code::TaskCode;
-use il_statics::elementary::{declared_limits, is_within};
 use il_semantics::value::Value;
-use scan_image::rows::put;
+use il_statics::elementary::{declared_limits, is_within};
 use il_syntax::tree::Scalar;
+use load_code::TaskCode;
+use scan_image::rows::put;
 use scan_step::rows::Rows;
 
 /// Why a variable isn't given a value: no variable has the path, or the value is none of its declared set.

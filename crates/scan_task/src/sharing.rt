@@ -3,12 +3,12 @@
 ghost use Rattle.std.specs.Prelude.{◌≡◌, ◌≤◌, map, drop, length, IfOk};
 ghost use Rattle.scan_task.specs.Sharing.{image_count, between, slot_in, base_name, stores_cell, transfer, transfers};
 
-use load_code::TaskCode;
-use load_slots::flat::Cell;
-use load_scope::UnitScope;
-use scan_image::image::CAR_VALUES;
-use group_spec::image::Sizes;
 use base_lists::Items;
+use group_spec::image::Sizes;
+use load_code::TaskCode;
+use load_scope::UnitScope;
+use load_slots::flat::Cell;
+use scan_image::image::CAR_VALUES;
 use std::alloc::{AllocError, Global};
 
 /// Where the value of a global comes from at the end of a scan: a task's slot, and the slot among the globals.

@@ -9,10 +9,10 @@ ghost use Rattle.serve_blackbox.specs.Ending.{Ends, IsEnded, IsEndedFrom, IsHalt
 use crate::keep::{KeepFault, keep};
 use crate::sink::TraceSink;
 use cli_host::sink::{Sink, put_all};
+use group_world::World;
 use serve_lines::said::asked_name;
 use serve_lines::serve::{Pause, Stop, Stopped, serve};
 use serve_lines::server::{ServeFault, Server};
-use group_world::World;
 use std::alloc::Global;
 use std::io::Read;
 use thiserror::Error;

@@ -5,9 +5,9 @@ ghost use Rattle.group_journal.specs.Closed.{IsClosed};
 ghost use Rattle.serve_lines.specs.Waiting.{waiting_events};
 ghost use Rattle.serve_blackbox.specs.Heads.{IsAgain, head_text};
 
-use serve_lines::waiting::put_waiting;
 use group_state::put::put_state;
 use group_world::World;
+use serve_lines::waiting::put_waiting;
 use sha2::{Digest, Sha256};
 use std::alloc::{AllocError, Global};
 

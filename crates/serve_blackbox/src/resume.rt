@@ -7,14 +7,14 @@ ghost use Rattle.group_journal.specs.Closed.{IsClosed};
 ghost use Rattle.serve_lines.specs.Going.{GoesOn};
 ghost use Rattle.serve_blackbox.specs.Resuming.{LeadsNowhere, IsLeft, IsNotLeft, unfinished};
 
-use scan_task::Verified;
 use cli_host::status::{Fault, LineFault};
 use group_rounds::replay::Refused;
-use serve_lines::going::go_on;
 use group_state::begin::{Beginning, begin};
-use trace_text::trace::Trace;
 use group_world::World;
+use scan_task::Verified;
+use serve_lines::going::go_on;
 use std::alloc::Global;
+use trace_text::trace::Trace;
 
 /// Where a group begins: its world, and how many events of the trace that led there are dropped.
 pub struct Origin {

@@ -6,8 +6,8 @@ ghost use Rattle.serve_lines.specs.Going.{GoesOn, IsBroken, whole_events, last_t
 
 use group_rounds::replay::{Refused, replay_first};
 use group_spec::trace::TraceEvent;
-use trace_text::trace::Trace;
 use group_world::World;
+use trace_text::trace::Trace;
 
 // A place for each number of a task.
 const TASKS: usize = 9;

@@ -8,9 +8,9 @@ ghost use Rattle.serve_lines.specs.declared.said.Said.{Said as SaidOf};
 use group_spec::calls::Call;
 use group_spec::trace::TraceEvent;
 use group_spec::{Fields, Sizes, in_range, is_floor};
+use group_world::World;
 use trace_text::event::event;
 use trace_text::format::Format;
-use group_world::World;
 
 /// What a line says: a round under these fields, a press, or the end.
 #[derive(Drop)]

@@ -18,12 +18,12 @@ ghost use Rattle.serve_lines.specs.declared.said.Said.{Said as SaidOf};
 use crate::act::act;
 use crate::answer::put_outputs;
 use crate::said::{Said, WrongLine, is_call, read_said};
-use scan_task::opening_image;
-use itoa::Buffer;
 use cli_host::sink::{Sink, put_all};
 use group_rounds::kept::Rounds;
 use group_spec::{MOST_CARS, Sizes};
 use group_world::World;
+use itoa::Buffer;
+use scan_task::opening_image;
 use std::alloc::{AllocError, Global};
 use thiserror::Error;
 

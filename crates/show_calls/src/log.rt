@@ -5,10 +5,10 @@ ghost use Rattle.show_calls.specs.Logs.{empty_log, pressed_in, beginning, entere
 
 use crate::journey::{Journey, Moment, Served, Told};
 use crate::presses::{Pressed, Presses};
+use base_lists::Items;
 use group_spec::calls::{Answer, Call, Slot};
 use group_spec::image::CarFields;
 use group_spec::report::{Answered, EnteredCall};
-use base_lists::Items;
 use std::alloc::{AllocError, Global};
 
 /// What is known of a trace's calls behind one of its events. A round begins with a refresh; the first is round 1.

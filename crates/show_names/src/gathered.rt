@@ -4,8 +4,8 @@ ghost use Rattle.std.specs.Prelude.{◌≡◌, ◌++◌, ◌∷◌, ◌<◌, [],
 ghost use Rattle.base_maps.specs.NameMap.{get};
 ghost use Rattle.show_names.specs.Gathered.{items_of, IsSound, list_of, items_at, IsPushed};
 
-use base_maps::Table;
 use base_lists::Items;
+use base_maps::Table;
 use std::alloc::{AllocError, Global};
 
 /// A list for each name, empty where nothing was pushed.

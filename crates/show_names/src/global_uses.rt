@@ -10,9 +10,9 @@ use crate::lines::Lines;
 use crate::names::declared_names;
 use crate::unit_uses::UnitUses;
 use crate::uses::Manner;
-use il_syntax::tree::Unit;
-use base_maps::Table;
 use base_lists::Items;
+use base_maps::Table;
+use il_syntax::tree::Unit;
 use std::alloc::{AllocError, Global};
 
 /// A unit, and the lines in which it uses a global.

@@ -5,8 +5,8 @@ ghost use Rattle.std.specs.Iterator.{YieldsFirstBy, item_count};
 ghost use Rattle.base_maps.specs.NameMap.{get};
 ghost use Rattle.show_names.specs.Names.{declared_names, is_declared, declares, is_block, name_shown, names_left};
 
-use il_syntax::tree::{Declaration, Form, Named, Unit};
 use base_maps::Table;
+use il_syntax::tree::{Declaration, Form, Named, Unit};
 use std::alloc::{AllocError, Global};
 
 /// A declared name, its line, whether it is an instance of a function block, and whether it has an

@@ -9,10 +9,10 @@ ghost use Rattle.show_names.specs.declared.uses.Manner.TheVariants.{Called as Is
 ghost use Rattle.show_names.specs.Warnings.{is_called, is_block_of, have_instance, has_instance, is_needed, is_car_task, drives_car};
 
 use crate::uses::{Manner, Use, uses};
-use il_statics::limits::MOST_CARS;
-use load_scope::roles::car_number;
-use il_syntax::tree::{Config, Declaration, Form, ProgramLine, Step, Unit, UnitKind};
 use base_maps::Table;
+use il_statics::limits::MOST_CARS;
+use il_syntax::tree::{Config, Declaration, Form, ProgramLine, Step, Unit, UnitKind};
+use load_scope::roles::car_number;
 use std::alloc::{AllocError, Global};
 
 /// A configuration, with the names that its bodies call, and those of the function blocks of

@@ -11,10 +11,10 @@ use crate::range_variables::{RangedVariable, instruction_variables};
 use crate::source::put_told;
 use base_json::form::Form;
 use base_json::object::Object;
-use ranges_pass::{PlaceFacts, RangeFault, Witness};
-use il_statics::Found;
 use il_semantics::known::Known;
+use il_statics::Found;
 use il_syntax::tree::{Step, Unit, UnitKind};
+use ranges_pass::{PlaceFacts, RangeFault, Witness};
 use std::alloc::{AllocError, Global};
 
 /// Writes a row for each instruction.

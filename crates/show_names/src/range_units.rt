@@ -7,9 +7,9 @@ ghost use Rattle.show_names.specs.RangeTexts.{IsUnitShown, AreRangesIn};
 
 use crate::range_lines::{Lines, put_heading, put_refused};
 use base_json::form::Form;
-use ranges_pass::shown_unit;
-use load_scope::Scoped;
 use il_syntax::tree::Unit;
+use load_scope::Scoped;
+use ranges_pass::shown_unit;
 use std::alloc::{AllocError, Global};
 
 // The lines of a unit, behind others.

@@ -8,9 +8,9 @@ ghost use Rattle.json.specs.Token.{begin_array, begin_object, key};
 
 use crate::range_variables::RangedVariable;
 use base_json::object::Object;
-use ranges_interval::Interval;
 use il_semantics::known::Known;
 use il_syntax::tree::Elementary;
+use ranges_interval::Interval;
 use std::alloc::AllocError;
 
 // The word of a type.

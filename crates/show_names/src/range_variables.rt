@@ -3,10 +3,10 @@
 ghost use Rattle.std.specs.Prelude.{◌≡◌, ◌++◌, map, IfOk, OnOk};
 ghost use Rattle.show_names.specs.RangeLines.{named_variable, index_variables, reference_variables, first_variables, argument_variables, operands_variables, arguments_variables, instruction_variables, variable_shown};
 
+use base_lists::Items;
+use il_syntax::tree::{Argument, Index, Instruction, Operand, Reference};
 use ranges_interval::Interval;
 use ranges_pass::PlaceFacts;
-use il_syntax::tree::{Argument, Index, Instruction, Operand, Reference};
-use base_lists::Items;
 use std::alloc::{AllocError, Global};
 
 /// A variable that has a range.

@@ -14,9 +14,9 @@ use crate::span::{Span, Window};
 use crate::stop::Stop;
 use crate::story::Story;
 use crate::svg::put_seconds;
-use trace_text::trace::Trace;
 use group_world::World;
 use std::alloc::{AllocError, Global};
+use trace_text::trace::Trace;
 
 // What the colours mean, and how a call's line begins, turns and ends.
 const LEGEND: &str = "\

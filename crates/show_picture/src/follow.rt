@@ -9,9 +9,9 @@ use crate::story::Story;
 use group_rounds::replay::{Refused, take};
 use group_spec::report::Report;
 use group_spec::trace::TraceEvent;
-use trace_text::trace::Trace;
 use group_world::World;
 use std::alloc::AllocError;
+use trace_text::trace::Trace;
 
 // Notes an event that the world took, with its report if it has one.
 fn note(

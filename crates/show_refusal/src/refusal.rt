@@ -8,11 +8,11 @@ ghost use Rattle.show_refusal.specs.Refusals.{Adds, AreRefusalTokens, IsRefusalL
 
 use crate::pieces::first_line;
 use base_shown::shown::shown;
-use il_syntax::tree::Place;
-use json::Writer;
 use cli_explain::title;
 use cli_messages::lines::{Line, line_around};
 use cli_messages::mark::marked;
+use il_syntax::tree::Place;
+use json::Writer;
 use std::alloc::{AllocError, Global};
 
 /// The refusal of a text with a number at a place as a JSON object in one line: the name of the file, the line and the column, both counted from 1,

@@ -10,8 +10,8 @@ ghost use Rattle.show_scan.specs.Lines.{front_text, results_text, of_before, fir
 use crate::before::Before;
 use crate::values::{put_member, put_member_there, put_reference, put_result, put_variable};
 use crate::view::{Stand, View};
-use show_names::source::put_source;
 use il_syntax::tree::{Argument, Instruction, Operand, Step};
+use show_names::source::put_source;
 use std::alloc::{AllocError, Global};
 
 // The most of what a call hands over that are shown.

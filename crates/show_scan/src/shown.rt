@@ -14,9 +14,9 @@ use crate::view::View;
 use group_rounds::replay::{Refused, replay_first};
 use group_spec::event::{Event, Reply};
 use group_spec::report::Report;
-use trace_text::trace::Trace;
 use group_world::World;
 use std::alloc::{AllocError, Global};
+use trace_text::trace::Trace;
 
 // The most instructions of a scan (own rule).
 const MOST: u32 = 1_000_000;

@@ -6,9 +6,9 @@ ghost use Rattle.il_semantics.specs.Meaning as meaning;
 ghost use Rattle.show_scan.specs.Stands.{value_text, result_text, named_text, there_by, there_text, indexed_text, element_text, reference_text};
 
 use crate::view::{View, under};
-use scan_task::Value;
 use il_semantics::value::Content;
 use il_syntax::tree::{Index, Reference};
+use scan_task::Value;
 use std::alloc::{AllocError, Global};
 
 // A value.

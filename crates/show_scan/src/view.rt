@@ -11,10 +11,10 @@ ghost use Rattle.show_scan.specs.Stands.{of_stand, stand_at, step_at, path_of_st
 ghost use Rattle.show_scan.specs.Lines.{lines_of};
 
 use crate::chosen::Lines;
-use scan_task::{Store, Value, Verified};
+use group_world::World;
 use il_semantics::value::Content;
 use il_syntax::tree::{Instruction, Step, Unit};
-use group_world::World;
+use scan_task::{Store, Value, Verified};
 use std::alloc::{AllocError, Global};
 use std::marker::Model;
 

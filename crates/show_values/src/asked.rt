@@ -4,9 +4,9 @@ ghost use Rattle.std.specs.Prelude.{◌≡◌, ◌≤◌, length, slice_set};
 ghost use Rattle.show_values.specs.Asked.{nothing_asked, serve_in, asked_after, serve_at, assign_of};
 ghost use Rattle.show_values.specs.Wished.{ServeIsWished, AssignIsWished};
 
+use base_lists::Bounded;
 use group_spec::report::{Answered, Report};
 use group_spec::{CAR_PLACES, SLOT_PLACES};
-use base_lists::Bounded;
 
 /// What the last commit of each task asked for, whether it was done or not.
 #[derive(Drop)]

@@ -7,15 +7,15 @@ ghost use Rattle.group_spec.specs.Replies.{reply_with};
 ghost use Rattle.group_spec.specs.declared.report.Report.{Report};
 ghost use Rattle.show_values.specs.Calls.{IsLogOf};
 
-use show_calls::log::Log;
 use group_rounds::along::{Stop, reply_to};
 use group_rounds::replay::Refused;
 use group_spec::event::Reply;
 use group_spec::report::{Answered, EnteredCall, Report};
 use group_spec::trace::TraceEvent;
-use trace_text::trace::Trace;
 use group_world::World;
+use show_calls::log::Log;
 use std::alloc::{AllocError, Global};
+use trace_text::trace::Trace;
 
 /// What is known of the calls of a trace behind its events, which the world takes one behind the other, up to the first that is refused.
 pub fn call_log(alloc: Global, world: &mut World, events: &Trace<'_>) -> Result<Log, Stop>

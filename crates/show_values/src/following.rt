@@ -18,9 +18,9 @@ use group_rounds::replay::Refused;
 use group_spec::event::Reply;
 use group_spec::report::{Denial, Report};
 use group_spec::trace::TraceEvent;
-use trace_text::trace::Trace;
 use group_world::World;
 use std::alloc::{AllocError, Global};
+use trace_text::trace::Trace;
 
 /// What the interlock denied along a trace's events, which the world takes one behind the other, up to the first that is refused; with
 /// the stops at the ends of the shaft, where all are asked for. In a form.

@@ -8,9 +8,9 @@ ghost use Rattle.show_values.specs.declared.names.Shared.{Shared};
 ghost use Rattle.show_values.specs.declared.names.CarName.{CarName};
 ghost use Rattle.show_values.specs.declared.names.SlotName.{SlotName};
 
-use scan_task::Value;
 use cli_host::request::{Words, number_to};
 use group_spec::{CarFields, CarOutputs, MOST_CARS, Motor};
+use scan_task::Value;
 use std::alloc::{AllocError, Global};
 
 // The most call slots of a group.

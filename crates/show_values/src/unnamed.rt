@@ -6,8 +6,8 @@ ghost use Rattle.reasons_names.specs.NamesNear.{nearest, predeclared_name, candi
 ghost use Rattle.show_values.specs.Unnamed.{more_text, near_text, sentence_by, unnamed_sentence};
 
 use crate::known::{known_names, parts_in};
-use scan_task::Verified;
 use reasons_names::names_near::{Candidate, nearest};
+use scan_task::Verified;
 use std::alloc::{AllocError, Global};
 
 // How many parts are shown behind the first.

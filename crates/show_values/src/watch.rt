@@ -10,14 +10,14 @@ ghost use Rattle.show_values.specs.Values.{shared_value, car_value_in, value_in_
 use crate::asked::Asked;
 use crate::names::{CarName, Shared, SlotName, Watched, read, value_in_car};
 use crate::unnamed::unnamed_sentence;
-use scan_task::Value;
+use base_lists::Items;
 use cli_host::status::Fault;
 use group_rounds::observer::Observer;
 use group_spec::calls::Slot;
 use group_spec::report::Report;
 use group_spec::{Fields, Image};
 use group_world::World;
-use base_lists::Items;
+use scan_task::Value;
 use std::alloc::{AllocError, Global};
 
 /// Writes the values of names behind each round, as lines of CSV.

@@ -7,9 +7,9 @@ ghost use Rattle.show_values.specs.Words.{starred, parts_or, expanded_by, expand
 
 use crate::known::{known_names, parts_in};
 use crate::names::upper_names;
-use scan_task::Verified;
 use cli_host::request::Words;
 use group_world::World;
+use scan_task::Verified;
 use std::alloc::{AllocError, Global};
 
 /// The names that words stand for in a group: in the place of `NAME.*` all parts of the name, in the text's order. Where it has none, the word

@@ -1,14 +1,14 @@
 // The cases, and the transcript of their runs.
 
 use cli_command::program::{Outcome, tried};
-use test_files::line::{Line, line_of};
-use test_files::shelf::Shelf;
-use test_files::words::words_of;
 use std::alloc::Global;
 use std::io::Write;
 use std::sync::Wait;
 use std::thread::Threads;
 use std::{io, str};
+use test_files::line::{Line, line_of};
+use test_files::shelf::Shelf;
+use test_files::words::words_of;
 
 // The file that is the standard input of a run.
 const INPUT: &str = "input";

@@ -5,13 +5,13 @@ ghost use Rattle.scan_task.specs.Scanning.{HasTask};
 
 use crate::group::fields;
 use crate::texts::{TWO_IDLE, TWO_SLOTS};
-use scan_task::{OpenScan, Store, Verified, scan};
-use threads_book::Book;
-use load_text::load;
 use group_spec::calls::Call;
 use group_spec::hand::Hand;
 use group_spec::report::Report;
+use load_text::load;
+use scan_task::{OpenScan, Store, Verified, scan};
 use std::alloc::Global;
+use threads_book::Book;
 
 // What a commit and a start were answered, by the number of a fault or 0, and how many entries the journal has.
 #[derive(Clone, Copy)]

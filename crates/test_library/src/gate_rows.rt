@@ -1,16 +1,16 @@
 // Workers run at once: a gate holds each of two cars until the other has got on.
 
 use crate::texts::TWO_IDLE;
-use load_text::load;
 use group_spec::journal::Entry;
-use threads_workers::gate::{Gate, Together};
-use threads_workers::run::{Plan, run};
+use load_text::load;
 use std::alloc::Global;
 use std::sync::Wait;
 use std::sync::atomic::{AtomicBool, Ordering};
 use std::thread;
 use std::thread::Threads;
 use std::time::{Clock, Duration};
+use threads_workers::gate::{Gate, Together};
+use threads_workers::run::{Plan, run};
 
 // How often a held worker looks whether the other has got on, and how many milliseconds it sleeps between.
 const TURNS: u32 = 1000;

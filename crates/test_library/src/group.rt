@@ -1,12 +1,12 @@
 // Groups made from texts, and what events leave of them.
 
-use il_syntax::fault::Refusal;
-use load_text::load;
 use group_spec::calls::{Call, Slot};
 use group_spec::event::{Event, Reply};
 use group_spec::report::{EnteredCall, Report};
 use group_spec::{Bounded, CarFields, Fields, SLOT_PLACES};
 use group_world::{Replies, World};
+use il_syntax::fault::Refusal;
+use load_text::load;
 use std::alloc::{AllocError, Global};
 use std::mem;
 

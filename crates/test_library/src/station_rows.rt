@@ -2,16 +2,16 @@
 
 use crate::stations::{Played, Step, play};
 use crate::texts::{STILL, TELLING, TWO_IDLE, TWO_RISING, TWO_SLOTS, UP};
-use scan_task::Value;
 use cli_host::sink::Memory;
 use group_spec::CarOutputs;
 use group_spec::calls::{Answer, Call, Slot};
 use group_spec::hand::Hand;
 use group_spec::journal::Entry;
 use group_spec::report::{Answered, Denial, Rule};
-use trace_text::write::write_trace;
+use scan_task::Value;
 use std::alloc::Global;
 use std::process::Abort;
+use trace_text::write::write_trace;
 
 // One car whose motor is asked to go up.
 const RISING: &[u8] = b"PROGRAM C

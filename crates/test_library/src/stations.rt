@@ -5,19 +5,19 @@ ghost use Rattle.threads_desk.specs.Passes.{AreAllPanels, IsFloorOf};
 ghost use Rattle.group_plant.specs.Switches.{opening_switches};
 ghost use Rattle.group_spec.specs.Image.{sizes_of};
 
-use scan_task::{Scanned, Value, Verified, scan};
-use il_syntax::fault::Refusal;
-use threads_desk::{Desk, DeskClosed, HandPass, PanelPass, Pressed};
-use load_text::load;
 use group_plant::switches::Switches;
 use group_spec::calls::Slot;
 use group_spec::journal::Entry;
 use group_spec::report::Report;
 use group_spec::{Bounded, CarFields, Fields, Motor, Outputs, Sizes};
-use threads_station::{Blanks, Closed, Naming, RefreshPass, Station, TaskPass};
+use il_syntax::fault::Refusal;
+use load_text::load;
+use scan_task::{Scanned, Value, Verified, scan};
 use std::alloc::{AllocError, Global};
 use std::marker::Brand;
 use std::sync::Wait;
+use threads_desk::{Desk, DeskClosed, HandPass, PanelPass, Pressed};
+use threads_station::{Blanks, Closed, Naming, RefreshPass, Station, TaskPass};
 
 /// What a row does. Each step answers a number.
 #[derive(Clone, Copy)]

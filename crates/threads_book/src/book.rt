@@ -16,13 +16,13 @@ ghost use Rattle.group_journal.specs.declared.fault.StationFault.TheVariants.{No
 ghost use Rattle.threads_book.specs.Ledgers.{start_fault, full_fault, refresh_fault, fault_of, fault_in, SnappedNow, IsOpenHere};
 
 use crate::ledger::Ledger;
-use scan_task::{OpenScan, Scanned, Store, Value, Verified};
 use group_journal::fault::StationFault;
 use group_spec::calls::Slot;
 use group_spec::hand::Hand;
 use group_spec::journal::Entry;
 use group_spec::report::Report;
 use group_spec::{Bounded, Fields, Image, SLOT_PLACES};
+use scan_task::{OpenScan, Scanned, Store, Value, Verified};
 use std::alloc::{AllocError, Global};
 use std::marker::Model;
 

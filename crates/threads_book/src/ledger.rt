@@ -14,7 +14,6 @@ ghost use Rattle.group_spec.specs.declared.journal.Entry.TheVariants as entry;
 ghost use Rattle.threads_book.specs.Ledgers.{page_of, IsLedger, start_fault, full_fault, refresh_fault, fault_of, fault_in, SnappedNow, IsOpenHere};
 ghost use Rattle.group_journal.specs.declared.fault.StationFault.TheVariants.{NotOpen};
 
-use scan_task::{OpenScan, Scanned, Store, Verified};
 use group_journal::entered::calls_of;
 use group_journal::fault::StationFault;
 use group_spec::hand::Hand;
@@ -22,6 +21,7 @@ use group_spec::journal::Entry;
 use group_spec::report::Report;
 use group_spec::{Fields, in_range};
 use group_world::{Core, opening};
+use scan_task::{OpenScan, Scanned, Store, Verified};
 use std::alloc::{AllocError, Global};
 use std::snapshot::Snapshot;
 

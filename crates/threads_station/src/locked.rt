@@ -20,15 +20,15 @@ ghost use Rattle.threads_station.specs.Counted.{IsNoneOrFull, calls_in, IsCommit
 use crate::actor::{Counts, Naming, RefreshPass, TaskShare};
 use crate::passes::TaskPass;
 use crate::tally::Tally;
-use scan_task::{OpenScan, Scanned, Store, Verified};
-use threads_book::Book;
 use group_journal::fault::StationFault;
 use group_plant::plant::{Plant, plant_step};
 use group_plant::switches::Switches;
 use group_spec::hand::Hand;
 use group_spec::report::Report;
 use group_spec::{Fields, Image};
+use scan_task::{OpenScan, Scanned, Store, Verified};
 use std::marker::Model;
+use threads_book::Book;
 
 /// What lies under the lock: the book, the totals, the plant, which is at the journal's end where all refreshes came from it, and the tally
 /// of the calls that the journal enters. Contracts see it as the book.

@@ -5,8 +5,8 @@ ghost use Rattle.scan_task.specs.Scanning.{HasTask};
 ghost use Rattle.threads_station.specs.Passes.{task_of, count_of, KeepsStore};
 
 use crate::actor::{Naming, TaskShare};
-use scan_task::Store;
 use group_spec::MOST_CARS;
+use scan_task::Store;
 use std::marker::Model;
 
 /// The pass of a task of the group. It counts the task's entries in the journal, and between scans it has a store of the task.

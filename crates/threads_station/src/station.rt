@@ -20,18 +20,18 @@ use crate::actor::{Blanks, Books, Naming, RefreshPass, TaskShare};
 use crate::locked::Locked;
 use crate::ours::Ours;
 use crate::passes::TaskPass;
-use scan_task::{OpenScan, Scanned, Store, Verified, scan};
-use il_syntax::fault::Refusal;
-use threads_book::Book;
-use threads_desk::HandPass;
 use group_journal::fault::StationFault;
 use group_plant::plant::Plant;
 use group_plant::switches::Switches;
 use group_spec::report::Report;
 use group_spec::{Fields, Image, MOST_CARS};
+use il_syntax::fault::Refusal;
+use scan_task::{OpenScan, Scanned, Store, Verified, scan};
 use std::alloc::{AllocError, Global};
 use std::marker::{Model, PhantomData};
 use std::sync::{Mutex, Wait};
+use threads_book::Book;
+use threads_desk::HandPass;
 
 // The program of the station. Contracts see it as the program.
 struct Mine<G: Naming> {

@@ -3,11 +3,11 @@
 ghost use Rattle.std.specs.Prelude.{◌≡◌, [], ◌∷◌, false, All, IfOk};
 ghost use Rattle.threads_workers.specs.Panels.{IsPressAt, is_at, calls_at, HasPressed};
 
-use threads_desk::{Desk, PanelPass};
 use cli_host::press::Press;
 use std::alloc::AllocError;
 use std::snapshot::Snapshot;
 use std::thread::{Promise, PromisedHandle, Scope};
+use threads_desk::{Desk, PanelPass};
 
 /// A panel as it was before its worker made its presses, and the presses of the run.
 #[derive(Drop)]

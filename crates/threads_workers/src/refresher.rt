@@ -7,17 +7,17 @@ ghost use Rattle.group_spec.specs.Image.{sizes_of};
 ghost use Rattle.threads_workers.specs.Ran.{IsEntered};
 
 use crate::gate::Gate;
-use threads_desk::{Desk, HandPass};
 use cli_host::press::Setting;
 use group_journal::fault::StationFault;
 use group_plant::switches::Switches;
 use group_rounds::ahead::{at_first, set_in};
 use group_spec::report::Report;
-use threads_station::{Naming, RefreshPass, Station};
 use std::alloc::AllocError;
 use std::snapshot::Snapshot;
 use std::sync::Wait;
 use std::thread::{Promise, PromisedHandle, Scope, Threads};
+use threads_desk::{Desk, HandPass};
+use threads_station::{Naming, RefreshPass, Station};
 
 /// The passes of a refresher.
 #[derive(Drop)]

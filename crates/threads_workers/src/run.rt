@@ -17,18 +17,18 @@ use crate::gate::Gate;
 use crate::panel::{PanelHandle, is_pressed};
 use crate::refresher::{Pace, Refresher};
 use crate::{panel, refresher, task};
-use scan_task::Verified;
-use threads_desk::{Desk, DeskClosed, HandPass, PanelPass};
 use cli_host::press::{Press, Setting};
 use group_rounds::ahead::settings_by_round;
 use group_spec::Sizes;
 use group_spec::journal::Entry;
-use threads_station::{Blanks, Closed, Naming, RefreshPass, Station, TaskPass};
+use scan_task::Verified;
 use std::alloc::{AllocError, Global};
 use std::marker::Brand;
 use std::sync::Wait;
 use std::thread;
 use std::thread::{Scope, Threads};
+use threads_desk::{Desk, DeskClosed, HandPass, PanelPass};
+use threads_station::{Blanks, Closed, Naming, RefreshPass, Station, TaskPass};
 
 /// How many panels each floor has.
 pub const PANELS: u8 = 4;

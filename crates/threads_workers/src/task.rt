@@ -4,14 +4,14 @@ ghost use Rattle.std.specs.Prelude.{◌≡◌, ◌+◌, ◌++◌, ◌∷◌, [],
 
 use crate::fault::RunFault;
 use crate::gate::Gate;
-use scan_task::OpenScan;
 use group_journal::fault::StationFault;
 use group_spec::report::Report;
-use threads_station::{Naming, Station, TaskPass};
+use scan_task::OpenScan;
 use std::alloc::{AllocError, Global};
 use std::marker::Model;
 use std::sync::Wait;
 use std::thread::{Promise, PromisedHandle, Scope, Threads};
+use threads_station::{Naming, Station, TaskPass};
 
 /// The task of a worker, and how many rounds it does.
 #[derive(Clone, Copy, Drop)]

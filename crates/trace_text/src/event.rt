@@ -11,10 +11,10 @@ ghost use Rattle.trace_text.specs.Parts.{Ends};
 
 use crate::format::Format;
 use crate::parts::{car, flag_part, number, small_number};
+use base_lists::Bounded;
 use group_spec::calls::Call;
 use group_spec::image::{CAR_PLACES, CarFields, Fields, MOST_CARS};
 use group_spec::trace::TraceEvent;
-use base_lists::Bounded;
 
 // A number, and nothing behind it.
 fn only_number(parts: &[u8]) -> Option<u8>

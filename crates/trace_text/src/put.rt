@@ -6,9 +6,9 @@ ghost use Rattle.group_spec.specs.declared.trace.TraceEvent.TheVariants.{Start, 
 ghost use Rattle.trace_text.specs.Text.{part, flag, flags, car_part, fields_part, first_line, last_line, line_of};
 
 use crate::waiting::Waiting;
-use itoa::{Buffer, write_digits};
 use group_spec::calls::Call;
 use group_spec::image::{CAR_PLACES, CarFields, Fields};
+use itoa::{Buffer, write_digits};
 
 // Puts the digits of a number.
 fn put_digits(waiting: &mut Waiting, number: u32)

@@ -14,8 +14,8 @@ use crate::format::Format;
 use crate::parts::split_line;
 use crate::short::short_line;
 use crate::trace::{Told, Trace};
-use itoa::Buffer;
 use group_spec::trace::TraceEvent;
+use itoa::Buffer;
 use std::alloc::Global;
 
 /// The most bytes of a trace.

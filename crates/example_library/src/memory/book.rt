@@ -8,12 +8,12 @@ use crate::memory::interlock::fields;
 use crate::memory::lines::{allocation, no_allocation, print};
 use crate::memory::program::number;
 use crate::memory::trace;
-use scan_task::{Store, Verified, scan};
-use threads_book::Book;
 use group_spec::hand::Hand;
 use group_spec::report::Report;
+use scan_task::{Store, Verified, scan};
 use std::alloc::{AllocError, Global};
 use std::io::Print;
+use threads_book::Book;
 
 // How many entries the journal has room for: those of a refresh and of a scan.
 const ENTRIES: usize = 3;

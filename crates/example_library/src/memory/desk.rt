@@ -6,12 +6,12 @@ ghost use Rattle.threads_desk.specs.Passes.{AreAllPanels};
 use crate::memory::lines::{allocation, no_allocation, print};
 use crate::memory::station;
 use crate::memory::text::FLOORS;
-use il_syntax::fault::Refusal;
-use threads_desk::{Desk, HandPass, PanelPass, Pressed};
 use group_spec::report::Report;
+use il_syntax::fault::Refusal;
 use std::alloc::Global;
 use std::io::Print;
 use std::sync::Wait;
+use threads_desk::{Desk, HandPass, PanelPass, Pressed};
 
 // A panel presses a call: whether it is answered so.
 fn press(desk: &Desk, panel: PanelPass, to: u8, wanted: Pressed) -> (PanelPass, bool)

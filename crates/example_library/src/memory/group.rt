@@ -8,11 +8,11 @@ use crate::memory::interlock::fields;
 use crate::memory::lines::{allocation, no_allocation, print};
 use crate::memory::program::number;
 use crate::memory::scans::run_out;
-use scan_task::{Store, Verified};
 use group_spec::hand::Hand;
 use group_spec::in_range;
 use group_spec::report::Report;
 use group_world::Core;
+use scan_task::{Store, Verified};
 use std::alloc::{AllocError, Global};
 use std::io::Print;
 

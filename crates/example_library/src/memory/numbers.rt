@@ -3,12 +3,12 @@
 ghost use Rattle.std.specs.Prelude.{◌≡◌};
 ghost use Rattle.ranges_interval.specs.Interval.{between};
 
-use ranges_interval::Interval;
-use il_syntax::tree::Comparison;
 use il_blocks::bistable::{ResetDominant, SetDominant};
 use il_blocks::counters::{DownCounter, UpCounter, UpDownCounter};
 use il_blocks::edges::EdgeDetector;
 use il_blocks::timers::{DelayTimer, PulseTimer};
+use il_syntax::tree::Comparison;
+use ranges_interval::Interval;
 
 fn range(lo: i128, hi: i128) -> Interval
     ensures { result ≡ between lo hi }

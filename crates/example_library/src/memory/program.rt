@@ -6,10 +6,10 @@ ghost use Rattle.scan_task.specs.Scanning.{HasTask};
 use crate::memory::lines::{allocation, no_allocation, print};
 use crate::memory::text::TEXT;
 use crate::memory::{book, group, scans};
-use scan_task::{Value, Verified};
+use group_spec::report::Report;
 use il_syntax::fault::Refusal;
 use load_text::load;
-use group_spec::report::Report;
+use scan_task::{Value, Verified};
 use std::alloc::{AllocError, Global};
 use std::io::Print;
 

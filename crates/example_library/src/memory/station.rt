@@ -7,17 +7,17 @@ ghost use Rattle.group_spec.specs.Image.{sizes_of};
 use crate::memory::lines::{allocation, no_allocation, print};
 use crate::memory::station_scans::next;
 use crate::memory::text::{FLOORS, TEXT};
-use scan_task::Verified;
-use il_syntax::fault::Refusal;
-use threads_desk::HandPass;
-use load_text::load;
 use group_plant::switches::Switches;
 use group_spec::report::Report;
-use threads_station::{Blanks, Closed, Naming, RefreshPass, Station, TaskPass};
+use il_syntax::fault::Refusal;
+use load_text::load;
+use scan_task::Verified;
 use std::alloc::Global;
 use std::io::Print;
 use std::marker::Brand;
 use std::sync::Wait;
+use threads_desk::HandPass;
+use threads_station::{Blanks, Closed, Naming, RefreshPass, Station, TaskPass};
 
 // How many entries the journal has room for: those of two refreshes and of six scans.
 const ENTRIES: usize = 14;

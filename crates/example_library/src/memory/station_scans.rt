@@ -2,11 +2,11 @@
 
 ghost use Rattle.std.specs.Prelude.{◌≡◌};
 
-use scan_task::{OpenScan, Scanned, scan};
 use group_journal::fault::StationFault;
 use group_spec::report::Report;
-use threads_station::{Naming, Ours, Station, TaskPass};
+use scan_task::{OpenScan, Scanned, scan};
 use std::sync::Wait;
+use threads_station::{Naming, Ours, Station, TaskPass};
 
 // The number of the fault that refused a commit, 0 for none.
 fn fault(committed: Result<(), (StationFault, Scanned<'_>)>) -> u8 {

@@ -3,11 +3,11 @@
 use crate::memory::lines::print;
 use cli_host::sink::Memory;
 use group_spec::journal::Entry;
+use std::alloc::Global;
+use std::io::Print;
 use trace_text::fault::TraceFault;
 use trace_text::read::read_trace;
 use trace_text::write::write_trace;
-use std::alloc::Global;
-use std::io::Print;
 
 // How many events are read of a trace of two cars.
 fn count(alloc: Global, text: &[u8]) -> Result<usize, TraceFault> {

@@ -6,12 +6,12 @@ use crate::memory::interlock::fields;
 use crate::memory::lines::{allocation, no_allocation, print};
 use crate::memory::program::number;
 use crate::memory::text::TEXT;
-use il_syntax::fault::Refusal;
-use load_text::load;
 use group_spec::calls::Call;
 use group_spec::event::{Event, Reply};
 use group_spec::report::Report;
 use group_world::{Replies, World};
+use il_syntax::fault::Refusal;
+use load_text::load;
 use std::alloc::{AllocError, Global};
 use std::io::Print;
 
