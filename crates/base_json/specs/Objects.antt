@@ -43,6 +43,6 @@ line_of tokens = print tokens ++ codes "\n"
 
 -- THE WRITER
 
--- nothing stands before an object
+-- nothing comes before an object
 abbrev pub IsAlone : Inside → Type 0
 IsAlone o = o.json.before ≡ []

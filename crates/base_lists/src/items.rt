@@ -80,7 +80,7 @@ impl<T: Copy> Items<T> {
         self.items[index] = item;
     }
 
-    /// The same items on memory of their own.
+    /// A copy of the items, on memory of its own.
     pub fn try_copy(&self, alloc: Global) -> Result<Items<T>, AllocError>
         ensures { IfOk result (λ r. r ≡ self.now) }
     {

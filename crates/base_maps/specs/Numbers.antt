@@ -19,7 +19,7 @@ are_bytes (b ∷ bs) = nat_lt b 256 && are_bytes bs
 abbrev pub is_short : Text → Bool
 is_short name = are_bytes name && nat_lt (number name) (2 ^ 128)
 
--- the name of a number, with what stands behind it; so many bytes at most
+-- the name of a number, with what follows it; so many bytes at most
 abbrev pub text_from : ℕ → ℕ → Text → Text
 text_from zero k behind = behind
 text_from (suc n) k behind = if nat_le k 1 then behind else text_from n (k / 256) (k % 256 ∷ behind)

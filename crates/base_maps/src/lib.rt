@@ -16,8 +16,8 @@ use std::alloc::{AllocError, Global};
 use std::collections::BTreeMap;
 use std::marker::Model;
 
-/// A table: an entry for each of some names, in the order in which they were first put in. A name of at most 15 bytes stands there as a
-/// number, which takes no memory of its own and is compared at once. Names whose place is full, and longer ones, stand apart and sorted, so
+/// A table: an entry for each of some names, in the order in which they were first put in. A name of at most 15 bytes is there as a
+/// number, which takes no memory of its own and is compared at once. Names whose place is full, and longer ones, are apart and sorted, so
 /// that no choice of names makes a search slow. Contracts see the finite map.
 pub struct Table<X: Copy> {
     short: IndexMap<Short, X, Places>,

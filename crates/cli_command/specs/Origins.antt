@@ -28,12 +28,12 @@ IsNoOrigin reads fails c source (Some name) fault =
 
 -- WHAT IS WRITTEN OF IT
 
--- what is told of so many events that are dropped: nothing of none
+-- what is reported of so many events that are dropped: nothing of none
 abbrev pub dropped_text : ℕ → List ℕ
 dropped_text zero = []
 dropped_text (suc n) = codes "events dropped: " ++ (decimal (suc n) ++ codes "\n")
 
--- a group is ready to serve from there, with the head of its trace and what is told of events that are dropped
+-- a group is ready to serve from there, with the head of its trace and what is reported of events that are dropped
 pub record IsPrepared (reads : List ℕ → ℕ → List ℕ → Type 0) (c : Config) (source : List ℕ) (from : Option (List ℕ)) (p : Prepared) : Type 0 where
   pub dropped : ℕ
   pub origin : IsOrigin reads c source from p.world.world dropped

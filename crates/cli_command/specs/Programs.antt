@@ -26,13 +26,13 @@ pub record AreUntouched (s : Streams) : Type 0 where
   pub untaken : s.left ≡ s.input
   pub untraced : IsUntouched s.trace
 
--- memory for the words is missing: this is told, and nothing else is written
+-- memory for the words is missing: this is reported, and nothing else is written
 pub record IsUnread (out err : Held) (ends : Status) : Type 0 where
   pub told : Writes err.before err.after err.failed (message_of NoMemory)
   pub nothing : out.after ≡ out.before
   pub status : ends ≡ with_status.NoMemory
 
--- what words as they are read have printed or told, of whatever command but `serve`
+-- what words as they are read have printed or reported, of whatever command but `serve`
 abbrev pub HasAnswered : (List ℕ → ℕ → List ℕ → Type 0) → (List ℕ → ℕ → ReadFault → Type 0) → Bool → List (List ℕ) → Flags → Held → Held → Status → Type 0
 HasAnswered reads fails wanted words flags = HasPrinted (IsAnswer reads fails IsTextOutcome IsReason AreOthers wanted words flags)
 
@@ -45,7 +45,7 @@ pub data IsPlainAnswer (reads : List ℕ → ℕ → List ℕ → Type 0) (fails
 abbrev pub IsAnswerToRead : (List ℕ → ℕ → List ℕ → Type 0) → (List ℕ → ℕ → ReadFault → Type 0) → Bool → Plain → Streams → Status → Type 0
 IsAnswerToRead reads fails always words = IsPlainAnswer reads fails (always || words.explains) (map string_bytes words.words.items) words.flags
 
--- The words as they are read have that answer, explained where `--explain` stands among them, or always. Memory for them may be missing.
+-- The words as they are read have that answer, explained where `--explain` is among them, or always. Memory for them may be missing.
 pub data IsProgramAnswer (reads : List ℕ → ℕ → List ℕ → Type 0) (fails : List ℕ → ℕ → ReadFault → Type 0) (always : Bool) (words : List (List ℕ)) (s : Streams) (ends : Status) : Type 0 where
   unread : IsUnread s.out s.err ends → AreUntouched s → IsProgramAnswer reads fails always words s ends
   plain : IsPlainAnswer reads fails (always || explains words) (plain_words words) (flags_of words) s ends → IsProgramAnswer reads fails always words s ends

@@ -24,7 +24,7 @@ abbrev pub IsKnown : Shown → List ℕ → Refusal → Outcome → Type 0
 IsKnown asked text why (Ok output) = (c : Config) × IsSpelled text c × IsUnbroken c × AreRangesIn (form_of asked.json) (shown_source asked.text text) c (bytes_of output) × (warnings_of output ≡ None)
 IsKnown asked text why (Err f) = (f ≡ fault.NoMemory) ⊎ ((f ≡ fault_of why) × ((c : Config) → IsSpelled text c → IsUnbroken c → ⊥))
 
--- Of a refused text all other requests tell the fault.
+-- Of a refused text all other requests report the fault.
 abbrev pub IsRefusedOutcome : Request → List ℕ → Refusal → Outcome → Type 0
 IsRefusedOutcome (request.Show showing.Ranges shown) text why outcome = IsKnown shown text why outcome
 IsRefusedOutcome (request.Show showing.Xref shown) text why outcome = outcome ≡ Err (fault_of why)

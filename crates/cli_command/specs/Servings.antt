@@ -86,7 +86,7 @@ fault_of_halt (halt.Keep why) = fault_of_keep why
 
 -- THE TRACE
 
--- a trace before and after: its bytes, where it tells them, and as which files it was made
+-- a trace before and after: its bytes, where it reports them, and as which files it was made
 pub record TraceHeld : Type 0 where
   pub before : Option (List ℕ)
   pub after : Option (List ℕ)
@@ -101,7 +101,7 @@ pub record IsUntouched (t : TraceHeld) : Type 0 where
   pub unwritten : t.after ≡ t.before
   pub unmade : t.is ≡ t.was
 
--- It was made as the file of this name, empty. One that tells its bytes at the end told them from there on.
+-- It was made as the file of this name, empty. One that reports its bytes at the end reported them from there on.
 pub record IsMade (name : List ℕ) (sync : Bool) (t : TraceHeld) (created : Option (List ℕ)) (made : Made) : Type 0 where
   pub named : made.is name sync ≡ true
   pub empty : IsNew created
@@ -136,7 +136,7 @@ final_of s = record { left = s.left; out = s.out.after; trace = s.trace.after; m
 abbrev pub Takes : Streams → List ℕ → Type 0
 Takes s = Consumes s.input s.left
 
--- these are told on the standard error
+-- these are reported on the standard error
 abbrev pub Tells : Streams → List ℕ → Type 0
 Tells s = Writes s.err.before s.err.after s.err.failed
 
@@ -153,14 +153,14 @@ IsCreated (Some tracing) t created made = IsMade tracing.name.now tracing.sync t
 
 -- WHAT IT GIVES
 
--- these are told on the standard error, one behind the other
+-- these are reported on the standard error, one after the other
 pub record TellsBoth (s : Streams) (first second : List ℕ) : Type 0 where
   pub between : Option (List ℕ)
   pub failed : Bool
   pub one : Writes s.err.before between failed first
   pub other : Writes between s.err.after s.err.failed second
 
--- Of a group that is ready: its trace was wanted and could not be created; or its lines were answered and traced, to the end or up to a stop. It is told how many events were dropped,
+-- Of a group that is ready: its trace was wanted and could not be created; or its lines were answered and traced, to the end or up to a stop. It is reported how many events were dropped,
 -- and the stop's fault.
 pub data IsPreparedAnswer (p : Prepared) (source : List ℕ) (tracing : Option Tracing) (s : Streams) (status : Status) : Type 0 where
   uncreated : (wanted : Tracing) → tracing ≡ Some wanted → s.trace_failed ≡ true → NothingServed s → TellsBoth s (string_bytes p.told) (message_of CannotWrite) → status ≡ with_status.CannotWrite → IsPreparedAnswer p source tracing s status
@@ -171,12 +171,12 @@ pub data IsPreparedAnswer (p : Prepared) (source : List ℕ) (tracing : Option T
       → IsHalted p.world.program.config source (string_bytes p.head.text) (start_of s p.world.world p.head.events created made) (final_of s) halt
       → TellsBoth s (string_bytes p.told) (message_of (fault_of_halt halt)) → status ≡ status_of (fault_of_halt halt) → IsPreparedAnswer p source tracing s status
 
--- Of a configuration whose text is the source: there is nowhere to begin, and its fault is told; or its group is ready, at its opening or where a trace ends, and serves.
+-- Of a configuration whose text is the source: there is nowhere to begin, and its fault is reported; or its group is ready, at its opening or where a trace ends, and serves.
 pub data IsLoadedAnswer (reads : List ℕ → ℕ → List ℕ → Type 0) (fails : List ℕ → ℕ → ReadFault → Type 0) (c : Config) (source : List ℕ) (tracing : Option Tracing) (s : Streams) (status : Status) : Type 0 where
   nowhere : (why : Fault) → IsNoOrigin reads fails c source (continued_name tracing) why → NothingServed s → Tells s (message_of why) → status ≡ status_of why → IsLoadedAnswer reads fails c source tracing s status
   somewhere : (p : Prepared) → p.world.program.config ≡ c → IsPrepared reads c source (continued_name tracing) p → IsPreparedAnswer p source tracing s status → IsLoadedAnswer reads fails c source tracing s status
 
--- below a refusal of FILE its place, its line, and what is told of it
+-- below a refusal of FILE its place, its line, and what is reported of it
 abbrev pub IsRefusalBelow : List ℕ → List ℕ → Fault → List ℕ → Type 0
 IsRefusalBelow name text (RefusedText number place) below = (reason : List ℕ) × IsReason text number place reason × IsTextShownBelow name text number place reason below
 IsRefusalBelow name text (Refused number line) below = below ≡ []
@@ -191,7 +191,7 @@ IsRefusalBelow name text (CannotRead cause) below = below ≡ []
 IsRefusalBelow name text CannotWrite below = below ≡ []
 IsRefusalBelow name text NoMemory below = below ≡ []
 
--- a fault is told, with what stands below it where that is wanted
+-- a fault is reported, with what is below it where that is wanted
 pub record IsFaultTold (wanted : Bool) (Below : List ℕ → Type 0) (f : Fault) (Told : List ℕ → Type 0) (status : Status) : Type 0 where
   pub said : Fault
   pub below : List ℕ
@@ -199,7 +199,7 @@ pub record IsFaultTold (wanted : Bool) (Below : List ℕ → Type 0) (f : Fault)
   pub told : Told (message_of said ++ below)
   pub ends : status ≡ status_of said
 
--- FILE is refused: its fault is told
+-- FILE is refused: its fault is reported
 abbrev pub IsRefusedAnswer : Bool → List ℕ → List ℕ → Fault → (List ℕ → Type 0) → Status → Type 0
 IsRefusedAnswer wanted name text f = IsFaultTold wanted (IsRefusalBelow name text f) f
 

@@ -99,7 +99,7 @@ fn text_outcome(
     }
 }
 
-// What `run` gives of a verified configuration, with what was read of its file behind `--calls`.
+// What `run` gives of a verified configuration, with what was read of its file after `--calls`.
 fn run_verified<R: Threads + Wait + Sync>(
     rt: &R,
     alloc: Global,

@@ -16,7 +16,7 @@ use serve_blackbox::resume::{Origin, resume};
 use std::alloc::{AllocError, Global};
 use trace_text::read::GREATEST_TRACE;
 
-/// A group that is to serve, with what is told of its beginning and the head of its trace.
+/// A group that is to serve, with what is reported of its beginning and the head of its trace.
 pub struct Prepared {
     pub world: World,
     pub head: TraceHead,
@@ -35,7 +35,7 @@ fn opened(alloc: Global, verified: Verified) -> Result<Origin, Fault>
 }
 
 /// Where a group of a configuration begins whose text is `source`: at its opening, or where the trace of a name ends, of whose events those
-/// behind its last whole line are dropped. A trace that can't be read or isn't one of this configuration is a fault.
+/// after its last whole line are dropped. A trace that can't be read or isn't one of this configuration is a fault.
 pub fn origin_of<F: TextFiles>(
     alloc: Global,
     verified: Verified,
@@ -62,7 +62,7 @@ pub fn origin_of<F: TextFiles>(
     }
 }
 
-// What is told of so many events that are dropped: nothing of none.
+// What is reported of so many events that are dropped: nothing of none.
 fn told_of(alloc: Global, dropped: usize) -> Result<String, AllocError>
     ensures { IfOk result (λ text. string_bytes text ≡ dropped_text dropped) }
 {
@@ -73,7 +73,7 @@ fn told_of(alloc: Global, dropped: usize) -> Result<String, AllocError>
     Ok(text)
 }
 
-// What is traced first of a group that begins at a world, and what is told of events that are dropped.
+// What is traced first of a group that begins at a world, and what is reported of events that are dropped.
 fn dressed(
     alloc: Global,
     world: &World,
@@ -91,7 +91,7 @@ fn dressed(
 }
 
 /// A group of a configuration whose text is `source`, ready to serve from its opening or from where the trace of a name ends, with the head of its
-/// own trace and what is told of events that are dropped. Where there is none, the fault says why.
+/// own trace and what is reported of events that are dropped. Where there is none, the fault says why.
 pub fn prepare<F: TextFiles>(
     alloc: Global,
     verified: Verified,

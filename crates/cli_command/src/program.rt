@@ -53,7 +53,7 @@ pub fn command<R: Threads + Wait + Sync, F: TextFiles, T: TraceSink, I: Read, O:
     }
 }
 
-/// The same without threads, so it returns. `None`: the words ask for `run`, and nothing was read or written.
+/// The command without threads, so it returns. `None`: the words ask for `run`, and nothing was read or written.
 pub fn command_alone<F: TextFiles, T: TraceSink, I: Read, O: Sink, E: Sink>(
     alloc: Global,
     words: &[String],
@@ -79,7 +79,7 @@ pub fn command_alone<F: TextFiles, T: TraceSink, I: Read, O: Sink, E: Sink>(
     }
 }
 
-// The same of words as they are read.
+// The command without threads, of words that are read already.
 fn plain_alone<F: TextFiles, T: TraceSink, I: Read, O: Sink, E: Sink>(
     alloc: Global,
     words: &Plain,
@@ -129,7 +129,7 @@ fn command_run<R: Threads + Wait + Sync, F: TextFiles, O: Sink, E: Sink>(
     }
 }
 
-// Tells a fault, and ends with its status.
+// Reports a fault, and ends with its status.
 fn ends_with<E: Sink>(fault: &Fault, err: &mut E) -> Status
     ensures told { Writes (E.contents err.old) (E.contents err.new) (E.has_failed err.new)
         (message_of fault.now) }

@@ -1,4 +1,4 @@
-// `serve`: a configuration behind lines.
+// `serve`: a configuration driven by lines.
 
 ghost use Rattle.std.specs.Prelude.{◌≡◌, ◌++◌, Some, None, true, option_map, IfOk, OnOk, OnErr};
 ghost use Rattle.cli_host.specs.Messages.{message_of, status_of, line_fault_number};
@@ -73,7 +73,7 @@ fn tell_unread<E: Sink>(
     tell_explained(&explained, err)
 }
 
-// Tells a fault with what stands below it, and ends with its status.
+// Reports a fault with what is below it, and ends with its status.
 fn tell_explained<E: Sink>(explained: &Explained, err: &mut E) -> Status
     ensures told { Writes (E.contents err.old) (E.contents err.new) (E.has_failed err.new)
         (message_of explained.now.fault ++ explained.now.below.items) }
@@ -131,7 +131,7 @@ fn tell_refused<E: Sink>(
     tell_explained(&explained, err)
 }
 
-// A refusal of FILE with what stands below it, where that is wanted; `NoMemory` where memory for that is missing.
+// A refusal of FILE with what is below it, where that is wanted; `NoMemory` where memory for that is missing.
 fn refusal_explained(
     alloc: Global,
     name: &str,
@@ -151,7 +151,7 @@ fn refusal_explained(
     }
 }
 
-// What stands below a refusal of FILE.
+// What is below a refusal of FILE.
 fn refusal_below(
     alloc: Global,
     name: &str,
@@ -198,7 +198,7 @@ fn serve_loaded<F: TextFiles, T: TraceSink, I: Read, O: Sink, E: Sink>(
     }
 }
 
-// Tells a fault, and ends with its status.
+// Reports a fault, and ends with its status.
 fn end_with<E: Sink>(fault: &Fault, err: &mut E) -> Status
     ensures told { Writes (E.contents err.old) (E.contents err.new) (E.has_failed err.new)
         (message_of fault.now) }

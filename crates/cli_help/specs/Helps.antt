@@ -8,7 +8,7 @@ use Rattle.cli_help.specs.declared.command.Answer.TheVariants.{Help, Misuse, NoM
 abbrev pub is_short_help : List ℕ → Bool
 is_short_help word = slice_index word 0 == 45 && (slice_index word 1 == 104 || slice_index word 1 == 86)
 
--- an option that asks for help or the version; behind a short one others may stand
+-- an option that asks for help or the version; after a short one others may be
 abbrev pub is_help_option : List ℕ → Bool
 is_help_option word = bytes_eq word (codes "--help") || bytes_eq word (codes "--version") || is_short_help word
 
@@ -23,7 +23,7 @@ abbrev pub begin_with_help : List (List ℕ) → Bool
 begin_with_help [] = false
 begin_with_help (word ∷ words) = is_helper word
 
--- words ask for help: `help` or `explain` stands first, or one of them is such an option
+-- words ask for help: `help` or `explain` comes first, or one of them is such an option
 abbrev pub ask_for_help : List (List ℕ) → Bool
 ask_for_help words = begin_with_help words || has_help_option words
 

@@ -52,7 +52,7 @@ fn program<'a>(alloc: Global) -> Result<Command<'a>, AllocError> {
         .subcommands(commands(alloc)?)
 }
 
-// Whether a word is an option that asks for help or the version; behind a short one others may stand.
+// Whether a word is an option that asks for help or the version; after a short one others may be.
 fn is_help_option(word: &str) -> bool
     ensures { result ≡ is_help_option word.now }
 {

@@ -28,25 +28,25 @@ const FROM_SHOWN: &str = "--from <OLD>";
 /// What is wrong with words that the parser takes.
 #[derive(Drop)]
 pub enum Misuse<'w> {
-    /// A word stands where none may, or begins with `-`.
+    /// A word is where none may, or begins with `-`.
     Unexpected(&'w str),
-    /// No value stands behind an option that needs one.
+    /// No value follows an option that needs one.
     NoValue(&'static str),
-    /// An option stands twice.
+    /// An option is twice.
     Twice(&'static str),
-    /// An option stands without what it is for.
+    /// An option is without what it is for.
     Alone(Lone),
     /// ROUNDS is no decimal in its range.
     Rounds(&'w str),
     /// NUMBER is none of a fault or a refusal.
     Number(&'w str),
-    /// No NAME stands before the calls of `watch`.
+    /// No NAME comes before the calls of `watch`.
     NoName,
     /// A command or its FILE is missing.
     Missing,
 }
 
-// An option, and what it stands beside.
+// An option, and what it is beside.
 #[derive(Clone, Copy)]
 pub struct Lone {
     option: &'static str,
@@ -93,7 +93,7 @@ pub fn misuse_of(words: &[String]) -> Misuse<'_> {
     }
 }
 
-// What is wrong with words behind a command's name.
+// What is wrong with words after a command's name.
 fn misuse_behind(name: Option<Name>, words: &[String]) -> Misuse<'_> {
     match name {
         Some(Name::Rounds(command)) => misuse_of_seen(Some(command), words),
@@ -108,14 +108,14 @@ fn first_option(words: &[String]) -> Option<Misuse<'_>> {
     Some(Misuse::Unexpected(word))
 }
 
-// What was seen so far of the words behind a command.
+// What was seen so far of the words after a command.
 #[derive(Clone, Copy)]
 struct Seen {
     /// How many words there were.
     words: usize,
     /// Whether there was one in the place of FILE.
     file: bool,
-    /// Where the next one stands, and the one behind that, from 0 on.
+    /// Where the next one is, and the one after that, from 0 on.
     second: Option<usize>,
     third: Option<usize>,
     /// The option whose value is next.
@@ -158,7 +158,7 @@ impl Valued {
     }
 }
 
-// What is wrong with a word behind others.
+// What is wrong with a word after others.
 #[derive(Clone, Copy)]
 enum Wrong {
     Unexpected,
@@ -192,7 +192,7 @@ impl Seen {
         }
     }
 
-    // The same, and a word more.
+    // What was seen, and a word more.
     fn with(self, word: &str) -> Result<Seen, Wrong> {
         let seen = self.with_word(word)?;
         Ok(Seen {
@@ -269,7 +269,7 @@ impl Seen {
     }
 }
 
-// What was seen of words, or which one stands wrong.
+// What was seen of words, or which one is wrong.
 fn seen_of(words: &[String]) -> Result<Seen, Misuse<'_>> {
     let mut seen = Seen::nothing();
     for word in words {
@@ -290,7 +290,7 @@ fn word_at(words: &[String], place: Option<usize>) -> Option<&str> {
     Some(word)
 }
 
-// What is wrong with words behind a command that simulates, if it is one.
+// What is wrong with words after a command that simulates, if it is one.
 fn misuse_of_seen(command: Option<Simulating>, words: &[String]) -> Misuse<'_> {
     match (seen_of(words), command) {
         (Err(misuse), _) => misuse,
@@ -299,7 +299,7 @@ fn misuse_of_seen(command: Option<Simulating>, words: &[String]) -> Misuse<'_> {
     }
 }
 
-// The same, where each option is well formed.
+// What is wrong with the words of a simulation, each option of which is well formed.
 fn misuse_of_rounds(command: Simulating, seen: Seen, words: &[String]) -> Misuse<'_> {
     let Some(second) = word_at(words, seen.second) else {
         return Misuse::Missing;
@@ -313,7 +313,7 @@ fn misuse_of_rounds(command: Simulating, seen: Seen, words: &[String]) -> Misuse
     }
 }
 
-// What is wrong with words behind `denials` or `watch`, where they have a trace.
+// What is wrong with words after `denials` or `watch`, where they have a trace.
 fn misuse_at_trace(seen: Seen, words: &[String]) -> Misuse<'_> {
     if seen.fire {
         return Misuse::Alone(FIRE_ALONE);
@@ -327,7 +327,7 @@ fn misuse_at_trace(seen: Seen, words: &[String]) -> Misuse<'_> {
     }
 }
 
-// What was seen so far of the words behind `serve`.
+// What was seen so far of the words after `serve`.
 #[derive(Clone, Copy)]
 struct Served {
     /// The option whose value is next, as it is shown.
@@ -338,7 +338,7 @@ struct Served {
 }
 
 impl Served {
-    // The same, and a word more.
+    // What was seen of `serve`, and a word more.
     fn with(self, word: &str) -> Result<Served, Wrong> {
         if let Some(option) = self.needs_value {
             return self.with_value(option, word);
@@ -397,7 +397,7 @@ impl Served {
         Ok(Served { sync: true, ..self })
     }
 
-    // What is wrong with words, each of which may stand there.
+    // What is wrong with words, each of which may be there.
     fn misuse<'w>(self) -> Misuse<'w> {
         match self.needs_value {
             Some(option) => Misuse::NoValue(option),
@@ -409,7 +409,7 @@ impl Served {
     }
 }
 
-// What is wrong with words behind `serve`.
+// What is wrong with words after `serve`.
 fn misuse_of_serve(words: &[String]) -> Misuse<'_> {
     let mut served = Served {
         needs_value: None,
@@ -475,7 +475,7 @@ fn text_of(alloc: Global, misuse: &Misuse<'_>) -> Result<String, AllocError> {
     }
 }
 
-// The text of an option that stands without what it is for.
+// The text of an option that is without what it is for.
 fn text_of_lone(alloc: Global, lone: Lone) -> Result<String, AllocError> {
     let Lone { option, beside } = lone;
     format!(in alloc; "'{option}' stands only beside {beside}")

@@ -29,7 +29,7 @@ impl Named {
     }
 }
 
-// Where an argument stands.
+// Where an argument is.
 #[derive(Clone, Copy)]
 enum Standing {
     // One word in its place.
@@ -38,7 +38,7 @@ enum Standing {
     Often,
     // Any number of words.
     Freely,
-    // Behind an option: its value, as it is shown.
+    // After an option: its value, as it is shown.
     Behind(&'static str),
     // A flag.
     Alone,

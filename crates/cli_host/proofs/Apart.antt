@@ -124,7 +124,7 @@ module _ (Is : List ℕ → Type 0) where
 
 -- THE OPTION AT ITS FIRST PLACE
 
--- it stands there with its value
+-- it is there with its value
 pub record StandsThere (front more positional : List (List ℕ)) (value : Option (List ℕ)) : Type 0 where
   pub word : List ℕ
   pub after : List (List ℕ)
@@ -183,7 +183,7 @@ pub no_value : (front : List (List ℕ)) (more : List (String Global)) (position
 no_value front [] positional value z found = no_more (sym found.more_is)
 no_value front (x ∷ more) positional value z found = absurd (omega (arith, z))
 
--- the value and the words behind it
+-- the value and the words after it
 pub with_value : (front : List (List ℕ)) (more : List (String Global)) (word : String Global) (back : List (String Global)) (positional : List (List ℕ)) (value : Option (List ℕ)) → more ≡ word ∷ back
     → StandsThere front (map string_bytes more) positional value → (positional ≡ front ++ map string_bytes back) × (value ≡ Some (string_bytes word)) × (IsOption (string_bytes word) → ⊥)
 with_value front more word back positional value e found =

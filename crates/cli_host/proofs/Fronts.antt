@@ -9,7 +9,7 @@ use Rattle.cli_host.specs.Writes.{AppendsFront}
 pub front_of : (a b : Option (List ℕ)) (x y : List ℕ) → AppendsFront a b x → AppendsFront a b (x ++ y)
 front_of a b x y f = (f.0, f.1 ++ y, f.2, sym (append_assoc f.0 f.1 y) ∙ ap (λ (t : List ℕ). t ++ y) f.3)
 
--- a front of the bytes behind others
+-- a front of the bytes after others
 pub front_behind : (a b c : Option (List ℕ)) (x y : List ℕ) → Appends a b x → AppendsFront b c y → AppendsFront a c (x ++ y)
 front_behind a b c x y p f = (x ++ f.0, f.1, Appends-trans a b c x f.0 p f.2, append_assoc x f.0 f.1 ∙ ap (λ (t : List ℕ). x ++ t) f.3)
 

@@ -60,14 +60,14 @@ pub no_first : (words : List (List ℕ)) (before next : Taken) (rest : List (Lis
 no_first words before next rest is (one_word word are gives) = no_more (sym are ∙ is)
 no_first words before next rest is (two_words option value are gives) = no_more (sym are ∙ is)
 
--- a word that gives nothing alone has its value behind it
+-- a word that gives nothing alone has its value after it
 pub value_behind : (words : List (List ℕ)) (word : List ℕ) (behind : List (List ℕ)) (before next : Taken) (rest : List (List ℕ)) → words ≡ word ∷ behind → ((next : Taken) → GiveWord word before next → ⊥)
     → GiveFirst words before next rest → (value : List ℕ) × (behind ≡ value ∷ rest) × GiveValue word value before next
 value_behind words word behind before next rest are none (one_word other too give) = let e = cut (sym are ∙ too) in absurd (none next (subst (λ w. GiveWord w before next) (sym e.0) give))
 value_behind words word behind before next rest are none (two_words option value too give) =
     let e = cut (sym are ∙ too) in (value, e.1, subst (λ w. GiveValue w value before next) (sym e.0) give)
 
--- the words behind the first ones are fewer
+-- the words after the first ones are fewer
 pub fewer : (words : List (List ℕ)) (before next : Taken) (rest : List (List ℕ)) → GiveFirst words before next rest → length rest < length words
 fewer words before next rest (one_word word are gives) = let long : length words ≡ length (word ∷ rest) = ap length are in omega (arith, long)
 fewer words before next rest (two_words option value are gives) = let long : length words ≡ length (option ∷ value ∷ rest) = ap length are in omega (arith, long)

@@ -59,7 +59,7 @@ module _ (words front back : List (String Global)) (n : ℕ) (e : front ≡ take
           let first : string_bytes x ≡ word = same_Some (string_bytes x) word there in
           at word (place_of n (map string_bytes words) word (map string_bytes b) (sym (map_drop n words) ∙ ap (map string_bytes) (sym is) ∙ ap (λ w. w ∷ map string_bytes b) first))
 
-  -- words in two parts here, behind names and before other words
+  -- words in two parts here, after names and before other words
   split_at : (earlier behind : List (List ℕ)) → AreNames earlier → ((word : List ℕ) → slice_get (map string_bytes back ++ behind) 0 ≡ Some word → BeginsWithDigit word)
       → AreNamesFirst (earlier ++ (map string_bytes words ++ behind)) (earlier ++ map string_bytes front) (map string_bytes back ++ behind)
   split_at earlier behind names begins = record {
@@ -70,7 +70,7 @@ module _ (words front back : List (String Global)) (n : ℕ) (e : front ≡ take
     numbered = begins;
   }
 
-  -- where a word of these begins with a digit, the words behind them are presses too
+  -- where a word of these begins with a digit, the words after them are presses too
   pub split_here : (earlier behind : List (List ℕ)) → AreNames earlier → (length back ≡ 0 → ⊥)
       → AreNamesFirst (earlier ++ (map string_bytes words ++ behind)) (earlier ++ map string_bytes front) (map string_bytes back ++ behind)
   split_here earlier behind names some = split_at earlier behind names (λ word there. back_begins behind word there some)

@@ -137,7 +137,7 @@ pub record IsFirstBad (rounds floors cars : ℕ) (lines : List (List ℕ)) (numb
   pub none : (read : Line) → IsLine rounds floors cars bad read → ⊥
   pub few : number ≤ most_lines
 
--- one line too many, behind as many as there may be
+-- one line too many, after as many as there may be
 pub record IsFirstBeyond (rounds floors cars : ℕ) (lines : List (List ℕ)) (number : ℕ) : Type 0 where
   pub line : List ℕ
   pub rest : List (List ℕ)
@@ -149,7 +149,7 @@ abbrev pub feeds : List ℕ → ℕ
 feeds [] = 0
 feeds (b ∷ bytes) = if b == 10 then 1 + feeds bytes else feeds bytes
 
--- Why a text has no presses and settings. The line of the first byte too many is told first. Memory may be missing.
+-- Why a text has no presses and settings. The line of the first byte too many is reported first. Memory may be missing.
 abbrev pub IsCallsFault : ℕ → ℕ → ℕ → List ℕ → CallsFault → Type 0
 IsCallsFault rounds floors cars text (BadLine number) = (length text ≤ greatest_file) × IsFirstBad rounds floors cars (lines_of text) number
 IsCallsFault rounds floors cars text (TooMany number) =

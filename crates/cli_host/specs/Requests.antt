@@ -79,7 +79,7 @@ AreNoOptions words = AreNone IsOption words
 abbrev pub LeaveOut : List ℕ → List (List ℕ) → Type 0
 LeaveOut option words = AreNone (λ word. word ≡ option) words
 
--- the words of three parts, one behind the other
+-- the words of three parts, one after the other
 abbrev pub words_of : Words → List (List ℕ)
 words_of words = map string_bytes words.front.now ++ (map string_bytes words.middle.now ++ map string_bytes words.back.now)
 
@@ -99,7 +99,7 @@ pub record BeginWithName (words : List (List ℕ)) : Type 0 where
   pub stands : slice_get words 0 ≡ Some name
   pub unnumbered : BeginsWithDigit name → ⊥
 
--- words without an option and the value behind it, which may stand anywhere among them, and that value
+-- words without an option and the value after it, which may be anywhere among them, and that value
 abbrev pub IsApart : List ℕ → List (List ℕ) → List (List ℕ) → Option (List ℕ) → Type 0
 IsApart option rest positional None = rest ≡ positional
 IsApart option rest positional (Some value) =
@@ -110,14 +110,14 @@ abbrev pub IsOnlyApart : List ℕ → List (List ℕ) → List (List ℕ) → Op
 IsOnlyApart option words found value =
     (positional : List (List ℕ)) (other : Option (List ℕ)) → IsApart option words positional other → LeaveOut option positional → (positional ≡ found) × (other ≡ value)
 
--- a value, and behind it words without another option and its value
+-- a value, and after it words without another option and its value
 pub record IsBehind (option : List ℕ) (words : List (List ℕ)) (value : List ℕ) (others : List (List ℕ)) (other : Option (List ℕ)) : Type 0 where
   pub behind : List (List ℕ)
   pub are : words ≡ value ∷ behind
   pub plain : IsOption value → ⊥
   pub apart : IsApart option behind others other
 
--- words without an option and its value, and without another option and its value, which stand behind them
+-- words without an option and its value, and without another option and its value, which follows them
 pub record IsFirstApart (first second : List ℕ) (words positional : List (List ℕ)) (value other : Option (List ℕ)) : Type 0 where
   pub before : List (List ℕ)
   pub rest : List (List ℕ)
@@ -128,20 +128,20 @@ pub record IsFirstApart (first second : List ℕ) (words positional : List (List
   pub is_value : value ≡ Some word
   pub positional_is : positional ≡ before ++ others
 
--- words without two options and the values behind them, which may stand anywhere among them in either order, and those values
+-- words without two options and the values after them, which may be anywhere among them in either order, and those values
 pub data AreApart (one two : List ℕ) (words positional : List (List ℕ)) (first second : Option (List ℕ)) : Type 0 where
   without : words ≡ positional → first ≡ None → second ≡ None → AreApart one two words positional first second
   one_first : IsFirstApart one two words positional first second → AreApart one two words positional first second
   two_first : IsFirstApart two one words positional second first → AreApart one two words positional first second
 
--- words that are no options stand apart in any such way as these
+-- words that are no options are apart in any such way as these
 abbrev pub AreOnlyApart : List ℕ → List ℕ → List (List ℕ) → List (List ℕ) → Type 0
 AreOnlyApart one two words found = (positional : List (List ℕ)) (first second : Option (List ℕ)) → AreApart one two words positional first second → AreNoOptions positional → positional ≡ found
 
 abbrev pub IsOnlyBehind : List ℕ → List (List ℕ) → List (List ℕ) → Type 0
 IsOnlyBehind option words found = (value : List ℕ) (others : List (List ℕ)) (other : Option (List ℕ)) → IsBehind option words value others other → AreNoOptions others → others ≡ found
 
--- FILE and ROUNDS, with any words behind them, and `--fire ROUND` and `--calls CALLS` anywhere among them; no other word is an option
+-- FILE and ROUNDS, with any words after them, and `--fire ROUND` and `--calls CALLS` anywhere among them; no other word is an option
 pub record GiveRounds (words : List (List ℕ)) (rounds : Rounds) : Type 0 where
   pub positional : List (List ℕ)
   pub text : List ℕ
@@ -185,12 +185,12 @@ pub record GiveDrawing (words : List (List ℕ)) (traced : Traced) : Type 0 wher
   pub names : words_of traced.names ≡ []
   pub uncut : traced.cut ≡ false
 
--- words without a flag that may stand anywhere among them, and whether it does
+-- words without a flag that may be anywhere among them, and whether it does
 abbrev pub IsFlagApart : List ℕ → List (List ℕ) → List (List ℕ) → Bool → Type 0
 IsFlagApart flag words positional false = words ≡ positional
 IsFlagApart flag words positional true = (before : List (List ℕ)) × (after : List (List ℕ)) × (words ≡ before ++ flag ∷ after) × (positional ≡ before ++ after)
 
--- FILE and TRACE, which isn't digits alone, with names behind them, and `--cut` anywhere among them; no other word is an option
+-- FILE and TRACE, which isn't digits alone, with names after them, and `--cut` anywhere among them; no other word is an option
 pub record GiveFollowed (words : List (List ℕ)) (traced : Traced) : Type 0 where
   pub positional : List (List ℕ)
   pub apart : IsFlagApart (codes "--cut") words positional traced.cut
@@ -209,7 +209,7 @@ pub record GiveScan (words : List (List ℕ)) (traced : Traced) : Type 0 where
   pub plain : AreNoOptions positional
   pub uncut : traced.cut ≡ false
 
--- `watch` needs a name behind ROUNDS
+-- `watch` needs a name after ROUNDS
 abbrev pub NeedsName : Simulating → List (List ℕ) → Type 0
 NeedsName simulating.Sim words = Unit {0}
 NeedsName simulating.Run words = Unit {0}
@@ -221,7 +221,7 @@ abbrev pub AreNames : Bool → List (List ℕ) → Type 0
 AreNames some [] = some ≡ false
 AreNames some (name ∷ names) = some ≡ true
 
--- what a command takes over a trace: FILE and TRACE, and what else is its own; `watch` needs a name behind them
+-- what a command takes over a trace: FILE and TRACE, and what else is its own; `watch` needs a name after them
 abbrev pub TakesTrace : List (List ℕ) → Following → Traced → Type 0
 TakesTrace words following.Replay traced = GiveTrace words traced
 TakesTrace words following.Draw traced = GiveDrawing words traced
@@ -230,7 +230,7 @@ TakesTrace words following.Denials traced = GiveFollowed words traced × AreName
 TakesTrace words following.Watch traced = GiveFollowed words traced × AreNames true (words_of traced.names)
 TakesTrace words following.Scan traced = GiveScan words traced
 
--- what a request takes behind its command: `FILE` and maybe `--warn` for check, `FILE` for what shows something of it, `FILE ROUNDS` and
+-- what a request takes after its command: `FILE` and maybe `--warn` for check, `FILE` for what shows something of it, `FILE ROUNDS` and
 -- more for a simulation, and `FILE TRACE` and more over a trace
 abbrev pub Takes : List (List ℕ) → Request → Type 0
 Takes words (request.Check checked) = IsFileWith (codes "--warn") words checked.file.now checked.warns
@@ -238,7 +238,7 @@ Takes words (request.Show command shown) = IsFile words shown.file.now
 Takes words (request.Rounds command rounds) = GiveRounds words rounds × NeedsName command (words_of rounds.presses)
 Takes words (request.Trace command traced) = TakesTrace words command traced
 
--- a command, and behind it what it takes
+-- a command, and after it what it takes
 pub record Asks (words : List (List ℕ)) (request : Request) : Type 0 where
   pub rest : List (List ℕ)
   pub are : words ≡ word_of (command_of request) ∷ rest
@@ -352,7 +352,7 @@ plain_word own second third json word = if bytes_eq word (codes "--explain") || 
 abbrev pub plain_words : List (List ℕ) → List (List ℕ)
 plain_words words = flat_map (plain_word (own_flag words) (own_second words) (own_third words) (asked_json words)) words
 
--- a request with the flags of its command that stand among the words
+-- a request with the flags of its command that are among the words
 abbrev pub with_flags : Flags → Request → Request
 with_flags flags (request.Check checked) = request.Check (record checked { limits = flags.own; paths = flags.second; all = flags.third; json = flags.json })
 with_flags flags (request.Show command shown) = request.Show command (record shown { text = flags.own; json = flags.json })

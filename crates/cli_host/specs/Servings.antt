@@ -58,7 +58,7 @@ pub data GiveValue (option value : List ℕ) (before next : Taken) : Type 0 wher
   of_from : option ≡ codes "--from" → (IsOption value → ⊥) → before.from ≡ None → next ≡ record before { from = Some value } → GiveValue option value before next
   of_trace : option ≡ codes "--trace" → (IsOption value → ⊥) → before.trace ≡ None → next ≡ record before { trace = Some value } → GiveValue option value before next
 
--- the first words, one or two, and those behind them
+-- the first words, one or two, and those after them
 pub data GiveFirst (words : List (List ℕ)) (before next : Taken) (rest : List (List ℕ)) : Type 0 where
   one_word : (word : List ℕ) → words ≡ word ∷ rest → GiveWord word before next → GiveFirst words before next rest
   two_words : (option value : List ℕ) → words ≡ option ∷ value ∷ rest → GiveValue option value before next → GiveFirst words before next rest
@@ -72,7 +72,7 @@ pub data Give : List (List ℕ) → Taken → Taken → Type 0 where
 abbrev pub TakesToServe : List (List ℕ) → Serving → Type 0
 TakesToServe words serving = Give words nothing_taken (taken_of serving)
 
--- `serve`, and behind it what it takes
+-- `serve`, and after it what it takes
 pub record Serves (words : List (List ℕ)) (serving : Serving) : Type 0 where
   pub rest : List (List ℕ)
   pub are : words ≡ codes "serve" ∷ rest

@@ -191,7 +191,7 @@ fn is_cut(cut: Cut, byte: u8) -> bool
     }
 }
 
-// How many bytes stand before the first cut.
+// How many bytes come before the first cut.
 fn first_cut(cut: Cut, text: &[u8]) -> usize
     ensures is { result ≡ position_or_len (is_cut cut) text.now }
     ensures within { result ≤ length text.now }
@@ -206,7 +206,7 @@ fn first_cut(cut: Cut, text: &[u8]) -> usize
     place
 }
 
-// What stands before the first cut, and what is left behind it.
+// What comes before the first cut, and what is left after it.
 fn first_piece(cut: Cut, text: &[u8]) -> (&[u8], Option<&[u8]>)
     ensures { pieces_left cut (Some text.now)
         ≡ result.0.now ∷ pieces_left cut (option_map (λ left. left.now) result.1) }
@@ -218,7 +218,7 @@ fn first_piece(cut: Cut, text: &[u8]) -> (&[u8], Option<&[u8]>)
     }
 }
 
-// The next word of what is left of a line, and what is left behind it.
+// The next word of what is left of a line, and what is left after it.
 fn next_word(left: Option<&[u8]>) -> Option<(&[u8], Option<&[u8]>)>
     ensures some { IfSome result (λ parts. words_left (option_map (λ left. left.now) left.entry)
         ≡ parts.0.now ∷ words_left (option_map (λ left. left.now) parts.1)) }
@@ -257,7 +257,7 @@ fn begins_comment(word: &[u8]) -> bool
     matches!(word, [b'#', ..])
 }
 
-// What a line says by its first word, which begins no comment, and what is left behind that.
+// What a line says by its first word, which begins no comment, and what is left after that.
 fn said_behind(first: &[u8], rest: Option<&[u8]>, bounds: Bounds) -> Option<Line>
     requires { slice_index first.now 0 ≢ 35 }
     ensures some { IfSome result (AreLineWords bounds.rounds bounds.floors bounds.cars

@@ -67,7 +67,7 @@ impl From<AllocError> for PressFault {
     }
 }
 
-/// The round that the word behind `--fire` spells in decimal, from 1 to `rounds`.
+/// The round that the word after `--fire` spells in decimal, from 1 to `rounds`.
 pub fn fire_round(word: &str, rounds: u16) -> Option<u16>
     ensures some { IfSome result (IsNumberTo rounds word.now) }
     ensures none { IsNone result → (n : ℕ) → IsNumberTo rounds word.now n → ⊥ }
@@ -147,7 +147,7 @@ fn press_of(word: &str, rounds: u16, floors: u16) -> Option<Press>
     }
 }
 
-// What stands before the first colon of a text, and what stands behind it.
+// What comes before the first colon of a text, and what follows it.
 fn first_part(text: &str) -> Option<(&str, &str)>
     ensures some { IfSome result (λ parts. parts_of text.now ≡ parts.0.now ∷ parts_of parts.1.now) }
     ensures none { IsNone result → parts_of text.now ≡ text.now ∷ [] }

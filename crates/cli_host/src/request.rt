@@ -15,49 +15,49 @@ pub const MOST_ROUNDS: u16 = 50_000;
 /// The option of a simulation whose value is the round from which on fire recall is on.
 pub const FIRE: &str = "--fire";
 
-// The same option, where its value stands in one word with it.
+// `--fire` with its value in one word.
 const FIRE_IS: &str = "--fire=";
 
 /// The option of a simulation whose value is the name of a file with presses and settings.
 pub const CALLS: &str = "--calls";
 
-// The same option, where its value stands in one word with it.
+// `--calls` with its value in one word.
 const CALLS_IS: &str = "--calls=";
 
 /// The option of `draw` whose value is which rounds are drawn.
 pub const ROUNDS: &str = "--rounds";
 
-// The same option, where its value stands in one word with it.
+// `--rounds` with its value in one word.
 const ROUNDS_IS: &str = "--rounds=";
 
 /// The option of `scan` whose value is the round in which the scan was committed.
 pub const ROUND: &str = "--round";
 
-// The same option, where its value stands in one word with it.
+// `--round` with its value in one word.
 const ROUND_IS: &str = "--round=";
 
-/// The option of `scan` whose value is the line behind which nothing more is shown.
+/// The option of `scan` whose value is the line after which nothing more is shown.
 pub const UNTIL: &str = "--until";
 
-// The same option, where its value stands in one word with it.
+// `--until` with its value in one word.
 const UNTIL_IS: &str = "--until=";
 
 /// The option of `serve` whose value is the name of the trace that it writes.
 pub const TRACE: &str = "--trace";
 
-// The same option, where its value stands in one word with it.
+// `--trace` with its value in one word.
 const TRACE_IS: &str = "--trace=";
 
 /// The option of `serve` whose value is the name of the trace that the group goes on from.
 pub const FROM: &str = "--from";
 
-// The same option, where its value stands in one word with it.
+// `--from` with its value in one word.
 const FROM_IS: &str = "--from=";
 
 /// The flag of `watch` that has it leave out a round whose values are those of the round before.
 pub const CHANGES: &str = "--changes";
 
-/// The flag of `denials` that has it show all denials, and of `check` that has it tell the first fault of each unit.
+/// The flag of `denials` that has it show all denials, and of `check` that has it report the first fault of each unit.
 pub const ALL: &str = "--all";
 
 /// The flag of `run` that has a round end for all before the next begins.
@@ -75,7 +75,7 @@ pub const CUT: &str = "--cut";
 // The option of every command that has a refusal of a text shown with the text's line and the number's meaning.
 const EXPLAIN: &str = "--explain";
 
-/// The option of `check` that has it tell what it warns of.
+/// The option of `check` that has it report what it warns of.
 pub const WARN: &str = "--warn";
 
 /// The flag of `check` that has it print how much of each limit is used.
@@ -108,14 +108,14 @@ pub enum Simulating {
     Run,
     /// What the interlock denied in it.
     Denials,
-    /// Values behind each round.
+    /// Values after each round.
     Watch,
 }
 
 /// A command over a trace.
 #[derive(Clone, Copy)]
 pub enum Following {
-    /// The image behind it.
+    /// The image after it.
     Replay,
     /// A picture of it.
     Draw,
@@ -123,7 +123,7 @@ pub enum Following {
     Calls,
     /// What the interlock denied along it.
     Denials,
-    /// Values behind each of its rounds.
+    /// Values after each of its rounds.
     Watch,
     /// A scan of it, instruction by instruction.
     Scan,
@@ -138,7 +138,7 @@ pub enum Name {
     Trace(Following),
 }
 
-/// Words in three parts, one behind the other.
+/// Words in three parts, one after the other.
 #[derive(Clone, Copy)]
 pub struct Words<'w> {
     pub front: &'w [String],
@@ -151,13 +151,13 @@ pub struct Words<'w> {
 pub struct Checked<'w> {
     /// The name of the file.
     pub file: &'w str,
-    /// Whether `--warn` stands beside it.
+    /// Whether `--warn` is beside it.
     pub warns: bool,
     /// Whether how much of each limit is used is to be printed too.
     pub limits: bool,
     /// Whether lines of a path that follow one another are to be printed as a range.
     pub paths: bool,
-    /// Whether the first fault of each other unit is to be told too.
+    /// Whether the first fault of each other unit is to be reported too.
     pub all: bool,
     /// Whether JSON is to be printed.
     pub json: bool,
@@ -181,13 +181,13 @@ pub struct Rounds<'w> {
     pub file: &'w str,
     /// How many rounds.
     pub rounds: u16,
-    /// The words behind ROUNDS, which are to be presses, behind names for `watch`.
+    /// The words after ROUNDS, which are to be presses, after names for `watch`.
     pub presses: Words<'w>,
-    /// The word behind `--fire`, which is to be a round.
+    /// The word after `--fire`, which is to be a round.
     pub fire: Option<&'w str>,
-    /// The word behind `--calls`, the name of a file.
+    /// The word after `--calls`, the name of a file.
     pub calls: Option<&'w str>,
-    /// Whether the command's own flag stands among the words: `denials` is to show all, also the stops at the ends of the shaft; `watch` is to
+    /// Whether the command's own flag is among the words: `denials` is to show all, also the stops at the ends of the shaft; `watch` is to
     /// leave out what doesn't change; a round of `run` is to end for all before the next begins.
     pub flag: bool,
     /// Whether `run` is to print how many calls are left.
@@ -203,15 +203,15 @@ pub struct Traced<'w> {
     pub file: &'w str,
     /// The name of the trace.
     pub trace: &'w str,
-    /// The words behind TRACE, which are the names of `watch`, and the task of `scan`; another command has none.
+    /// The words after TRACE, which are the names of `watch`, and the task of `scan`; another command has none.
     pub names: Words<'w>,
-    /// The word behind `--rounds`, which is to say what rounds `draw` shows.
+    /// The word after `--rounds`, which is to say what rounds `draw` shows.
     pub span: Option<&'w str>,
-    /// The word behind `--round`, which is to be the round of the scan that `scan` shows.
+    /// The word after `--round`, which is to be the round of the scan that `scan` shows.
     pub round: Option<&'w str>,
-    /// The word behind `--until`, which is to be the line behind which `scan` shows nothing more.
+    /// The word after `--until`, which is to be the line after which `scan` shows nothing more.
     pub until: Option<&'w str>,
-    /// Whether the command's own flag stands among the words: `calls` is to print a summary, `denials` is to show all, `watch` is to leave out
+    /// Whether the command's own flag is among the words: `calls` is to print a summary, `denials` is to show all, `watch` is to leave out
     /// what doesn't change.
     pub flag: bool,
     /// Whether the trace may be cut off, and is taken up to its last whole line.
@@ -299,7 +299,7 @@ impl<'w> Words<'w> {
         self.front.len() + self.middle.len() + self.back.len()
     }
 
-    /// The first word, and those behind it.
+    /// The first word, and those after it.
     pub fn split_first(self) -> Option<(&'w str, Words<'w>)>
         ensures some { IfSome result (λ parts. words_of self.entry
             ≡ parts.0.now ∷ words_of parts.1) }
@@ -316,7 +316,7 @@ impl<'w> Words<'w> {
     }
 }
 
-/// Words that are names, and those behind them.
+/// Words that are names, and those after them.
 #[derive(Clone, Copy)]
 pub struct Named<'w> {
     pub names: Words<'w>,
@@ -355,7 +355,7 @@ impl<'w> Words<'w> {
 }
 
 impl<'w> Request<'w> {
-    /// The same, with the flags of its command or without.
+    /// The request, with the flags of its command or without.
     pub fn with_flags(self, flags: Flags) -> Request<'w>
         ensures { result ≡ with_flags flags self.entry }
     {
@@ -456,7 +456,7 @@ pub fn asked(words: &[String]) -> Option<Request<'_>>
     takes(Name::of(name)?, rest)
 }
 
-// What a command is asked for by the words behind its name.
+// What a command is asked for by the words after its name.
 fn takes(name: Name, rest: &[String]) -> Option<Request<'_>>
     ensures some { IfSome result (λ request. (word_of (command_of request) ≡ word_of name)
         × Takes (map string_bytes rest.now) request) }
@@ -519,14 +519,14 @@ fn shown_given(rest: &[String]) -> Option<Shown<'_>>
     }
 }
 
-// FILE, and whether an option stands beside it.
+// FILE, and whether an option is beside it.
 #[derive(Clone, Copy)]
 struct FileWith<'w> {
     file: &'w str,
     has_option: bool,
 }
 
-// FILE, where it is the one of two words beside which the option stands.
+// FILE, where it is the one of two words beside which the option is.
 fn file_beside<'w>(option: &str, first: &'w str, second: &'w str) -> Option<&'w str>
     ensures some { IfSome result (λ file. IsFileBeside option.now first.now second.now file.now) }
     ensures none { IsNone result → (file : List ℕ)
@@ -541,7 +541,7 @@ fn file_beside<'w>(option: &str, first: &'w str, second: &'w str) -> Option<&'w 
     None
 }
 
-// FILE, where it is the one word or the option stands beside it.
+// FILE, where it is the one word or the option is beside it.
 fn file_with<'w>(option: &str, words: Words<'w>) -> Option<FileWith<'w>>
     ensures some { IfSome result (λ found. IsFileWith option.now (words_of words.entry)
         found.file.now found.has_option) }
@@ -576,7 +576,7 @@ fn file_without_option(word: &str) -> Option<FileWith<'_>>
     })
 }
 
-// FILE, where it is the one word or stands beside `--warn`.
+// FILE, where it is the one word or is beside `--warn`.
 fn check_given(rest: &[String]) -> Option<Checked<'_>>
     ensures some { IfSome result (λ checked.
         IsFileWith (codes "--warn") (map string_bytes rest.now) checked.file.now checked.warns) }
@@ -703,7 +703,7 @@ fn scan_given(rest: &[String]) -> Option<Traced<'_>>
     })
 }
 
-// FILE, TRACE, and names behind them where they are needed; maybe `--cut`.
+// FILE, TRACE, and names after them where they are needed; maybe `--cut`.
 fn followed_given(named: bool, rest: &[String]) -> Option<Traced<'_>>
     ensures some { IfSome result (λ traced. GiveFollowed (map string_bytes rest.now) traced
         × AreNames named (words_of traced.names)) }
@@ -746,7 +746,7 @@ fn any_followed_given(rest: &[String]) -> Option<Traced<'_>>
     })
 }
 
-// Words without `--cut`, and whether it stood among them.
+// Words without `--cut`, and whether it was among them.
 #[derive(Clone, Copy)]
 struct CutApart<'w> {
     positional: Words<'w>,
@@ -781,7 +781,7 @@ fn cut_apart(rest: &[String]) -> Option<CutApart<'_>>
     })
 }
 
-// FILE and ROUNDS, and what stands behind them.
+// FILE and ROUNDS, and what follows them.
 fn rounds_given(rest: &[String]) -> Option<Rounds<'_>>
     ensures some { IfSome result (GiveRounds (map string_bytes rest.now)) }
     ensures only { IfSome result (λ found. (rounds : Rounds)
@@ -810,7 +810,7 @@ fn rounds_given(rest: &[String]) -> Option<Rounds<'_>>
     })
 }
 
-// The same, with a name behind ROUNDS where the command needs one.
+// FILE, ROUNDS and, where the command needs one, a name after them.
 fn simulation_given(command: Simulating, rest: &[String]) -> Option<Rounds<'_>>
     ensures some { IfSome result (λ rounds. GiveRounds (map string_bytes rest.now) rounds
         × NeedsName command (words_of rounds.presses)) }
@@ -848,7 +848,7 @@ fn begin_with_name(words: Words<'_>) -> bool
     }
 }
 
-// Words without two options and the values behind them, and those values.
+// Words without two options and the values after them, and those values.
 #[derive(Clone, Copy)]
 struct OptionsApart<'w> {
     positional: Words<'w>,
@@ -856,7 +856,7 @@ struct OptionsApart<'w> {
     second: Option<&'w str>,
 }
 
-// The words behind such a command apart, where they have no option but these two and a word behind each of them.
+// The words after such a command apart, where they have no option but these two and a word after each of them.
 fn options_apart<'w>(one: &str, two: &str, rest: &'w [String]) -> Option<OptionsApart<'w>>
     requires one { IsOption one.now }
     requires two { IsOption two.now }
@@ -898,7 +898,7 @@ fn options_apart<'w>(one: &str, two: &str, rest: &'w [String]) -> Option<Options
     })
 }
 
-// A value, and what stands behind it: words without another option and its value, and that value.
+// A value, and what follows it: words without another option and its value, and that value.
 #[derive(Clone, Copy)]
 struct Behind<'w> {
     value: &'w str,
@@ -908,7 +908,7 @@ struct Behind<'w> {
 }
 
 impl<'w> Behind<'w> {
-    // The words behind others.
+    // The words after others.
     fn words_from(self, front: &'w [String]) -> Words<'w>
         ensures { words_of result ≡ map string_bytes front.now
             ++ (map string_bytes self.entry.front.now ++ map string_bytes self.entry.back.now) }
@@ -921,7 +921,7 @@ impl<'w> Behind<'w> {
     }
 }
 
-// What stands behind an option, where that is a value and behind it no option but another one with its value.
+// What follows an option, where that is a value and after it no option but another one with its value.
 fn from_value<'w>(option: &str, words: &'w [String]) -> Option<Behind<'w>>
     requires { IsOption option.now }
     ensures some { IfSome result (λ behind. IsBehind option.now (map string_bytes words.now)
@@ -952,7 +952,7 @@ fn from_value<'w>(option: &str, words: &'w [String]) -> Option<Behind<'w>>
     })
 }
 
-// Words without an option and the value behind it, those before it and those behind, and that value.
+// Words without an option and the value after it, those before it and those after, and that value.
 #[derive(Clone, Copy)]
 struct WordsApart<'w> {
     front: &'w [String],
@@ -960,7 +960,7 @@ struct WordsApart<'w> {
     value: Option<&'w str>,
 }
 
-// Words apart at the first place of an option, where a value stands behind it that begins with no `-`.
+// Words apart at the first place of an option, where a value follows it that begins with no `-`.
 fn apart<'w>(option: &str, words: &'w [String]) -> Option<WordsApart<'w>>
     ensures some { IfSome result (λ apart. IsApart option.now (map string_bytes words.now)
         (map string_bytes apart.front.now ++ map string_bytes apart.back.now)
@@ -998,7 +998,7 @@ pub(crate) fn is_same(word: &str, other: &str) -> bool
     word == other
 }
 
-// How many words stand before the first that is the option.
+// How many words come before the first that is the option.
 fn first_of(option: &str, words: &[String]) -> usize
     ensures within { result ≤ length words.now }
     ensures before { (k : ℕ) (word : List ℕ) → k < result
@@ -1024,7 +1024,7 @@ fn has_option(words: &[String]) -> bool
     first_option(words) < words.len()
 }
 
-// How many words stand before the first option.
+// How many words come before the first option.
 fn first_option(words: &[String]) -> usize
     ensures within { result ≤ length words.now }
     ensures before { (k : ℕ) (word : List ℕ) → k < result
@@ -1049,7 +1049,7 @@ pub fn is_number(word: &str) -> bool
     matches!(word.as_bytes(), [b'0'..=b'9', ..])
 }
 
-// How many words stand before the first that begins with a digit.
+// How many words come before the first that begins with a digit.
 fn first_number(words: &[String]) -> usize
     ensures within { result ≤ length words.now }
     ensures before { (k : ℕ) (word : List ℕ) → k < result
@@ -1074,7 +1074,7 @@ fn is_explain(word: &str) -> bool
     word == EXPLAIN
 }
 
-/// Which flags of a command stand among its words.
+/// Which flags of a command are among its words.
 #[derive(Clone, Copy)]
 pub struct Flags {
     /// That of the command's own: `--limits` of `check`, `--text` of `ranges`, `--all` of `denials`, `--changes` of `watch`, `--together` of `run`,
@@ -1088,11 +1088,11 @@ pub struct Flags {
     pub json: bool,
 }
 
-/// The words of a command line as they are read, and the flags that may stand anywhere among them.
+/// The words of a command line as they are read, and the flags that may be anywhere among them.
 #[derive(Drop)]
 pub struct Plain {
     /// The words without `--explain` and the flags of their command; for `--fire=ROUND`, `--calls=CALLS`, `--rounds=A:B`, `--trace=TRACE` and
-    /// `--from=OLD` stand two words.
+    /// `--from=OLD` are two words.
     pub words: Vec<String>,
     /// Whether `--explain` was among them.
     pub explains: bool,
@@ -1172,7 +1172,7 @@ fn own_json(words: &[String]) -> Option<&'static str>
     None
 }
 
-// The same, where no flag is one of the words that has no JSON.
+// `--json`, where the words' command takes it and no flag among them has no JSON.
 fn asked_json(words: &[String]) -> Option<&'static str>
     ensures { option_map (λ f. f.now) result ≡ asked_json (map string_bytes words.now) }
 {
@@ -1388,7 +1388,7 @@ fn line_behind(word: &str) -> Option<&str>
     word.strip_prefix(UNTIL_IS)
 }
 
-// The option and the value that stand in one word.
+// The option and the value that are in one word.
 fn value_within(word: &str) -> Option<Valued<'_>>
     ensures { MatchOption result (cut_word word.now ≡ word.now ∷ [])
         (λ valued. cut_word word.now ≡ valued.option.now ∷ valued.value.now ∷ []) }
@@ -1414,7 +1414,7 @@ fn value_within(word: &str) -> Option<Valued<'_>>
     of_serve_within(word)
 }
 
-// The same of an option of `serve` or of `scan`.
+// The option of `serve` or of `scan`, and the value, in one word.
 fn of_serve_within(word: &str) -> Option<Valued<'_>>
     ensures { MatchOption result (cut_serve_word word.now ≡ word.now ∷ [])
         (λ valued. cut_serve_word word.now ≡ valued.option.now ∷ valued.value.now ∷ []) }
@@ -1434,7 +1434,7 @@ fn of_serve_within(word: &str) -> Option<Valued<'_>>
     of_scan_within(word)
 }
 
-// The same of an option of `scan`.
+// The option of `scan` and the value in one word.
 fn of_scan_within(word: &str) -> Option<Valued<'_>>
     ensures { MatchOption result (cut_scan_word word.now ≡ word.now ∷ [])
         (λ valued. cut_scan_word word.now ≡ valued.option.now ∷ valued.value.now ∷ []) }

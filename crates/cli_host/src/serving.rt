@@ -47,7 +47,7 @@ pub fn is_serve(word: &str) -> bool
     word == "serve"
 }
 
-// What `serve` is asked for by the words behind it.
+// What `serve` is asked for by the words after it.
 fn serving_given(rest: &[String]) -> Option<Serving<'_>>
     ensures some { IfSome result (TakesToServe (map string_bytes rest.now)) }
     ensures none { IsNone result → (serving : Serving)
@@ -57,7 +57,7 @@ fn serving_given(rest: &[String]) -> Option<Serving<'_>>
     given.serving()
 }
 
-// What the words behind `serve` give, so far as they are read.
+// What the words after `serve` give, so far as they are read.
 #[derive(Clone, Copy)]
 struct Given<'w> {
     file: Option<&'w str>,
@@ -66,7 +66,7 @@ struct Given<'w> {
     sync: bool,
 }
 
-// What is given with the first words, and those behind them.
+// What is given with the first words, and those after them.
 #[derive(Clone, Copy)]
 struct GivenMore<'w> {
     given: Given<'w>,
@@ -96,7 +96,7 @@ impl<'w> Given<'w> {
         }
     }
 
-    // The same with a word alone, if it gives something that isn't there yet.
+    // What was given and a word alone, if it gives something new.
     fn with_word(self, word: &'w str) -> Option<Given<'w>>
         ensures some { IfSome result (λ next. GiveWord word.now (given_of self.entry)
             (given_of next)) }
@@ -121,7 +121,7 @@ impl<'w> Given<'w> {
         }
     }
 
-    // The same with an option and its value, if they give something that isn't there yet.
+    // What was given and an option with its value, if they give something new.
     fn with_value(self, option: &str, value: &'w str) -> Option<Given<'w>>
         ensures some { IfSome result (λ next. GiveValue option.now value.now
             (given_of self.entry) (given_of next)) }

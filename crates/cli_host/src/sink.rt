@@ -16,7 +16,7 @@ pub struct SinkFault;
 
 /// Where a program writes: a stream, or a list in memory.
 pub trait Sink {
-    /// The bytes taken so far, where the sink tells them.
+    /// The bytes taken so far, where the sink reports them.
     ghost contents: { Self → Option (List ℕ) } = { λ _. None };
 
     /// Whether a piece was refused.
@@ -33,7 +33,7 @@ pub trait Sink {
         ensures bytes { WriteAppends (contents self.old) (contents self.new) result piece.now }
         ensures goes_on { OnOk result (has_failed self.new ≡ has_failed self.old) }
         ensures failed { OnErr result (has_failed self.new ≡ true) }
-        // one that doesn't tell its bytes doesn't tell them later
+        // one that doesn't report its bytes doesn't report them later
         ensures silent { contents self.old ≡ None → contents self.new ≡ None }
         ensures made { made self.new ≡ made self.old };
 }

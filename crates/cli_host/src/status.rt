@@ -36,13 +36,13 @@ pub enum ScanFault {
     Task,
     /// The name after the period of TASK is no unit of the text.
     Unit,
-    /// The word behind `--round` is no number from 1 to 65535.
+    /// The word after `--round` is no number from 1 to 65535.
     Round,
-    /// The word behind `--until` is no line, and no two lines.
+    /// The word after `--until` is no line, and no two lines.
     Line,
     /// The trace commits no scan of TASK.
     Uncommitted,
-    /// It commits none in the round behind `--round`.
+    /// It commits none in the round after `--round`.
     UncommittedInRound,
 }
 
@@ -110,7 +110,7 @@ pub enum Fault {
     TooManyPresses,
     /// This ROUND of `--fire` is no round of the simulation.
     BadFire(String),
-    /// This word behind `--rounds` says no rounds.
+    /// This word after `--rounds` says no rounds.
     BadSpan(String),
     /// There is no such scan, for what this word says.
     BadScan(ScanFault, String),
@@ -246,7 +246,7 @@ fn put_refusal<S: Sink>(sink: &mut S, number: u16, line: u32) -> Result<(), Sink
     put_all(sink, b"\n")
 }
 
-// Writes a text and a number behind it.
+// Writes a text and a number after it.
 fn put_numbered<S: Sink>(sink: &mut S, text: &[u8], number: u32) -> Result<(), SinkFault>
     ensures ok { OnOk result (Appends (S.contents sink.old) (S.contents sink.new)
         (text.now ++ decimal number)) }

@@ -34,7 +34,7 @@ behind_last text line at is low feed after =
     let same : drop (suc at) text ≡ line = ap (λ n. drop n text) next ∙ sym is in
     subst (IsLastLine text) same (split.0, inr split.1)
 
--- the bytes behind a place, which may lie behind the end
+-- the bytes after a place, which may lie after the end
 pub last_bytes : (place : ℕ) (text : List ℕ) (n : ℕ) → n ≡ min (length text) place → drop n text ≡ drop place text
 last_bytes place text n is = elim (cases_lt (length text) place) [
   | inl less ↦

@@ -1,4 +1,4 @@
--- Lines, one behind the other.
+-- Lines, one after the other.
 use Rattle.std.proofs.Common.{◌≡◌, ℕ, zero, suc, ◌+◌, ◌-◌, ◌<◌, ◌≤◌, min, List, [], ◌∷◌, ◌++◌, length, take, Option, Some, None, Bor, inl, inr, refl, sym, ap, ◌∙◌, subst, arith}
 use Rattle.std.specs.Prelude.{IfSome, IsNone}
 use Rattle.std.specs.Option.{unwrap_or}
@@ -8,11 +8,11 @@ use Rattle.trace_text.specs.Reading.{IsOneLine}
 use Rattle.trace_text.proofs.Bytes.{split_once, same_rest}
 use Rattle.cli_messages.specs.Places.{IsLineOf, IsSource}
 
--- a text is split behind its first line in one way
+-- a text is split after its first line in one way
 pub one_rest : (first other rest more : List ℕ) → IsOneLine first → IsOneLine other → first ++ 10 ∷ rest ≡ other ++ 10 ∷ more → rest ≡ more
 one_rest first other rest more one two e = same_rest 10 10 rest more (split_once 10 first other (10 ∷ rest) (10 ∷ more) one two refl refl e).1
 
--- a line that is left is left behind one line less
+-- a line that is left is left after one line less
 one_less : (before index : ℕ) → index < before → (left : ℕ) → left ≡ before - index → (rest : ℕ) × (left ≡ suc rest) × (before - (index + 1) ≡ rest)
 one_less before index low zero is = absurd (omega (arith, low, is))
 one_less before index low (suc rest) is = (rest, refl, omega (arith, low, is))
@@ -31,7 +31,7 @@ module _ (before index : ℕ) (low : index < before) (text line rest : List ℕ)
       let there = subst (λ n. IsLineOf n text source) left.1 at in
       subst (λ n. IsLineOf n rest source) (sym left.2) (subst (λ r. IsLineOf left.0 r source) (sym (one_rest line there.0 rest there.1 one there.2 (sym is ∙ there.3))) there.4)
 
--- a text of one line has no line behind it
+-- a text of one line has no line after it
 pub none_behind : (before index : ℕ) → index < before → (text source : List ℕ) → IsOneLine text → IsLineOf (before - index) text source → ⊥
 none_behind before index low text source one at =
     let left = one_less before index low (before - index) refl in

@@ -1,4 +1,4 @@
--- What stands below a fault that names a word or a file (own rules).
+-- What is below a fault that names a word or a file (own rules).
 use Rattle.std.specs.Prelude.{ℕ, List, ◌++◌, codes}
 use Rattle.cli_messages.specs.Places.{quoted, shown_name}
 

@@ -10,16 +10,16 @@ use Rattle.trace_text.specs.Reading.{IsOneLine}
 
 -- LINES
 
--- the line of a text behind so many others, without its line feed
+-- the line of a text after so many others, without its line feed
 abbrev pub IsLineOf : ℕ → List ℕ → List ℕ → Type 0
 IsLineOf zero text line = (rest : List ℕ) × IsOneLine line × (text ≡ line ++ rest) × Ends 10 rest
 IsLineOf (suc before) text line = (first : List ℕ) × (rest : List ℕ) × IsOneLine first × (text ≡ first ++ 10 ∷ rest) × IsLineOf before rest line
 
--- what stands behind the last line feed of a text
+-- what follows the last line feed of a text
 abbrev pub IsLastLine : List ℕ → List ℕ → Type 0
 IsLastLine text line = IsOneLine line × ((text ≡ line) ⊎ ((before : List ℕ) × (text ≡ before ++ 10 ∷ line)))
 
--- the line of a text around a place: what stands before the place, and what from it on
+-- the line of a text around a place: what comes before the place, and what from it on
 pub record IsLineAround (text : List ℕ) (offset : ℕ) (front back : List ℕ) : Type 0 where
   pub front_is : IsLastLine (take offset text) front
   pub back_is : IsLineOf 0 (drop offset text) back
@@ -47,7 +47,7 @@ shown_name name = name_behind 0 name
 abbrev pub quoted : List ℕ → List ℕ
 quoted line = map shown (take 200 line)
 
--- how many bytes of a line are left out before a place, where more than 120 stand there
+-- how many bytes of a line are left out before a place, where more than 120 are there
 abbrev pub left_out : ℕ → ℕ
 left_out front = if nat_le front 120 then 0 else front - 60
 
@@ -55,7 +55,7 @@ left_out front = if nat_le front 120 then 0 else front - 60
 abbrev pub around : List ℕ → List ℕ → List ℕ
 around front back = map shown (drop (left_out (length front)) front) ++ quoted back
 
--- how many bytes are marked: those of the word or number that stands at the place, but 1 at least and 32 at most
+-- how many bytes are marked: those of the word or number that is at the place, but 1 at least and 32 at most
 abbrev pub marked : List ℕ → ℕ
 marked back = max 1 (min 32 (prefix_len is_literal_byte back))
 
@@ -95,7 +95,7 @@ pub record IsShownBelow (name text : List ℕ) (number line : ℕ) (below : List
   pub is_more : IsMore number more
   pub is : below ≡ ((place_text name line ++ (title ++ codes "\n")) ++ (quoted source ++ codes "\n")) ++ more
 
--- `NAME:LINE:COLUMN: ` and what the number means; then the line, with a mark below what stands at the place, what is told of it, and who says more
+-- `NAME:LINE:COLUMN: ` and what the number means; then the line, with a mark below what is at the place, what is reported of it, and who says more
 pub record IsTextShownBelow (name text : List ℕ) (number : ℕ) (place : Place) (reason below : List ℕ) : Type 0 where
   pub front : List ℕ
   pub back : List ℕ

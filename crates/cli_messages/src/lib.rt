@@ -1,4 +1,4 @@
-//! What a program prints, how it is shown on the two streams, and what stands below a fault.
+//! What a program prints, how it is shown on the two streams, and what is below a fault.
 #![tactic(auto)]
 
 pub mod lines;

@@ -10,9 +10,9 @@ use memchr::{memchr, memrchr};
 /// The line of a text around a place.
 #[derive(Clone, Copy)]
 pub struct Line<'t> {
-    /// What stands before the place.
+    /// What comes before the place.
     pub front: &'t [u8],
-    /// What stands from the place on, without the line feed.
+    /// What is from the place on, without the line feed.
     pub back: &'t [u8],
 }
 
@@ -26,7 +26,7 @@ fn first_line(text: &[u8]) -> (&[u8], &[u8])
     text.split_at(end)
 }
 
-// The text behind the first line feed.
+// The text after the first line feed.
 fn behind_line(text: &[u8]) -> Option<&[u8]>
     ensures found { IfSome result (λ rest. (line : List ℕ) × IsOneLine line
         × (text.now ≡ line ++ 10 ∷ rest.now)) }
@@ -37,7 +37,7 @@ fn behind_line(text: &[u8]) -> Option<&[u8]>
     Some(behind)
 }
 
-/// The line behind so many others, without its line feed.
+/// The line after so many others, without its line feed.
 pub fn line_at(text: &[u8], before: u32) -> Option<&[u8]>
     ensures found { IfSome result (λ line. IsLineOf before text.now line.now) }
     ensures none { IsNone result → (line : List ℕ) → IsLineOf before text.now line → ⊥ }
@@ -50,7 +50,7 @@ pub fn line_at(text: &[u8], before: u32) -> Option<&[u8]>
     Some(line)
 }
 
-// What stands behind the last line feed.
+// What follows the last line feed.
 fn last_line(text: &[u8]) -> &[u8]
     ensures { IsLastLine text.now result.now }
 {
@@ -60,7 +60,7 @@ fn last_line(text: &[u8]) -> &[u8]
     }
 }
 
-/// The line around the place behind so many bytes; behind the end of the text, the last one.
+/// The line around the place after so many bytes; after the end of the text, the last one.
 pub fn line_around(text: &[u8], offset: usize) -> Line<'_>
     ensures { IsLineAround text.now offset result.front.now result.back.now }
 {

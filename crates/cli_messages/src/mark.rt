@@ -58,7 +58,7 @@ pub fn marked(back: &[u8]) -> usize
     word_length(back).min(MOST_MARKED).max(1)
 }
 
-// How many bytes of a word or a number stand at the front.
+// How many bytes of a word or a number are at the front.
 fn word_length(bytes: &[u8]) -> usize
     ensures { result ≡ prefix_len is_literal_byte bytes.now }
 {

@@ -1,4 +1,4 @@
-// What stands below a fault that names a word or a file.
+// What is below a fault that names a word or a file.
 
 ghost use Rattle.std.specs.Prelude.{◌≡◌, IfOk};
 ghost use Rattle.cli_messages.specs.Notices.{word_notice, file_notice, plain_notice};

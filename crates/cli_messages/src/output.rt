@@ -19,7 +19,7 @@ pub enum Output {
     Ran(Ran),
 }
 
-/// A text, and what is told beside it.
+/// A text, and what is reported beside it.
 #[derive(Drop)]
 pub struct Warned {
     pub text: String,

@@ -16,7 +16,7 @@ use std::alloc::{AllocError, Global};
 const MOST_BYTES: usize = 200;
 
 /// What is shown below the refusal of a text with a number at a place: the name of the file, the line and the column, both counted from 1, and what
-/// the number means; then the text of the line, with a mark below what stands there, and the lines that are told of it.
+/// the number means; then the text of the line, with a mark below what is there, and the lines that are reported of it.
 pub fn text_below(
     alloc: Global,
     name: &str,

@@ -21,7 +21,7 @@ pub no_colon : (word : List ℕ) → position_or_len is_colon word ≡ length wo
 no_colon word none span is = never_more (heads (sym is.parts ∙ one_part word none)).1
 
 module _ (word first last : List ℕ) (cut : parts_of word ≡ first ∷ parts_of last) where
-  -- what stands before its first colon and behind it are the ends
+  -- what comes before its first colon and after it are the ends
   first_is : (span : Span) → (is : IsSpan word span) → is.first ≡ first
   first_is span is = (heads (sym is.parts ∙ cut)).0
 

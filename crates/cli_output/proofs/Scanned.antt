@@ -29,7 +29,7 @@ module _ (traced : Traced) (p : Program) (asked : Asked) (source text : List ℕ
   scanned_is read (Err (fault.CannotRead cause)) is = absurd is
   scanned_is read (Err fault.CannotWrite) is = absurd is
 
-  -- a text that is no whole trace, behind words that ask for a scan
+  -- a text that is no whole trace, after words that ask for a scan
   pub unscanned_is : (why : Fault) → IsTraceUnread p source text why → IsScanned traced p source text (Err why)
   unscanned_is (fault.Refused number line) is = (asked, of, inl is)
   unscanned_is fault.NoMemory is = tt

@@ -1,4 +1,4 @@
--- A line behind a stretch lengthens it, or begins the next.
+-- A line after a stretch lengthens it, or begins the next.
 use Rattle.std.proofs.Common.{◌≡◌, ℕ, ◌+◌, ◌==◌, if◌then◌else◌, true, false, List, ◌∷◌, ◌++◌, flat_map, sym, ap, ◌∙◌, append_assoc}
 use Rattle.cli_output.specs.Paths.{alone, stretches_from, stretch_text}
 use Rattle.cli_output.specs.declared.path.Stretch.{Stretch}

@@ -30,7 +30,7 @@ limit_words name used most = codes "limit " ++ (name ++ (codes " used " ++ (deci
 unfoldable pub limit_line : List ℕ → ℕ → ℕ → List ℕ
 limit_line name used most = limit_words name used most ++ codes "\n"
 
--- the line of a limit of a unit or a task, behind which its name stands
+-- the line of a limit of a unit or a task, after which its name is
 unfoldable pub limit_line_in : List ℕ → ℕ → ℕ → List ℕ → List ℕ
 limit_line_in name used most holder = limit_words name used most ++ (codes " in " ++ (holder ++ codes "\n"))
 
@@ -96,7 +96,7 @@ greatest_below (suc n) f = max (greatest_below n f) (f n)
 abbrev pub chain_through : List (List Bool) → List ℕ → ℕ → ℕ → ℕ
 chain_through used lengths from to = if holds used from to then number_at lengths to else 0
 
--- a unit, and behind it the longest chain that goes on at one that it uses; a chain has 16 units at most
+-- a unit, and after it the longest chain that goes on at one that it uses; a chain has 16 units at most
 abbrev pub chain_from : List (List Bool) → List ℕ → ℕ → ℕ → ℕ
 chain_from used lengths count from = min (greatest_below count (λ to. chain_through used lengths from to) + 1) 16
 

@@ -77,7 +77,7 @@ IsPrinted text (Ok output) = bytes_of output ≡ text
 IsPrinted text (Err fault.NoMemory) = Unit {0}
 IsPrinted text (Err _) = ⊥
 
--- what `check` shows of a program whose text has so many bytes, in a form: its listing, with ranges of lines where they are asked for, and behind it
+-- what `check` shows of a program whose text has so many bytes, in a form: its listing, with ranges of lines where they are asked for, and after it
 -- limits, where those are
 abbrev pub check_shown : Form → Bool → Bool → Program → ℕ → List ℕ
 check_shown form ranged false program bytes = listing form ranged program
@@ -126,14 +126,14 @@ IsShowOutcome showing.Xref asked source program = IsPrinted (xref_in (form_of as
 
 -- WHAT DRIVES ROUNDS
 
--- the word behind `--fire`, and that behind `--calls`, if one stands there
+-- the word after `--fire`, and that after `--calls`, if one is there
 abbrev pub fire_word : Rounds → Option (List ℕ)
 fire_word asked = option_map (λ word. word.now) asked.fire
 
 abbrev pub calls_word : Rounds → Option (List ℕ)
 calls_word asked = option_map (λ word. word.now) asked.calls
 
--- the round from which on FIRE holds, as the word behind `--fire` spells it
+-- the round from which on FIRE holds, as the word after `--fire` spells it
 abbrev pub IsFire : ℕ → Option (List ℕ) → Option ℕ → Type 0
 IsFire rounds None None = Unit {0}
 IsFire rounds None (Some first) = ⊥
@@ -145,7 +145,7 @@ abbrev pub fire_settings : Option ℕ → List Setting
 fire_settings None = []
 fire_settings (Some first) = record { round = first; set = Fire true } ∷ []
 
--- the words behind ROUNDS spell these presses, and the word behind `--fire` this round
+-- the words after ROUNDS spell these presses, and the word after `--fire` this round
 pub record AreSpelled (floors : ℕ) (asked : Rounds) (presses : List Press) (first : Option ℕ) : Type 0 where
   pub spelled : ArePresses asked.rounds floors (words_of asked.presses) presses
   pub from_round : IsFire asked.rounds (fire_word asked) first
@@ -155,12 +155,12 @@ abbrev pub AreOfReading : Sizes → ℕ → Reading → List Press → List Sett
 AreOfReading sizes rounds (Text text) presses settings = AreCallsOf rounds sizes.floors sizes.cars text.items presses settings
 AreOfReading sizes rounds (Failed why) presses settings = ⊥
 
--- the file behind `--calls` has these presses and settings; without it there are none
+-- the file after `--calls` has these presses and settings; without it there are none
 abbrev pub AreOfFile : Sizes → ℕ → Option (List ℕ) → Reading → List Press → List Setting → Type 0
 AreOfFile sizes rounds None calls presses settings = (presses ≡ []) × (settings ≡ [])
 AreOfFile sizes rounds (Some name) calls presses settings = AreOfReading sizes rounds calls presses settings
 
--- The presses are those of the words and behind them those of the file; the settings are that of `--fire` and behind it those of the file.
+-- The presses are those of the words and after them those of the file; the settings are that of `--fire` and after it those of the file.
 pub record AreDriven (sizes : Sizes) (asked : Rounds) (calls : Reading) (presses : List Press) (settings : List Setting) : Type 0 where
   pub words : List Press
   pub first : Option ℕ
@@ -171,7 +171,7 @@ pub record AreDriven (sizes : Sizes) (asked : Rounds) (calls : Reading) (presses
   pub presses_are : presses ≡ words ++ later
   pub settings_are : settings ≡ fire_settings first ++ set
 
--- the word behind `--fire` is named, and is no round; memory may be missing
+-- the word after `--fire` is named, and is no round; memory may be missing
 abbrev pub IsNoFire : ℕ → Option (List ℕ) → Fault → Type 0
 IsNoFire rounds word (fault.BadFire named) = (word ≡ Some (string_bytes named)) × ((first : Option ℕ) → IsFire rounds word first → ⊥)
 IsNoFire rounds word fault.NoMemory = Unit {0}
@@ -185,7 +185,7 @@ IsBadReading sizes rounds (Failed why) (fault.CannotRead cause) = fault_of_readi
 IsBadReading sizes rounds calls fault.NoMemory = Unit {0}
 IsBadReading sizes rounds calls _ = ⊥
 
--- so is the file behind `--calls`
+-- so is the file after `--calls`
 abbrev pub HasBadCalls : Sizes → ℕ → Option (List ℕ) → Reading → Fault → Type 0
 HasBadCalls sizes rounds None calls why = why ≡ fault.NoMemory
 HasBadCalls sizes rounds (Some name) calls why = IsBadReading sizes rounds calls why
@@ -216,7 +216,7 @@ pub record IsTraceOf (program : Program) (asked : Rounds) (calls : Reading) (tex
   pub simulated : IsSimulated program.config presses settings asked.rounds entries
   pub trace : text ≡ text_of_entries entries
 
--- `sim` prints its trace, where its further words are presses, the word behind `--fire` is a round, and the file behind `--calls` is good.
+-- `sim` prints its trace, where its further words are presses, the word after `--fire` is a round, and the file after `--calls` is good.
 abbrev pub IsSimOutcome : Program → Rounds → Reading → Outcome → Type 0
 IsSimOutcome program asked calls (Ok output) = IsTraceOf program asked calls (bytes_of output)
 IsSimOutcome program asked calls (Err why) = IsUndriven (sizes_of program.config) asked calls why
@@ -227,7 +227,7 @@ IsSimOutcome program asked calls (Err why) = IsUndriven (sizes_of program.config
 abbrev pub left_line : Left → List ℕ
 left_line left = codes "left in hand " ++ (decimal (length left.hand) ++ (codes ", on desk " ++ (decimal (length left.desk) ++ codes "\n")))
 
--- what is told of the calls that are left, where that is asked for
+-- what is reported of the calls that are left, where that is asked for
 abbrev pub told_left : Bool → Left → Option (List ℕ)
 told_left true left = Some (left_line left)
 told_left false left = None
@@ -235,7 +235,7 @@ told_left false left = None
 -- The trace is that of a journal of the program, a run from its opening in whatever order the threads came: each task was started and
 -- committed in each of so many rounds, and the image was refreshed by the plant in each, under the settings of the words and of the file and safe
 -- for those in the cars. Their calls are kept: none is lost and none is doubled, and what the trace doesn't enter is left in the collector's hand
--- or on the desk. How many are left there is told, where that is asked for.
+-- or on the desk. How many are left there is reported, where that is asked for.
 pub record IsTraceOfRun (program : Program) (asked : Rounds) (calls : Reading) (text : List ℕ) (told : Option (List ℕ)) : Type 0 where
   pub presses : List Press
   pub settings : List Setting
@@ -269,7 +269,7 @@ IsDenialsOutcome program asked calls (Err why) = IsUndriven (sizes_of program.co
 
 -- WATCH
 
--- The words behind ROUNDS stand for names, which have values as the program opens, and behind them are presses. The lines are that of the names, and
+-- The words after ROUNDS mean names, which have values as the program opens, and after them are presses. The lines are that of the names, and
 -- those of a simulation; with `--changes` without the rows that repeat the values of the row before them.
 pub record IsWatchOf (program : Program) (asked : Rounds) (calls : Reading) (text : List ℕ) : Type 0 where
   pub names : List (List ℕ)
@@ -285,7 +285,7 @@ pub record IsWatchOf (program : Program) (asked : Rounds) (calls : Reading) (tex
   pub shown : IsShown (watching watched) program.config presses settings asked.rounds entries rows
   pub lines : text ≡ shown_text asked.flag (header_text (meant program.config names) ++ rows)
 
--- The words are names and then presses, they and the file are good, and one of the names that they stand for has no value as the program opens; what is said of it.
+-- The words are names and then presses, they and the file are good, and one of the names that they mean has no value as the program opens; what is said of it.
 pub record HasUnknown (program : Program) (asked : Rounds) (calls : Reading) (word says : List ℕ) : Type 0 where
   pub names : List (List ℕ)
   pub behind : Words
@@ -321,7 +321,7 @@ pub record IsTextOfCalls (c : Config) (form : Form) (summary : Bool) (from : Wor
   pub known : IsLogOf c from events after log
   pub is : IsCallsText form summary log text
 
--- the text of the values of names behind each round of a trace's events, from a world on, with `--changes` without the rows that repeat
+-- the text of the values of names after each round of a trace's events, from a world on, with `--changes` without the rows that repeat
 pub record IsTextOfValues (c : Config) (names : List (List ℕ)) (changes : Bool) (from : World) (events : List TraceEvent) (after : World) (text : List ℕ) : Type 0 where
   pub watched : List Watched
   pub known : AreWatched from names watched
@@ -329,8 +329,8 @@ pub record IsTextOfValues (c : Config) (names : List (List ℕ)) (changes : Bool
   pub are : AreRowsAlong watched c from events after rows
   pub lines : text ≡ shown_text changes (header_text names ++ rows)
 
--- what is told of a trace's events, which lead from a world to the one behind them: the image, some picture, the calls or a summary of them, what the
--- interlock denied, or values behind each round
+-- what is reported of a trace's events, which lead from a world to the one after them: the image, some picture, the calls or a summary of them, what the
+-- interlock denied, or values after each round
 abbrev pub Says : Telling → Program → World → List TraceEvent → World → List ℕ → Type 0
 Says Image program from events after text = text ≡ image_text program.config after
 Says (Picture span) program from events after text = Unit {0}
@@ -338,17 +338,17 @@ Says (Calls form summary) program from events after text = IsTextOfCalls program
 Says (Denials form all) program from events after text = IsDeniedIn form all program.config from events after text
 Says (Values names changes) program from events after text = IsTextOfValues program.config (meant program.config (words_of names)) changes from events after text
 
--- the word behind `--rounds` says no rounds
+-- the word after `--rounds` says no rounds
 abbrev pub IsBadSpan : Telling → Fault → Type 0
 IsBadSpan (Picture span) why = IsNoSpan (option_map (λ word. word.now) span) why
 IsBadSpan _ why = ⊥
 
--- one of the names that words stand for has no value in the world from which a trace begins; what is said of it
+-- one of the names that words mean has no value in the world from which a trace begins; what is said of it
 abbrev pub IsBadName : Telling → Program → World → List ℕ → List ℕ → Type 0
 IsBadName (Values names changes) program from word says = IsUnknown program.config from (meant program.config (words_of names)) word says
 IsBadName _ program from word says = ⊥
 
--- it is told so of a trace's events, from the world from which it begins
+-- it is reported so of a trace's events, from the world from which it begins
 pub record IsSaidAfter (telling : Telling) (program : Program) (source trace text : List ℕ) : Type 0 where
   pub read : IsRead program source trace
   pub after : World
@@ -359,7 +359,7 @@ pub record IsSaidAfter (telling : Telling) (program : Program) (source trace tex
 abbrev pub HaveValues : World → List (List ℕ) → Type 0
 HaveValues from names = (watched : List Watched) × AreWatched from names watched
 
--- the words beside TRACE are good: the word behind `--rounds` says rounds, the names to watch have values in the world from which the trace begins
+-- the words beside TRACE are good: the word after `--rounds` says rounds, the names to watch have values in the world from which the trace begins
 abbrev pub HasGoodWords : Telling → Program → World → Type 0
 HasGoodWords Image program from = Unit {0}
 HasGoodWords (Picture span) program from = (rounds : Span) × IsSpanWord (option_map (λ word. word.now) span) rounds
@@ -377,11 +377,11 @@ pub record IsEventRefused (telling : Telling) (program : Program) (source trace 
   pub numbered : number ≡ event_fault_number why
   pub lined : line ≡ read.lines + 1 + index
 
--- a trace is refused: for a line of it, before the words beside it are judged, or behind them for an event
+-- a trace is refused: for a line of it, before the words beside it are judged, or after them for an event
 abbrev pub IsTraceRefused : Telling → Program → List ℕ → List ℕ → ℕ → ℕ → Type 0
 IsTraceRefused telling program source trace number line = IsLineRefused program source trace number line ⊎ IsEventRefused telling program source trace number line
 
--- A command over a trace tells what is along its events and behind them, or what is wrong with it, with the rounds to draw or the names to watch.
+-- A command over a trace reports what is along its events and after them, or what is wrong with it, with the rounds to draw or the names to watch.
 -- `source` is the text of the program. Memory may be missing.
 abbrev pub IsFollowed : Telling → Program → List ℕ → List ℕ → Outcome → Type 0
 IsFollowed telling program source trace (Ok output) = IsSaidAfter telling program source trace (bytes_of output)
@@ -428,12 +428,12 @@ IsRoundsOutcome simulating.Run program asked calls outcome = IsRunOutcome progra
 IsRoundsOutcome simulating.Denials program asked calls outcome = IsDenialsOutcome program asked calls outcome
 IsRoundsOutcome simulating.Watch program asked calls outcome = IsWatchOutcome program asked calls outcome
 
--- what a command over a trace tells of the whole of it, or the scan that it shows of it
+-- what a command over a trace reports of the whole of it, or the scan that it shows of it
 abbrev pub IsToldOutcome : Option Telling → Traced → Program → List ℕ → Reading → Outcome → Type 0
 IsToldOutcome None traced program source trace outcome = IsScanOutcome traced program source trace outcome
 IsToldOutcome (Some telling) traced program source trace outcome = IsTraceOutcome telling program source trace outcome
 
--- A verified program of a text gives what its command prints, with what was read of its other file: the trace, or the file behind `--calls`. With `--json` each
+-- A verified program of a text gives what its command prints, with what was read of its other file: the trace, or the file after `--calls`. With `--json` each
 -- row is an object.
 abbrev pub IsProgramOutcome : Request → Program → List ℕ → Reading → Outcome → Type 0
 IsProgramOutcome (request.Check checked) program source other outcome = IsCheckOutcome checked program (length source) outcome

@@ -49,7 +49,7 @@ IsTraceUnread program source trace (fault.Refused number line) = IsLineRefused p
 IsTraceUnread program source trace fault.NoMemory = Unit {0}
 IsTraceUnread program source trace _ = ⊥
 
--- events are followed from a world on; so many lines stand before the first
+-- events are followed from a world on; so many lines come before the first
 abbrev pub AreFollowed : Telling → Program → World → List TraceEvent → ℕ → Outcome → Type 0
 AreFollowed telling program from events lines (Ok output) = (after : World) × TakesAll program.config from events after × Says telling program from events after (bytes_of output)
 AreFollowed telling program from events lines (Err (fault.Refused number line)) = HasGoodWords telling program from × (index : ℕ) × (why : EventFault) × IsRefusedAt program.config from events index why × (number ≡ event_fault_number why) × (line ≡ lines + 1 + index)
@@ -58,7 +58,7 @@ AreFollowed telling program from events lines (Err (fault.BadName word says)) = 
 AreFollowed telling program from events lines (Err fault.NoMemory) = Unit {0}
 AreFollowed telling program from events lines (Err _) = ⊥
 
--- a scan of events is shown, from a world on; so many lines stand before the first
+-- a scan of events is shown, from a world on; so many lines come before the first
 abbrev pub AreScanned : Traced → Program → Asked → List ℕ → World → List TraceEvent → ℕ → Outcome → Type 0
 AreScanned traced program asked source from events lines (Ok output) = IsScanShown program.config from asked events source (bytes_of output)
 AreScanned traced program asked source from events lines (Err (fault.Refused number line)) = (index : ℕ) × (why : EventFault) × IsRefusedInFront program.config from asked events index why × (number ≡ event_fault_number why) × (line ≡ lines + 1 + index)
@@ -66,7 +66,7 @@ AreScanned traced program asked source from events lines (Err (fault.BadScan why
 AreScanned traced program asked source from events lines (Err fault.NoMemory) = Unit {0}
 AreScanned traced program asked source from events lines (Err _) = ⊥
 
--- the values of names along events are told from a world on, or one of the names has no value; so many lines stand before the first event
+-- the values of names along events are reported from a world on, or one of the names has no value; so many lines come before the first event
 abbrev pub AreValued : List (List ℕ) → Bool → Program → World → List TraceEvent → ℕ → Outcome → Type 0
 AreValued names changes program from events lines (Ok output) = (after : World) × TakesAll program.config from events after × IsTextOfValues program.config names changes from events after (bytes_of output)
 AreValued names changes program from events lines (Err (fault.Refused number line)) = HaveValues from names × (index : ℕ) × (why : EventFault) × IsRefusedAt program.config from events index why × (number ≡ event_fault_number why) × (line ≡ lines + 1 + index)

@@ -2,7 +2,7 @@
 use Rattle.std.specs.Prelude.{ℕ, ◌+◌, ◌==◌, if◌then◌else◌, List, [], ◌∷◌, ◌++◌, flat_map, nat_lt, codes, decimal}
 use Rattle.cli_output.specs.declared.path.Stretch.{Stretch}
 
--- The lines of a path, each behind a space.
+-- The lines of a path, each after a space.
 abbrev pub path_text : List ℕ → List ℕ
 path_text lines = flat_map (λ line. codes " " ++ decimal line) lines
 
@@ -10,7 +10,7 @@ path_text lines = flat_map (λ line. codes " " ++ decimal line) lines
 abbrev pub alone : ℕ → Stretch
 alone line = record { first = line; last = line }
 
--- An open stretch, and the stretches behind it: a line that is one more than its last lengthens it, any other one begins the next.
+-- An open stretch, and the stretches after it: a line that is one more than its last lengthens it, any other one begins the next.
 unfoldable pub stretches_from : Stretch → List ℕ → List Stretch
 stretches_from begun [] = begun ∷ []
 stretches_from begun (line ∷ lines) =

@@ -30,7 +30,7 @@ first_word (word ∷ words) = word
 abbrev pub task_word : Traced → List ℕ
 task_word traced = first_word (words_of traced.names)
 
--- A word in two at the first of a byte: what stands before it and what stands after it. Where there is none, the word alone.
+-- A word in two at the first of a byte: what comes before it and what is after it. Where there is none, the word alone.
 pub data IsCut (byte : ℕ) (word front : List ℕ) (rest : Option (List ℕ)) : Type 0 where
   whole : position_or_len (λ b. b == byte) word ≡ length word → front ≡ word → rest ≡ None → IsCut byte word front rest
   cut : position_or_len (λ b. b == byte) word < length word → front ≡ before_first (λ b. b == byte) word → rest ≡ Some (after_first (λ b. b == byte) word) → IsCut byte word front rest
@@ -43,7 +43,7 @@ pub record IsTask (program : Program) (name : List ℕ) (task : ℕ) : Type 0 wh
   pub named : name ≡ task_name task
   pub has : has_task program.config task ≡ true
 
--- a name of a task, and what stands after its period: the name of a unit, which has these lines
+-- a name of a task, and what is after its period: the name of a unit, which has these lines
 abbrev pub IsPartBy : Program → List ℕ → Option (List ℕ) → ℕ → Option Lines → Type 0
 IsPartBy program front None task unit = IsTask program front task × (unit ≡ None)
 IsPartBy program front (Some name) task unit = IsTask program front task × ((lines : Lines) × (option_map lines_of (unit_named program.config name) ≡ Some lines) × (unit ≡ Some lines))
@@ -106,7 +106,7 @@ abbrev pub IsLast : List ℕ → Option ℕ → Type 0
 IsLast [] until = until ≡ None
 IsLast (digit ∷ digits) until = (line : ℕ) × IsNumber (digit ∷ digits) line × (until ≡ Some line)
 
--- what stands there is no line
+-- what is there is no line
 abbrev pub IsNoLast : List ℕ → Type 0
 IsNoLast [] = ⊥
 IsNoLast (digit ∷ digits) = IsNoNumber (digit ∷ digits)
@@ -145,7 +145,7 @@ IsLinesFault word why named = (why ≡ Line) × (word ≡ Some named) × AreNoLi
 
 -- WHAT THE WORDS ASK FOR
 
--- the words behind `--round` and `--until`
+-- the words after `--round` and `--until`
 abbrev pub round_word : Traced → Option (List ℕ)
 round_word traced = option_map (λ word. word.now) traced.round
 
@@ -162,11 +162,11 @@ pub record IsAsked (traced : Traced) (program : Program) (asked : Asked) : Type 
 abbrev pub HasPart : Traced → Program → Type 0
 HasPart traced program = (task : ℕ) × ((unit : Option Lines) × IsPart program (task_word traced) task unit)
 
--- the word behind `--round` is a number, where one is there
+-- the word after `--round` is a number, where one is there
 abbrev pub HasRound : Traced → Type 0
 HasRound traced = (round : Option ℕ) × IsRoundWord (round_word traced) round
 
--- The words ask for no scan, for what this one says: TASK is none, or else the word behind `--round` is no number, or else that behind `--until` is no lines.
+-- The words ask for no scan, for what this one says: TASK is none, or else the word after `--round` is no number, or else that after `--until` is no lines.
 abbrev pub IsUnaskedBy : Traced → Program → ScanFault → List ℕ → Type 0
 IsUnaskedBy traced program why named =
     IsPartFault program (task_word traced) why named
@@ -183,7 +183,7 @@ IsUnasked traced program why = IsBadScan (IsUnaskedBy traced program) why
 
 -- A SCAN
 
--- of a scan that the trace does not commit, this word is named: that behind `--round`, where one is there, and TASK otherwise
+-- of a scan that the trace does not commit, this word is named: that after `--round`, where one is there, and TASK otherwise
 abbrev pub IsUncommittedBy : Traced → ScanFault → List ℕ → Type 0
 IsUncommittedBy traced Task named = ⊥
 IsUncommittedBy traced NoUnit named = ⊥
@@ -200,7 +200,7 @@ pub record HasNoScan (traced : Traced) (program : Program) (source trace : List 
   pub none : chosen asked read.events ≡ None
   pub word : IsUncommittedBy traced why named
 
--- an event of the trace is refused, with this number, at its line; it is the start of the scan that is asked for, or stands in front of it
+-- an event of the trace is refused, with this number, at its line; it is the start of the scan that is asked for, or is in front of it
 pub record IsEarlyRefused (program : Program) (asked : Asked) (source trace : List ℕ) (number line : ℕ) : Type 0 where
   pub read : IsRead program source trace
   pub index : ℕ

@@ -25,7 +25,7 @@ pub record IsSpan (word : List ℕ) (span : Span) : Type 0 where
   pub to : IsEnd greatest_round last span.last
   pub ordered : span.first ≤ span.last
 
--- the rounds of the word behind `--rounds`; without a word all are
+-- the rounds of the word after `--rounds`; without a word all are
 abbrev pub IsSpanWord : Option (List ℕ) → Span → Type 0
 IsSpanWord None span = (span.first ≡ 1) × (span.last ≡ greatest_round)
 IsSpanWord (Some word) span = IsSpan word span

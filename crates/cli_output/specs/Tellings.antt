@@ -1,4 +1,4 @@
--- What a command tells of a trace (own rules).
+-- What a command reports of a trace (own rules).
 use Rattle.std.specs.Prelude.{Option, Some, None}
 use Rattle.base_json.specs.Forms.{form_of}
 use Rattle.cli_host.specs.declared.request.Following.{Following}
@@ -7,7 +7,7 @@ use Rattle.cli_host.specs.declared.request.Traced.{Traced}
 use Rattle.cli_output.specs.declared.telling.Telling.{Telling}
 use Rattle.cli_output.specs.declared.telling.Telling.TheVariants.{Image, Picture, Calls, Denials, Values}
 
--- what a command tells of a whole trace, by what it takes; `scan` shows a part of one
+-- what a command reports of a whole trace, by what it takes; `scan` shows a part of one
 abbrev pub telling_of : Following → Traced → Option Telling
 telling_of following.Replay traced = Some Image
 telling_of following.Draw traced = Some (Picture traced.span)

@@ -6,8 +6,8 @@ use Rattle.group_spec.specs.declared.trace.TraceEvent.{TraceEvent}
 use Rattle.group_spec.specs.World.{World}
 use Rattle.group_state.specs.Beginnings.{BeginsTrace, IsUnbegun}
 
--- A whole trace of a program, whose text is `source`: its events, the world from which they lead, and how many lines stand before the first. In formats 1
--- and 2 this world is the opening, and one line stands there; in format 3 it is that of the trace's state.
+-- A whole trace of a program, whose text is `source`: its events, the world from which they lead, and how many lines come before the first. In formats 1
+-- and 2 this world is the opening, and one line is there; in format 3 it is that of the trace's state.
 pub record IsRead (program : Program) (source trace : List ℕ) : Type 0 where
   pub from : World
   pub events : List TraceEvent

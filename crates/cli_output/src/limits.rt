@@ -298,7 +298,7 @@ fn greatest_depth(steps: &[Step]) -> usize
     greatest.max(depth)
 }
 
-// How many parentheses are open behind an instruction.
+// How many parentheses are open after an instruction.
 fn depth_after(depth: usize, instruction: &Instruction) -> usize
     requires { depth < 18446744073709551615 }
     ensures is { result ≡ depth_after depth instruction.now }
@@ -420,7 +420,7 @@ fn chains(alloc: Global, used: &Relation, count: usize) -> Result<Items<usize>, 
     Ok(lengths)
 }
 
-// The same, of one unit more.
+// The longest chains of one unit more, from each unit on.
 fn longer(
     alloc: Global,
     used: &Relation,
@@ -437,7 +437,7 @@ fn longer(
     Ok(longer)
 }
 
-// A unit, and behind it the longest chain that goes on at one that it uses.
+// A unit, and after it the longest chain that goes on at one that it uses.
 fn chain_from(used: &Relation, lengths: &Items<usize>, count: usize, from: usize) -> usize
     ensures { result ≡ chain_from used.now lengths.now count from }
 {

@@ -66,7 +66,7 @@ use threads_workers::gate::{Open, Together};
 use threads_workers::run::{Plan, Ran, run};
 use trace_text::trace::Trace;
 
-/// What a request that isn't `run` prints over the verified configuration of a text, `source`, with what was read of its trace or its file behind
+/// What a request that isn't `run` prints over the verified configuration of a text, `source`, with what was read of its trace or its file after
 /// `--calls`, or why it prints nothing. A trace of another text is refused, 85, where it has a state (own rule). With `--json` each row is an object.
 pub fn outcome(
     alloc: Global,
@@ -90,7 +90,7 @@ pub fn outcome(
     }
 }
 
-// What a command over a trace tells of the whole of it, or the scan that it shows of it.
+// What a command over a trace reports of the whole of it, or the scan that it shows of it.
 fn told_outcome(
     alloc: Global,
     verified: Verified,
@@ -166,7 +166,7 @@ fn listed(
     Ok(Output::Warned(Warned { text, warnings }))
 }
 
-// The tasks and units of a verified configuration, and behind them limits, where they are asked for.
+// The tasks and units of a verified configuration, and after them limits, where they are asked for.
 fn check_shown(
     alloc: Global,
     verified: &Verified,
@@ -249,7 +249,7 @@ fn fault_of_calls(fault: CallsFault) -> Fault
     }
 }
 
-// The presses and settings of the file behind `--calls`; without it there are none.
+// The presses and settings of the file after `--calls`; without it there are none.
 fn file_of(
     alloc: Global,
     asked: Rounds<'_>,
@@ -294,7 +294,7 @@ fn read_file(alloc: Global, text: &[u8], rounds: u16, sizes: Sizes) -> Result<Ca
     }
 }
 
-// Puts more behind items.
+// Puts more after items.
 fn append<T: Copy>(items: &mut Items<T>, more: &[T]) -> Result<(), AllocError>
     ensures { OnOk result (items.new ≡ items.old ++ more.now) }
 {
@@ -304,7 +304,7 @@ fn append<T: Copy>(items: &mut Items<T>, more: &[T]) -> Result<(), AllocError>
     Ok(())
 }
 
-// The setting of FIRE from a round on, and behind it others.
+// The setting of FIRE from a round on, and after it others.
 fn settings_of(
     alloc: Global,
     first: Option<u16>,
@@ -429,7 +429,7 @@ fn watched(
     }
 }
 
-// The values of the names that words stand for, behind each of so many rounds of a world that opens; with `--changes` only those that change.
+// The values of the names that words mean, after each of so many rounds of a world that opens; with `--changes` only those that change.
 fn watched_names(
     alloc: Global,
     world: &mut World,
@@ -450,7 +450,7 @@ fn watched_names(
     watched_world(alloc, world, &names, drive, rounds, changes)
 }
 
-// The values of names behind each of so many rounds of a world that opens.
+// The values of names after each of so many rounds of a world that opens.
 fn watched_world(
     alloc: Global,
     world: &mut World,
@@ -535,7 +535,7 @@ fn ran_output(alloc: Global, ran: Ran, left: bool) -> Result<Output, Fault>
     }))
 }
 
-/// What `run` prints over a verified configuration, with what was read of its file behind `--calls`, or why it prints nothing. It starts
+/// What `run` prints over a verified configuration, with what was read of its file after `--calls`, or why it prints nothing. It starts
 /// threads and waits for them.
 pub fn ran<R: Threads + Wait + Sync>(
     rt: &R,
@@ -567,7 +567,7 @@ pub fn ran<R: Threads + Wait + Sync>(
     }
 }
 
-// A whole trace: the world from which its events lead, and how many lines stand before the first of them.
+// A whole trace: the world from which its events lead, and how many lines come before the first of them.
 pub(crate) struct Whole<'t> {
     pub world: World,
     pub events: Trace<'t>,
@@ -607,7 +607,7 @@ pub(crate) fn whole_of<'t>(
     }
 }
 
-// What is told of events, from a world on. So many lines stand before the first of them.
+// What is reported of events, from a world on. So many lines come before the first of them.
 fn told_of(
     alloc: Global,
     world: &mut World,
@@ -631,7 +631,7 @@ fn told_of(
     }
 }
 
-// The image behind events.
+// The image after events.
 fn image_after(
     alloc: Global,
     world: &mut World,
@@ -691,7 +691,7 @@ fn denials_along(
     }
 }
 
-// The values of the names that words stand for, behind each round of events.
+// The values of the names that words mean, after each round of events.
 fn values_along(
     alloc: Global,
     world: &mut World,
@@ -709,7 +709,7 @@ fn values_along(
     values_of(alloc, world, events, lines, &names, changes)
 }
 
-// The values of names behind each round of events.
+// The values of names after each round of events.
 fn values_of(
     alloc: Global,
     world: &mut World,
@@ -768,7 +768,7 @@ fn calls_text(alloc: Global, form: Form, log: &Log, summary: bool) -> Result<Str
     }
 }
 
-// The fault of an event that was refused, where so many lines stand before the first event.
+// The fault of an event that was refused, where so many lines come before the first event.
 pub(crate) fn fault_of_event(refused: Refused, lines: u32) -> Fault
     requires few { lines + refused.index ≤ greatest_trace }
     ensures { result
@@ -795,7 +795,7 @@ fn followed_text(
     followed_events(alloc, whole, telling)
 }
 
-// What is told of a whole trace.
+// What is reported of a whole trace.
 fn followed_events(alloc: Global, whole: Whole<'_>, telling: Telling<'_>) -> Result<Output, Fault>
     requires few { whole.lines + length whole.events ≤ greatest_trace }
     ensures is { AreFollowed telling.entry whole.entry.world.program whole.entry.world.world

@@ -35,7 +35,7 @@ impl Stretch {
     }
 }
 
-/// The lines of a path, each behind a space.
+/// The lines of a path, each after a space.
 pub fn put_path(text: &mut String, path: &[u32]) -> Result<(), AllocError>
     ensures { OnOk result (Puts text.old text.new (path_text path.now)) }
 {
@@ -57,7 +57,7 @@ pub fn put_ranged(text: &mut String, path: &[u32]) -> Result<(), AllocError>
     }
 }
 
-// A stretch that is begun, and those behind it.
+// A stretch that is begun, and those after it.
 #[tactic(auto, unfolding(crate::specs::Paths::stretches_from))]
 fn put_stretches(text: &mut String, first: Stretch, lines: &[u32]) -> Result<(), AllocError>
     ensures { OnOk result (Puts text.old text.new
@@ -70,7 +70,7 @@ fn put_stretches(text: &mut String, first: Stretch, lines: &[u32]) -> Result<(),
     put_stretch(text, begun)
 }
 
-// A line behind a stretch, which is written where it ends. The stretch that the line belongs to.
+// A line after a stretch, which is written where it ends. The stretch that the line belongs to.
 #[tactic(auto, using(crate::proofs::Stretches::lengthens, crate::proofs::Stretches::ended))]
 fn put_line(text: &mut String, begun: Stretch, line: u32) -> Result<Stretch, AllocError>
     ensures { IfOk result (λ next. (lines : List ℕ)

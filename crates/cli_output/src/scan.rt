@@ -75,14 +75,14 @@ struct Part {
     unit: Option<Lines>,
 }
 
-// The line before which nothing is shown, and that behind which nothing more is.
+// The line before which nothing is shown, and that after which nothing more is.
 #[derive(Clone, Copy)]
 struct Spread {
     from: Option<u32>,
     until: Option<u32>,
 }
 
-// What a word says before the first of a byte of ASCII, and behind it; without one, the word alone.
+// What a word says before the first of a byte of ASCII, and after it; without one, the word alone.
 fn cut_at(byte: char, word: &str) -> (&str, Option<&str>)
     requires { byte < 128 }
     ensures { IsCut byte word.now result.0.now (option_map (λ w. w.now) result.1) }
@@ -106,7 +106,7 @@ fn task_in(verified: &Verified, name: &str) -> Option<u8>
     }
 }
 
-// What a word names, in any letter case: a task, and behind a period maybe a unit.
+// What a word names, in any letter case: a task, and after a period maybe a unit.
 fn part_named(alloc: Global, verified: &Verified, word: &str) -> Result<Part, Fault>
     ensures ok { IfOk result (λ part. IsPart verified.now word.now part.task part.unit) }
     ensures err { IfErr result (IsBadScan (IsPartFault verified.now word.now)) }
@@ -262,7 +262,7 @@ fn scanned_events(
     }
 }
 
-// What is said of a scan that the trace does not commit, and of which word: that behind `--round`, where one is there, and TASK otherwise.
+// What is said of a scan that the trace does not commit, and of which word: that after `--round`, where one is there, and TASK otherwise.
 fn uncommitted(alloc: Global, traced: Traced<'_>) -> Result<(ScanFault, String), AllocError>
     ensures { IfOk result (λ said. IsUncommittedBy traced.entry said.0 (string_bytes said.1)) }
 {

@@ -13,7 +13,7 @@ use std::alloc::Global;
 // The most that a word says.
 const MOST: u16 = 65_535;
 
-/// The rounds of the word behind `--rounds`: `A:B`, `A:` or `:B`. Without a word all are.
+/// The rounds of the word after `--rounds`: `A:B`, `A:` or `:B`. Without a word all are.
 pub fn span_of(alloc: Global, word: Option<&str>) -> Result<Span, Fault>
     ensures ok { IfOk result (IsSpanWord (option_map (λ w. w.now) word.entry)) }
     ensures err { IfErr result (IsNoSpan (option_map (λ w. w.now) word.entry)) }

@@ -6,7 +6,7 @@ use Rattle.cli_shell.specs.declared.commands.OtherFault.{OtherFault}
 use Rattle.cli_shell.specs.Also.{also_line, AreAlsoTold}
 
 module _ (IsTold : ℕ → Place → List ℕ → Type 0) where
-  -- one behind others
+  -- one after others
   also_last : (faults : List OtherFault) (fault : OtherFault) (told own : List ℕ) → AreAlsoTold IsTold faults told → IsTold fault.number fault.place own → AreAlsoTold IsTold (faults ++ fault ∷ []) (told ++ (also_line fault ++ own))
   also_last [] fault told own none is = (own, [], is, refl, ap (λ l. l ++ (also_line fault ++ own)) none ∙ sym (append-nil (also_line fault ++ own)))
   also_last (f ∷ faults) fault told own (here, rest, is_here, are, all) is =

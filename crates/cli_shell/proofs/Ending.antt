@@ -62,7 +62,7 @@ module _ (Of : Outcome → List ℕ → Type 0) (outcome : Outcome) (below : Lis
       by (Ok output) m never front ends = (output, below, m, front e)
       by (Err f) m never front ends = absurd (never (ap Err (cannot_write_only f (sym ends ∙ e))))
 
-  -- else the outcome was a fault, or the output failed, and the message was written, with what stands below it
+  -- else the outcome was a fault, or the output failed, and the message was written, with what is below it
   told_of : (Told : List ℕ → Type 0) (failed : Bool)
       → IfOk outcome (λ _. (result ≡ status.Done) ⊎ ((result ≡ status.CannotWrite) × (failed ≡ true)))
       → IfOk outcome (λ _. result ≡ status.CannotWrite → Told (message_of fault.CannotWrite))

@@ -22,7 +22,7 @@ last_line lines = drop (whole_length (take (length lines - 1) lines)) lines
 abbrev pub is_end : List ℕ → Bool
 is_end line = slice_index line 0 == 69 && slice_index line 1 == 32
 
--- whole lines that no end is put behind: there are none, or the last one is a line of the end
+-- whole lines that no end is put after: there are none, or the last one is a line of the end
 abbrev pub have_end : List ℕ → Bool
 have_end lines = length lines == 0 || is_end (last_line lines)
 
@@ -30,7 +30,7 @@ have_end lines = length lines == 0 || is_end (last_line lines)
 abbrev pub is_event : List ℕ → Bool
 is_event line = slice_index line 1 == 32
 
--- how many lines of events stand behind the first of whole lines
+-- how many lines of events follows the first of whole lines
 abbrev pub event_count : List ℕ → ℕ
 event_count lines = count_by is_event (drop 1 (slice_split is_feed lines))
 

@@ -92,7 +92,7 @@ name_in file (Some other) = other
 abbrev pub other_name : Request → List ℕ
 other_name request = name_in (name_of request) (other_of request)
 
--- a word of `watch` that stands behind a press and begins with no digit, as a name does
+-- a word of `watch` that follows a press and begins with no digit, as a name does
 abbrev pub IsLateName : Request → List ℕ → Type 0
 IsLateName (request.Check checked) word = ⊥
 IsLateName (request.Show command shown) word = ⊥
@@ -158,17 +158,17 @@ abbrev pub IsTextBelow : Bool → List ℕ → List ℕ → ℕ → Place → Li
 IsTextBelow true name text number place reason below = IsRefusalLine name text number place reason below
 IsTextBelow false name text number place reason below = IsTextShownBelow name text number place reason below
 
--- what is told of a fault of FILE, where faults are explained
+-- what is reported of a fault of FILE, where faults are explained
 abbrev pub IsTextTold : (List ℕ → ℕ → Place → List ℕ → Type 0) → Bool → Request → List ℕ → ℕ → Place → List ℕ → Type 0
 IsTextTold reasons false request text number place told = told ≡ []
 IsTextTold reasons true request text number place told = (reason : List ℕ) × reasons text number place reason × IsTextBelow (asks_json request) (name_of request) text number place reason told
 
--- the first faults of the other units, where those are asked for, each with what is told of it
+-- the first faults of the other units, where those are asked for, each with what is reported of it
 abbrev pub AreOthersTold : (List ℕ → ℕ → Place → List OtherFault → Type 0) → (ℕ → Place → List ℕ → Type 0) → Bool → List ℕ → ℕ → Place → List ℕ → Type 0
 AreOthersTold others IsTold false text number place told = told ≡ []
 AreOthersTold others IsTold true text number place told = (faults : List OtherFault) × others text number place faults × AreAlsoTold IsTold faults told
 
--- below a refusal of FILE what is told of it, and then the first faults of the other units
+-- below a refusal of FILE what is reported of it, and then the first faults of the other units
 pub record IsRefusedBelow (reasons : List ℕ → ℕ → Place → List ℕ → Type 0) (others : List ℕ → ℕ → Place → List OtherFault → Type 0) (explained : Bool) (request : Request) (text : List ℕ) (number : ℕ) (place : Place) (below : List ℕ) : Type 0 where
   pub own : List ℕ
   pub also : List ℕ
@@ -176,7 +176,7 @@ pub record IsRefusedBelow (reasons : List ℕ → ℕ → Place → List ℕ →
   pub others_told : AreOthersTold others (IsTextTold reasons explained request text) (asks_all request) text number place also
   pub are : below ≡ own ++ also
 
--- What stands below a fault: of a refusal its place, what the number means, its line as it was read, and of a text what is told of it and of its other units; of the others the word or
+-- What is below a fault: of a refusal its place, what the number means, its line as it was read, and of a text what is reported of it and of its other units; of the others the word or
 -- the file and what is wrong with it.
 abbrev pub IsFaultBelow : (List ℕ → ℕ → Place → List ℕ → Type 0) → (List ℕ → ℕ → Place → List OtherFault → Type 0) → Bool → Request → List ℕ → Reading → Fault → List ℕ → Type 0
 IsFaultBelow reasons others wanted request text trace (fault.Misuse said) below = below ≡ []
@@ -192,13 +192,13 @@ IsFaultBelow reasons others wanted request text trace (fault.CannotRead cause) b
 IsFaultBelow reasons others wanted request text trace fault.CannotWrite below = below ≡ []
 IsFaultBelow reasons others wanted request text trace fault.NoMemory below = below ≡ []
 
--- A fault with what stands below it: this, where it is wanted, and else nothing. Memory for it may be missing, and then that is told alone.
+-- A fault with what is below it: this, where it is wanted, and else nothing. Memory for it may be missing, and then that is reported alone.
 pub data IsExplained (wanted : Bool) (Below : List ℕ → Type 0) (f told : Fault) (below : List ℕ) : Type 0 where
   unwanted : wanted ≡ false → told ≡ f → below ≡ [] → IsExplained wanted Below f told below
   explained : wanted ≡ true → told ≡ f → Below below → IsExplained wanted Below f told below
   no_memory : wanted ≡ true → told ≡ fault.NoMemory → below ≡ [] → IsExplained wanted Below f told below
 
--- an outcome with what stands below it: nothing below an output
+-- an outcome with what is below it: nothing below an output
 abbrev pub IsOutcomeExplained : (Fault → Bool) → (Fault → List ℕ → Type 0) → Outcome → Outcome → List ℕ → Type 0
 IsOutcomeExplained wanted Below (Ok output) outcome below = (outcome ≡ Ok output) × (below ≡ [])
 IsOutcomeExplained wanted Below (Err f) outcome below = (told : Fault) × (outcome ≡ Err told) × IsExplained (wanted f) (Below f) f told below
@@ -241,7 +241,7 @@ IsOtherRead reads fails (request.Rounds command rounds) trace = IsCallsRead read
 IsOtherRead reads fails (request.Trace command traced) (Text text) = IsTraceText (reads traced.trace.now most_trace_bytes) traced.cut text.items
 IsOtherRead reads fails (request.Trace command traced) (Failed why) = IsTraceFault (fails traced.trace.now most_trace_bytes) traced.cut why
 
--- A request has the outcome that its command gives of the text of its file and of its other file, each read once; what stands below its fault is
+-- A request has the outcome that its command gives of the text of its file and of its other file, each read once; what is below its fault is
 -- of these readings. The file may have no text.
 pub data IsFileAnswer (reads : List ℕ → ℕ → List ℕ → Type 0) (fails : List ℕ → ℕ → ReadFault → Type 0) (gives : Request → List ℕ → Reading → Outcome → Type 0) (reasons : List ℕ → ℕ → Place → List ℕ → Type 0) (others : List ℕ → ℕ → Place → List OtherFault → Type 0) (wanted : Bool) (request : Request) (outcome : Outcome) (below : List ℕ) : Type 0 where
   unread : (why : ReadFault) → fails (name_of request) most_bytes why → IsOutcomeExplained (λ _. wanted) (λ _. IsUnreadBelow (name_of request) why) (Err (fault_of_reading why)) outcome below → IsFileAnswer reads fails gives reasons others wanted request outcome below
@@ -253,7 +253,7 @@ pub data IsAnswer (reads : List ℕ → ℕ → List ℕ → Type 0) (fails : Li
   unasked : ((request : Request) → Asks words request → ⊥) → IsWordsOutcome words outcome → below ≡ [] → IsAnswer reads fails gives reasons others wanted words flags outcome below
   asked : (request : Request) → Asks words request → IsFileAnswer reads fails gives reasons others wanted (with_flags flags request) outcome below → IsAnswer reads fails gives reasons others wanted words flags outcome below
 
--- Words as they are read have that answer, explained where `--explain` stood among them, or always.
+-- Words as they are read have that answer, explained where `--explain` was among them, or always.
 abbrev pub IsAnswerOf : (List ℕ → ℕ → List ℕ → Type 0) → (List ℕ → ℕ → ReadFault → Type 0) → (Request → List ℕ → Reading → Outcome → Type 0) → (List ℕ → ℕ → Place → List ℕ → Type 0) → (List ℕ → ℕ → Place → List OtherFault → Type 0) → Bool → Plain → Outcome → List ℕ → Type 0
 IsAnswerOf reads fails gives reasons others always plain = IsAnswer reads fails gives reasons others (always || plain.explains) (map string_bytes plain.words.items) plain.flags
 
@@ -265,7 +265,7 @@ HasWritten Of Writes = (output : Output) × (below : List ℕ) × Of (Ok output)
 abbrev pub HasShown : (Outcome → List ℕ → Type 0) → (List ℕ → Type 0) → (Output → Type 0) → Type 0
 HasShown Of Writes Warns = (output : Output) × (below : List ℕ) × Of (Ok output) below × Writes (bytes_of output) × Warns output
 
--- a fault of these answers ends with this status, and its message was written, with what stands below it; or that of a standard output that
+-- a fault of these answers ends with this status, and its message was written, with what is below it; or that of a standard output that
 -- failed, with nothing below
 abbrev pub HasTold : (Outcome → List ℕ → Type 0) → Bool → Status → (List ℕ → Type 0) → Type 0
 HasTold Of has_failed status Writes =
@@ -285,7 +285,7 @@ abbrev pub written : {X : Type 0} → Sink X → X → X → Held
 written sink old new = stream (sink.contents old) (sink.contents new) (sink.has_failed new)
 
 -- Where it is done, the standard output has the output of one of these answers, and the standard error its warnings, if it may have some. Otherwise
--- the standard error has the one message of the answer's fault, or of a standard output that failed, and below it what stands there. Unless the
+-- the standard error has the one message of the answer's fault, or of a standard output that failed, and below it what is there. Unless the
 -- standard output failed, nothing was then written to it; where it failed, it has a front of the output.
 pub record HasPrinted (Of : Outcome → List ℕ → Type 0) (out err : Held) (ends : Status) : Type 0 where
   pub done : ends ≡ status.Done → HasShown Of (Appends out.before out.after) (λ output. Warns output err.before err.after err.failed)

@@ -34,7 +34,7 @@ pub trait Commands {
     // What a request may give of a text, where this was read of its trace or of its file of `--calls`.
     ghost gives: { Self → Request → List ℕ → Reading → Outcome → Type 0 };
 
-    // What may be told of the refusal of a text with a number at a place.
+    // What may be reported of the refusal of a text with a number at a place.
     ghost reasons: { Self → List ℕ → ℕ → PlaceOf → List ℕ → Type 0 };
 
     // What may be the first faults of the other units of a text that is refused with a number at a place.
@@ -66,7 +66,7 @@ pub trait Commands {
         ensures gives { gives self.now request.entry text.now trace.now result }
         ensures unwritten { result ≢ Err CannotWrite };
 
-    /// What is told of the refusal of a text with a number at a place: lines, or none.
+    /// What is reported of the refusal of a text with a number at a place: lines, or none.
     fn reason(
         &self,
         alloc: Global,

@@ -26,7 +26,7 @@ fn last_line(lines: &[u8]) -> &[u8]
     &lines[whole_length(front)..]
 }
 
-// Whether no end is put behind whole lines.
+// Whether no end is put after whole lines.
 fn have_end(lines: &[u8]) -> bool
     ensures { result ≡ have_end lines.now }
 {
@@ -47,7 +47,7 @@ fn is_event(line: &[u8]) -> bool
     matches!(line, [_, b' ', ..])
 }
 
-// How many lines of events there are behind the first line.
+// How many lines of events there are after the first line.
 fn event_count(lines: &[u8]) -> usize
     ensures { result ≡ event_count lines.now }
 {
@@ -58,7 +58,7 @@ fn event_count(lines: &[u8]) -> usize
         .count()
 }
 
-/// Takes a trace up to its last whole line, and puts its end behind it where it has none.
+/// Takes a trace up to its last whole line, and puts its end after it where it has none.
 pub(crate) fn complete(text: &mut Vec<u8>) -> Result<(), AllocError>
     ensures { OnOk result (text.new.items ≡ completed text.old.items) }
 {

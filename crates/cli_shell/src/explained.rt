@@ -1,11 +1,11 @@
-// A fault, and what stands below it.
+// A fault, and what is below it.
 
 ghost use Rattle.std.specs.Prelude.{◌≡◌, []};
 
 use cli_host::status::Fault;
 use std::alloc::Global;
 
-/// A fault, and what stands below its message.
+/// A fault, and what is below its message.
 #[derive(Drop)]
 pub struct Explained {
     pub fault: Fault,

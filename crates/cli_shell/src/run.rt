@@ -29,7 +29,7 @@ use trace_text::read::GREATEST_TRACE;
 /// The most bytes of FILE that are read: one more than a text may have.
 pub const MOST_BYTES: usize = 262_145;
 
-/// Runs the program on its words, as they are read. A fault is explained, where it is told to do so, or where the words have `--explain`. Only
+/// Runs the program on its words, as they are read. A fault is explained, where it is asked to do so, or where the words have `--explain`. Only
 /// where they ask for `run` it waits for threads.
 pub fn run<R: Threads + Wait + Sync, F: TextFiles, C: Commands, O: Sink, E: Sink>(
     rt: &R,
@@ -50,7 +50,7 @@ pub fn run<R: Threads + Wait + Sync, F: TextFiles, C: Commands, O: Sink, E: Sink
     show(answer.outcome, &answer.below, out, err)
 }
 
-/// The same without threads. `None`: the words ask for `run`, and nothing was read or written.
+/// Runs one command without threads. `None`: the words ask for `run`, and nothing was read or written.
 pub fn run_alone<F: TextFiles, C: Commands, O: Sink, E: Sink>(
     alloc: Global,
     words: &Plain,
@@ -74,7 +74,7 @@ pub fn run_alone<F: TextFiles, C: Commands, O: Sink, E: Sink>(
     }
 }
 
-// The outcome of words, and what stands below its fault.
+// The outcome of words, and what is below its fault.
 #[derive(Drop)]
 struct Answered {
     outcome: Result<Output, Fault>,
@@ -221,7 +221,7 @@ fn read_texts<F: TextFiles>(
     Ok(Texts { text, trace })
 }
 
-// An outcome, with what stands below it.
+// An outcome, with what is below it.
 fn with_below<C: Commands>(
     alloc: Global,
     request: Request<'_>,
@@ -316,7 +316,7 @@ fn read_trace<F: TextFiles>(
     Ok(text)
 }
 
-// A fault of a request, with what stands below it, where that is wanted; `NoMemory` where memory for that is missing.
+// A fault of a request, with what is below it, where that is wanted; `NoMemory` where memory for that is missing.
 fn fault_explained<C: Commands>(
     alloc: Global,
     request: Request<'_>,
@@ -339,7 +339,7 @@ fn fault_explained<C: Commands>(
     }
 }
 
-// What stands below a fault.
+// What is below a fault.
 fn fault_below<C: Commands>(
     alloc: Global,
     request: Request<'_>,
@@ -467,7 +467,7 @@ pub fn unread_explained(alloc: Global, name: &str, why: ReadFault, wanted: bool)
     }
 }
 
-// What stands below a FILE that can't be read.
+// What is below a FILE that can't be read.
 fn unread_below(alloc: Global, name: &str, why: ReadFault) -> Result<Vec<u8>, AllocError>
     ensures { IfOk result (λ below. IsUnreadBelow name.now why below.items) }
 {

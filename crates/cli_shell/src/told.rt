@@ -1,4 +1,4 @@
-// What is told of a refused text below its refusal.
+// What is reported of a refused text below its refusal.
 
 ghost use Rattle.std.specs.Prelude.{◌≡◌, ◌++◌, ◌||◌, ℕ, List, IfOk, OnOk};
 ghost use Rattle.cli_host.specs.Requests.{name_of};
@@ -13,7 +13,7 @@ use itoa::Buffer;
 use show_refusal::refusal::refusal_line;
 use std::alloc::{AllocError, Global};
 
-/// What stands below a refusal of FILE: what is told of it, where faults are explained, and then the first faults of the other units, where those
+/// What is below a refusal of FILE: what is reported of it, where faults are explained, and then the first faults of the other units, where those
 /// are asked for.
 pub fn refused_below<C: Commands>(
     alloc: Global,
@@ -33,7 +33,7 @@ pub fn refused_below<C: Commands>(
     Ok(below)
 }
 
-// What is told of a fault of FILE, where faults are explained.
+// What is reported of a fault of FILE, where faults are explained.
 fn text_told<C: Commands>(
     alloc: Global,
     request: Request<'_>,
@@ -53,7 +53,7 @@ fn text_told<C: Commands>(
     }
 }
 
-// The place of a refusal of FILE in what was read, what its number means, and what is told of it.
+// The place of a refusal of FILE in what was read, what its number means, and what is reported of it.
 fn reasoned_below<C: Commands>(
     alloc: Global,
     request: Request<'_>,
@@ -96,7 +96,7 @@ fn others_told<C: Commands>(
     faults_told(alloc, request, text, commands, &faults, explained)
 }
 
-// Faults of other units, each with what is told of it.
+// Faults of other units, each with what is reported of it.
 fn faults_told<C: Commands>(
     alloc: Global,
     request: Request<'_>,
@@ -116,7 +116,7 @@ fn faults_told<C: Commands>(
     Ok(told)
 }
 
-// Adds a fault of another unit, with what is told of it.
+// Adds a fault of another unit, with what is reported of it.
 fn put_fault<C: Commands>(
     alloc: Global,
     request: Request<'_>,

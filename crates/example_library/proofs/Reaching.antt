@@ -24,7 +24,7 @@ unchanged p q same w v left events reached goes =
     let well = well_at c reached.base reached.begins reached.events [] reached.replies [] w w (goes reached.base reached.begins reached.events [] events reached.replies reached.is refl) refl in
     subst (λ (x : Program). IsWellReached x.config v) (sym same) (subst (IsWellReached c) (sym left) well)
 
--- the world behind one event, by a call that keeps the program
+-- the world after one event, by a call that keeps the program
 pub behind : (p q : Program) → q ≡ p → (w v : World) (e : Event) (reply : Reply) → IsReached p.config w → CallGoesWell p.config w (e ∷ []) → happens p.config w e ≡ Ok (v, reply) → IsWellReached q.config v
 behind p q same w v e reply reached goes is =
     let c = p.config in

@@ -104,7 +104,7 @@ fn call<R: Print + Threads + Wait + Sync>(
     }
 }
 
-// The words behind the program's name.
+// The words after the program's name.
 fn words_of(rt: &HostRuntime) -> io::Result<Vec<String>> {
     Ok(env::args(rt)?.skip(1).collect(rt.alloc())?)
 }

@@ -1,4 +1,4 @@
-// Calls of the library where memory is refused. Calls that take memory and are refused it are made once more; calls that take none stand
+// Calls of the library where memory is refused. Calls that take memory and are refused it are made once more; calls that take none are
 // between two lines, and `tools/sweep` has all memory refused from the one to the other.
 
 mod book;

@@ -4,7 +4,7 @@ use Rattle.group_spec.specs.declared.calls.Slot.{Slot}
 use Rattle.group_spec.specs.Calls.{ticket_of}
 use Rattle.group_spec.specs.Snapshot.{waits, from_of, to_of, car_of}
 
--- four columns, one behind the other
+-- four columns, one after the other
 abbrev pub four : {A : Type 0} → (Slot → A) → (Slot → A) → (Slot → A) → (Slot → A) → List Slot → List A
 four f g h k slots = map f slots ++ (map g slots ++ (map h slots ++ map k slots))
 

@@ -1,4 +1,4 @@
--- The slots of a book as three sets of bits, beside what is kept of each slot (own rules). Slot s stands at index s - 1.
+-- The slots of a book as three sets of bits, beside what is kept of each slot (own rules). Slot s is at index s - 1.
 use Rattle.std.specs.Prelude.{◌≡◌, ℕ, ◌+◌, ◌<◌, ◌≤◌, Bool, true, false, List, map, get_or, length, nat_lt, ◌==◌, if◌then◌else◌}
 use Rattle.std.specs.Int.{bit_at}
 use Rattle.std.specs.List.{range_with_len}
@@ -10,7 +10,7 @@ use Rattle.group_spec.specs.Calls.{greatest_ticket}
 use Rattle.group_calls.specs.Columns.{shown_of}
 use Rattle.group_calls.specs.declared.book.CallBook.TheInside.{Inside}
 
--- what stands where no call is
+-- what is where no call is
 abbrev pub no_call : Call
 no_call = record { from = 0; to = 0 }
 

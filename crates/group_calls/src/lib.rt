@@ -1,4 +1,4 @@
-//! The calls of a lift group: the slots that they enter, and the tickets under which they stand there.
+//! The calls of a lift group: the slots that they enter, and the tickets under which they are there.
 #![tactic(auto)]
 
 pub mod book;

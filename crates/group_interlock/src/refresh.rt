@@ -107,7 +107,7 @@ pub fn settle_each(
     }
 }
 
-/// The same, beside the outputs before.
+/// All outputs, settled under the fields, beside the outputs before.
 pub fn settle_all(outputs: &Outputs, fields: &Fields) -> AllSettled
     requires { length outputs.now ≡ length fields.now.cars }
     ensures { result ≡ settled_all outputs.now fields.now }

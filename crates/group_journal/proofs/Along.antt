@@ -37,7 +37,7 @@ take_opens c sound w v (traced.Press call) t reached h = quiet c w v (Press call
 take_opens c sound w v (traced.Gather floor) t reached h = quiet c w v (Gather floor) t (gathering, tt) h
 take_opens c sound w v (traced.Refresh fields) t reached h = quiet c w v (Refresh fields) t (refreshing, tt) h
 
--- so do events, one behind the other
+-- so do events, one after the other
 pub along : (c : Config) → IsSound c → (events : List TraceEvent) (w v : World) (t : ℕ) → IsReached c w → TakesAll c w events v → is_some (scan_at v t) ≡ open_along t (is_some (scan_at w t)) events
 along c sound [] w v t reached same = ap (λ (x : World). is_some (scan_at x t)) (sym same)
 along c sound (e ∷ events) w v t reached (m, first, rest) =

@@ -10,7 +10,7 @@ use Rattle.group_journal.proofs.Orders.{all_before, with_last}
 use Rattle.group_journal.specs.Journal.{AllCalls}
 use Rattle.group_journal.specs.Entered.{calls, AllHaveWords}
 
--- one call more, behind others in order
+-- one call more, after others in order
 pub next_call : (done : List EnteredCall) (i : ℕ) (d other : EnteredCall) → i < length done → d ≡ slice_index_or done i other → (before : List Call) → IsInOrder (before ++ calls done) → with_call (before ++ calls (take i done)) d.call ≡ before ++ calls (take (i + 1) done)
 next_call [] i d other below is before order = absurd (omega (arith, below))
 next_call (x ∷ done) zero d other below is before order =

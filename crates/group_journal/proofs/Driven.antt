@@ -65,7 +65,7 @@ last_in_range c (e ∷ events) fields w v earlier all is accepted =
 reached_on : (c : Config) (w m : World) (e : Entry) (answer : Reply) (plant : PlantState) → IsDriven c plant w → Enters c w e m answer → IsReached c m
 reached_on c w m e answer plant driven step = goes_on c w m [] (step.replies ++ answer ∷ []) (events_of step.instructions e) driven.reached step.happens
 
--- behind a scan's entry the image tells what the plant tells, as before
+-- after a scan's entry the image tells what the plant tells, as before
 scanned_driven : (c : Config) (w m : World) (e : Entry) (answer : Reply) (before next : PlantState) → IsDriven c before w → (step : Enters c w e m answer) → HasNoRefresh (events_of step.instructions e) → next ≡ before → IsDriven c next m
 scanned_driven c w m e answer before next driven step none same =
     subst (λ p. IsDriven c p m) (sym same) (record {

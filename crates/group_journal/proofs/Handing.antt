@@ -39,7 +39,7 @@ module _ (c : Config) (g : Group) (scans : List (Option State)) where
   abbrev pub at : List Call → List Call → World
   at desk hand = record { group = g; scans = scans; desk = desk; hand = hand }
 
-  -- A call of the group that stands behind all that are pressed is pressed.
+  -- A call of the group that follows all that are pressed is pressed.
   one_press : (desk hand : List Call) (call : Call) → IsCall (sizes_of c) call → Each (λ x. Before x call) desk → happens c (at desk hand) (Press call) ≡ Ok (at (desk ++ call ∷ []) hand, New)
   unfolding happens
   one_press desk hand call is behind =

@@ -141,7 +141,7 @@ accepted_right : (xs ys : List Reply) → AreAccepted (xs ++ ys) → AreAccepted
 accepted_right [] ys h = h
 accepted_right (x ∷ xs) ys h = accepted_right xs ys h.1
 
--- the replies of a run stand behind those before it
+-- the replies of a run follows those before it
 extends : (c : Config) (w v : World) (earlier all : List Reply) (events : List Event) → Ends c w earlier events v all → (more : List Reply) × (all ≡ earlier ++ more)
 extends c w v earlier all events is =
     let more = ended c w v earlier all (run c w [] events) (sym (follow c w earlier events) ∙ is) in
@@ -182,7 +182,7 @@ pub happens_start : (c : Config) (w v : World) (u : ℕ) (r : Reply) → ((task 
 unfolding happens
 happens_start c w v u r place e h = start_puts c w v u r (task_at w.group u) (scan_at w u) place refl e h
 
--- scans of others behind two events of one task
+-- scans of others after two events of one task
 puts_both : (w m v : World) (u : ℕ) (a b : Bool) → Puts w m u a → Puts m v u b → Puts w v u b
 puts_both w m v u a b first next = record { own = next.own; others = λ t other. next.others t other ∙ first.others t other }
 

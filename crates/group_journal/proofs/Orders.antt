@@ -8,7 +8,7 @@ use Rattle.group_laws.proofs.Sets.{before_means, means_before}
 
 -- BEFORE
 
--- a call stands before another in the order of (from, to)
+-- a call comes before another in the order of (from, to)
 abbrev pub Before : Call → Call → Type 0
 Before a b = (a.from < b.from) ⊎ ((a.from ≡ b.from) × (a.to < b.to))
 
@@ -21,7 +21,7 @@ before_both a b c (inl p) (inr q) = inl (omega (arith, p, q.0))
 before_both a b c (inr p) (inl q) = inl (omega (arith, p.0, q))
 before_both a b c (inr p) (inr q) = inr (p.0 ∙ q.0, omega (arith, p.1, q.1))
 
--- a call that stands before another is another, and doesn't stand behind it
+-- a call that comes before another is another, and doesn't follows it
 not_below : (m n : ℕ) → n ≤ m → nat_lt m n ≡ false
 not_below m n h = by (nat_lt m n) refl
   where
@@ -74,7 +74,7 @@ pub each_right : (P : Call → Type 0) (xs ys : List Call) → Each P (xs ++ ys)
 each_right P [] ys h = h
 each_right P (x ∷ xs) ys h = each_right P xs ys h.1
 
--- the first of a list in order stands before all others
+-- the first of a list in order comes before all others
 pub before_all : (x : Call) (xs : List Call) → IsInOrder (x ∷ xs) → Each (Before x) xs
 before_all x [] h = tt
 before_all x (y ∷ ys) h =
@@ -90,7 +90,7 @@ pub order_right : (xs ys : List Call) → IsInOrder (xs ++ ys) → IsInOrder ys
 order_right [] ys h = h
 order_right (x ∷ xs) ys h = order_right xs ys h.1
 
--- each of the former stands before the first of the latter
+-- each of the former comes before the first of the latter
 pub all_before : (xs : List Call) (y : Call) (ys : List Call) → IsInOrder (xs ++ y ∷ ys) → Each (λ x. Before x y) xs
 all_before [] y ys h = tt
 all_before (x ∷ xs) y ys h = ((each_right (Before x) xs (y ∷ ys) (before_all x (xs ++ y ∷ ys) h)).0, all_before xs y ys h.1)
@@ -153,14 +153,14 @@ part_order p (x ∷ xs) h = by (p x) (part_order p xs h.1)
     by true rest = first_order x (filter p xs) (each_part (Before x) p xs (before_all x xs h)) rest
     by false rest = rest
 
--- some behind others in order, and fewer of the same
+-- some after others in order, and fewer of the same
 pub fewer_behind : (h ys zs : List Call) → ((x : Call) → Each (Before x) ys → Each (Before x) zs) → IsInOrder zs → IsInOrder (h ++ ys) → IsInOrder (h ++ zs)
 fewer_behind [] ys zs fewer order all = order
 fewer_behind (x ∷ h) ys zs fewer order all =
     let before = before_all x (h ++ ys) all in
     first_order x (h ++ zs) (each_append (Before x) h zs (each_left (Before x) h ys before) (fewer x (each_right (Before x) h ys before))) (fewer_behind h ys zs fewer order all.1)
 
--- those from its own floor behind a call
+-- those from its own floor after a call
 pub same_floor_order : (h : List Call) (call : Call) (calls : List Call) → IsInOrder (h ++ call ∷ calls) → IsInOrder (h ++ call ∷ calls_from call.from calls)
 same_floor_order h call calls order =
     let behind = order_right h (call ∷ calls) order in

@@ -86,7 +86,7 @@ refresh_events = refl
 one_gathering : events_of 0 (refreshes (up ∷ record { from = 1; to = 3 } ∷ [])) ≡ Press up ∷ Press (record { from = 1; to = 3 }) ∷ Gather 1 ∷ Refresh (opening_fields (sizes_of idle)) ∷ []
 one_gathering = refl
 
--- a commit stands behind the instructions of its scan
+-- a commit follows the instructions of its scan
 commit_events : events_of 2 (entry.Commit 1) ≡ Instruction 1 ∷ Instruction 1 ∷ Commit 1 ∷ []
 commit_events = refl
 

@@ -1,4 +1,4 @@
--- A scan from where it stands to its end, and its commit.
+-- A scan from where it is to its end, and its commit.
 use Rattle.std.proofs.Common.{◌≡◌, ℕ, zero, suc, ◌+◌, ◌<◌, ◌≤◌, Bool, true, false, List, [], ◌∷◌, ◌++◌, length, replicate, Option, Some, None, Ok, if◌then◌else◌, refl, sym, ap, ◌∙◌, subst, arith}
 use Rattle.std.specs.Prelude.{slice_get, slice_set}
 use Rattle.std.proofs.lemmas.List.{append_assoc}
@@ -42,7 +42,7 @@ set_same (o ∷ xs) (suc t) x e = ap (λ l. o ∷ l) (set_same xs t x e)
 
 -- STEPS
 
--- steps behind others
+-- steps after others
 pub reaches_on : (c : Config) (m n : ℕ) (a b d : State) → Reaches c m a b → Reaches c n b d → Reaches c (m + n) a d
 reaches_on c zero n a b d first more = let same : n ≡ 0 + n = omega arith in subst (λ k. Reaches c k a d) same (subst (λ x. Reaches c n x d) first more)
 reaches_on c (suc m) n a b d (mid, goes, first) more = let same : suc (m + n) ≡ suc m + n = omega arith in subst (λ k. Reaches c k a d) same (mid, goes, reaches_on c m n mid b d first more)
@@ -52,7 +52,7 @@ either_accepted true = tt
 either_accepted false = tt
 
 module _ (c : Config) (w : World) (t : ℕ) (task : TaskState) (there : task_at w.group t ≡ Some task) (among : t < length w.scans) where
-  -- the world, where the scan of the task stands so
+  -- the world, where the scan of the task is so
   abbrev pub standing : State → World
   standing x = record { group = w.group; scans = slice_set w.scans t (Some x); desk = w.desk; hand = w.hand }
 

@@ -8,7 +8,7 @@ use Rattle.group_spec.specs.World.{World, scan_at}
 abbrev pub IsClosed : World → Type 0
 IsClosed w = (j : ℕ) → is_some (scan_at w j) ≡ false
 
--- whether a task's scan is open behind an event of a trace, where it was so before
+-- whether a task's scan is open after an event of a trace, where it was so before
 abbrev pub open_behind : ℕ → Bool → TraceEvent → Bool
 open_behind t was (traced.Start u) = if u == t then true else was
 open_behind t was (traced.Commit u) = if u == t then false else was
@@ -16,7 +16,7 @@ open_behind t was (traced.Press call) = was
 open_behind t was (traced.Gather floor) = was
 open_behind t was (traced.Refresh fields) = was
 
--- the same behind events, one behind the other
+-- the same after events, one after the other
 abbrev pub open_along : ℕ → Bool → List TraceEvent → Bool
 open_along t was [] = was
 open_along t was (e ∷ events) = open_along t (open_behind t was e) events

@@ -41,7 +41,7 @@ first_plant c = opening_plant (sizes_of c).cars (sizes_of c).floors
 abbrev pub IsDrivenJournal : Config → (ℕ → Switches) → List Entry → PlantState → World → Type 0
 IsDrivenJournal c switches entries plant w = Leads Moves c switches 0 (first_plant c) (opening c) entries plant w
 
--- And it is safe for those in the cars: no refresh moves a car whose door isn't shut, and each car is in its shaft, as it opens and behind
+-- And it is safe for those in the cars: no refresh moves a car whose door isn't shut, and each car is in its shaft, as it opens and after
 -- each refresh.
 pub record IsSafeJournal (c : Config) (switches : ℕ → Switches) (entries : List Entry) (plant : PlantState) (w : World) : Type 0 where
   pub opens : AreInShafts (first_plant c)

@@ -1,4 +1,4 @@
--- The journal of a group: what its entries stand for, and its runs (own rules).
+-- The journal of a group: what its entries mean, and its runs (own rules).
 use Rattle.std.specs.Prelude.{◌≡◌, ℕ, ◌+◌, ◌%◌, ◌≤◌, Bool, true, false, List, [], ◌∷◌, ◌++◌, map, length, replicate, ◌==◌, if◌then◌else◌, is_some, Ok}
 use Rattle.il_syntax.specs.declared.tree.Config.{Config}
 use Rattle.group_spec.specs.declared.event.Event.{Event}
@@ -17,7 +17,7 @@ use Rattle.group_spec.specs.declared.journal.Entry.TheVariants as entry
 
 -- ENTRIES
 
--- The events of an entry. Just before a commit stand its scan's instructions, so many; before a refresh stand a Press of each
+-- The events of an entry. Just before a commit are its scan's instructions, so many; before a refresh are a Press of each
 -- entered call, and a Gather of each floor from which one of them comes.
 abbrev pub events_of : ℕ → Entry → List Event
 events_of instructions (entry.Start t) = Start t ∷ []
@@ -99,7 +99,7 @@ calls_entering calls hand = map (λ (d : EnteredCall). d.call) (enter_all calls 
 
 -- ALTERNATION
 
--- whether a scan of a task is open behind an entry, where it was so before
+-- whether a scan of a task is open after an entry, where it was so before
 abbrev pub open_after : ℕ → Bool → Entry → Bool
 open_after t was (entry.Start u) = if u == t then true else was
 open_after t was (entry.Commit u) = if u == t then false else was

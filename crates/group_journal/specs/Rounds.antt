@@ -1,4 +1,4 @@
--- Rounds of a group on its plant, and what a trace's events stand for (own rules).
+-- Rounds of a group on its plant, and what a trace's events mean (own rules).
 use Rattle.std.specs.Prelude.{◌≡◌, ℕ, zero, suc, ◌+◌, List, [], ◌∷◌, ◌++◌, map, flat_map, filter, length, replicate, Ok}
 use Rattle.il_syntax.specs.declared.tree.Config.{Config}
 use Rattle.group_spec.specs.declared.calls.Call.{Call}
@@ -22,7 +22,7 @@ use Rattle.group_journal.specs.Journal.{AreAccepted}
 
 -- EVENTS THAT ARE TAKEN
 
--- the events happen one behind the other, none of them is refused, and they lead from a world to another
+-- the events happen one after the other, none of them is refused, and they lead from a world to another
 pub record Happen (c : Config) (w : World) (events : List Event) (v : World) : Type 0 where
   pub replies : List Reply
   pub runs : run c w [] events ≡ Ok (v, replies)
@@ -67,7 +67,7 @@ floors_rising c = counting_from 1 (sizes_of c).floors
 abbrev pub tasks_in_order : Config → List ℕ
 tasks_in_order c = filter (has_task c) (counting_from 1 (sizes_of c).cars ++ 0 ∷ [])
 
--- a scan of each of some tasks, one behind the other
+-- a scan of each of some tasks, one after the other
 abbrev pub ScanEach : Config → List ℕ → World → World → Type 0
 ScanEach c [] w v = w ≡ v
 ScanEach c (t ∷ tasks) w v = (m : World) × Scans c t w m × ScanEach c tasks m v
@@ -97,7 +97,7 @@ pub record IsRound (c : Config) (calls : List Call) (switches : Switches) (plant
   pub scans : ScanEach c (tasks_in_order c) refreshed v
   pub journal : entries ≡ entry.Refresh (fields_of_plant next) (entered_calls_of report) ∷ flat_map scan_entries (tasks_in_order c)
 
--- So many rounds from the opening: the plant and the world behind them, and the entries of their journal. The calls that are pressed
+-- So many rounds from the opening: the plant and the world after them, and the entries of their journal. The calls that are pressed
 -- in a round and what is then set go by its number, from 1 on.
 abbrev pub Rounds : Config → (ℕ → List Call) → (ℕ → Switches) → ℕ → PlantState → World → List Entry → Type 0
 Rounds c calls switches zero plant w entries = (plant ≡ opening_plant (sizes_of c).cars (sizes_of c).floors) × (w ≡ opening c) × (entries ≡ [])
@@ -110,7 +110,7 @@ cleared w = record { group = w.group; scans = w.scans; desk = []; hand = [] }
 
 -- A TRACE'S EVENTS
 
--- an event of a trace is taken; a commit stands for the rest of the scan too
+-- an event of a trace is taken; a commit means the rest of the scan too
 abbrev pub Takes : Config → World → TraceEvent → World → Type 0
 Takes c w (traced.Start t) v = Happen c w (Start t ∷ []) v
 Takes c w (traced.Commit t) v = FinishesAndCommits c t w v
@@ -118,7 +118,7 @@ Takes c w (traced.Press call) v = Happen c w (Press call ∷ []) v
 Takes c w (traced.Gather floor) v = Happen c w (Gather floor ∷ []) v
 Takes c w (traced.Refresh fields) v = Happen c w (Refresh fields ∷ []) v
 
--- a trace's events are taken, one behind the other
+-- a trace's events are taken, one after the other
 abbrev pub TakesAll : Config → World → List TraceEvent → World → Type 0
 TakesAll c w [] v = w ≡ v
 TakesAll c w (e ∷ events) v = (m : World) × Takes c w e m × TakesAll c m events v

@@ -1,4 +1,4 @@
-//! The journal of a lift group: its entries, the events that they stand for, and laws of its runs.
+//! The journal of a lift group: its entries, the events that they mean, and laws of its runs.
 #![tactic(auto)]
 
 ghost use Rattle.group_journal.specs.Laws.{JournalReaches, JournalIsWell, EntryKeeps, EntriesAlternate, RefreshEnters, CommitEnters};
@@ -39,7 +39,7 @@ pub fn commit_enters()
 {}
 
 /// A law: of an accepted configuration, a round goes a safe step, where the image has what the plant reports and each car is in its shaft.
-/// Behind it both are so again.
+/// After it both are so again.
 pub fn driven_is_safe()
     ensures { DrivenIsSafe }
 {}
@@ -51,7 +51,7 @@ pub fn rounds_keep_cars_safe()
 {}
 
 /// A law: of an accepted configuration, a journal whose refreshes come from the plant keeps the cars safe, in whatever order the scans of
-/// its tasks stand between them.
+/// its tasks are between them.
 pub fn driven_journal_is_safe()
     ensures { DrivenJournalIsSafe }
 {}

@@ -136,7 +136,7 @@ scan_comes c steps w v e r h is = subst (Come c w e) is (come c steps w e h)
 
 -- WHAT A REFUSED EVENT LEAVES
 
--- an answer that is a refusal stands with the world as it was
+-- an answer that is a refusal is with the world as it was
 abbrev Unchanged : World → Next → Type 0
 Unchanged w (Err halt) = Unit {0}
 Unchanged w (Ok n) = (k : EventFault) → n.1 ≡ Refused k → n.0 ≡ w

@@ -33,7 +33,7 @@ use Rattle.group_laws.proofs.Kept.{globals_kept, variables_kept, assigned_cars}
 use Rattle.group_laws.proofs.Steps.{reaches_more, counts_own, counts_other, counts_start, counts_other_start}
 use Rattle.group_laws.proofs.Seats.{Seat, seats_after, counts_after, flat_same, seated}
 
--- the task and the scan that stand in a seat
+-- the task and the scan that are in a seat
 seat_of : (c : Config) (steps : ℕ → ℕ) (w : World) (t : ℕ) (task : TaskState) (scan : Option State) → WorldHolds c steps w → task_at w.group t ≡ Some task → scan_at w t ≡ scan → TaskHolds c t (steps t) task scan
 seat_of c steps w t task scan h is_task is_scan = subst (λ x. TaskHolds c t (steps t) task x) is_scan (subst (λ x. SeatHolds c t (steps t) x (scan_at w t)) is_task (h.each t))
 

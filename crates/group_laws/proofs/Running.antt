@@ -56,7 +56,7 @@ no_start_more t [] (q ∷ rs) e r h many other = absurd (omega (arith, many))
 no_start_more t (d ∷ es) [] e r h many other = absurd h
 no_start_more t (d ∷ es) (q ∷ rs) e r h many other = (h.0, no_start_more t es rs e r h.1 (omega (arith, many)) other)
 
--- as many replies as events stand behind the Start
+-- as many replies as events follows the Start
 as_many : (c : Config) (base : World) (past : List Event) (answers : List Reply) (t : ℕ) (scan : State) (s : IsStarted c base past answers t scan) → length past ≡ length answers → length s.before_it ≡ length s.answers → length s.behind_it ≡ length s.since
 as_many c base past answers t scan s many before_it =
     let events : length past ≡ length s.before_it + length (Start t ∷ s.behind_it) = ap length s.is ∙ length-append s.before_it (Start t ∷ s.behind_it) in

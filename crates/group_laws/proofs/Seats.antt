@@ -40,7 +40,7 @@ pub flat_same : {X : Type 0} (xs : List (Option X)) (t : ℕ) (o : Option X) →
 flat_same xs t None h = ap flat (get_same xs t None h)
 flat_same xs t (Some x) h = ap flat (get_same xs t (Some x) h)
 
--- the task and the scan of a seat, by what stands there
+-- the task and the scan of a seat, by what is there
 pub seat_of : (c : Config) (t n : ℕ) (o : Option TaskState) (s : Option State) (task : TaskState) → SeatHolds c t n o s → o ≡ Some task → TaskHolds c t n task s
 seat_of c t n o s task h e = subst (λ x. SeatHolds c t n x s) e h
 

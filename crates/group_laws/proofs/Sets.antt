@@ -68,7 +68,7 @@ compare (suc a) (suc b) = by (compare a b)
     by (inr (inl h)) = inr (inl (ap suc h))
     by (inr (inr h)) = inr (inr (omega (arith, h)))
 
--- of two calls that are not the same, one stands before the other
+-- of two calls that are not the same, one comes before the other
 other_before : (call member : Call) → is_before call member ≡ false → same_call member call ≡ false → is_before member call ≡ true
 other_before call member not_before not_same = by (compare member.from call.from) (compare member.to call.to)
   where

@@ -50,7 +50,7 @@ run_calls c w replies (events ∷ calls) = and_then (run c w replies events) (λ
 abbrev pub CallsAreOneRun : Type 0
 CallsAreOneRun = (c : Config) (w : World) (replies : List Reply) (calls : List (List Event)) → run_calls c w replies calls ≡ run c w replies (flat_map (λ events. events) calls)
 
--- A run's prefix leads to a world from which the rest goes on, with the replies of both one behind the other (own rule).
+-- A run's prefix leads to a world from which the rest goes on, with the replies of both one after the other (own rule).
 pub record IsCut (c : Config) (w v : World) (replies : List Reply) (first rest : List Event) : Type 0 where
   pub between : World
   pub sooner : List Reply

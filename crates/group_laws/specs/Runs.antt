@@ -106,7 +106,7 @@ InstructionChangesItsScan = (c : Config) (w v : World) (t : ℕ) (reply : Reply)
 
 -- THE FIELDS OF THE IMAGE
 
--- the fields behind an event: those of a refresh that is taken, and else those before it (own rule)
+-- the fields after an event: those of a refresh that is taken, and else those before it (own rule)
 abbrev pub fields_behind : Fields → Event → Reply → Fields
 fields_behind before (Refresh fields) (Refreshed report) = fields
 fields_behind before event reply = before
@@ -131,7 +131,7 @@ RunsKeepFields = (c : Config) (w v : World) (earlier replies : List Reply) (es :
 abbrev pub RunAppends : Type 0
 RunAppends = (c : Config) (w : World) (replies : List Reply) (es fs : List Event) → run c w replies (es ++ fs) ≡ and_then (run c w replies es) (λ n. run c n.0 n.1 fs)
 
--- earlier replies stand before those of the run, and change nothing else (own rule)
+-- earlier replies come before those of the run, and change nothing else (own rule)
 abbrev pub RepliesFollow : Type 0
 RepliesFollow = (c : Config) (w : World) (replies : List Reply) (es : List Event) → run c w replies es ≡ and_then (run c w [] es) (λ n. Ok (n.0, replies ++ n.1))
 

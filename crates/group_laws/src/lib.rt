@@ -69,7 +69,7 @@ pub fn run_appends()
     ensures { RunAppends }
 {}
 
-/// A law: earlier replies stand before those of a run, and change nothing else.
+/// A law: earlier replies come before those of a run, and change nothing else.
 pub fn replies_follow()
     ensures { RepliesFollow }
 {}

@@ -229,7 +229,7 @@ stays_safe sizes plant outputs some of_group same obeys =
     same_car : (o : Option PlacedCar) (a b : PlacedCar) → o ≡ Some a → o ≡ Some b → a ≡ b
     same_car o a b p q = let both : Some a ≡ Some b = sym p ∙ q in cc
 
--- where all cars stand in their shafts they still do behind a safe step
+-- where all cars stand in their shafts they still do after a safe step
 pub in_shafts_after :
     (sizes : Sizes) (plant : PlantState) (outputs : List CarOutputs) → length outputs ≡ length plant.cars → StaysSafe sizes plant (plant_after plant outputs)
     → ((k : ℕ) (a : PlacedCar) → slice_get plant.cars k ≡ Some a → IsInShaft plant.floors a) → (k : ℕ) (b : PlacedCar) → slice_get (plant_after plant outputs).cars k ≡ Some b → IsInShaft (plant_after plant outputs).floors b

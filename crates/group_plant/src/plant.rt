@@ -67,7 +67,7 @@ impl Plant {
         }
     }
 
-    /// The same plant, on which the building has set this: it tells FIRE and RUNLIMIT so from now on.
+    /// The plant after the building has set FIRE and RUNLIMIT, which it reports from now on.
     pub fn with_switches(self, switches: Switches) -> Plant
         ensures plant { result ≡ under switches self }
         ensures sized { (sizes : Sizes) → IsPlantOf sizes self → switches.run_limit ≤ sizes.cars

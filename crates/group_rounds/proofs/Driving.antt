@@ -94,7 +94,7 @@ tasks_more c k tasks is b has =
     by true = refl
     by false = nil tasks
 
--- and GROUP behind the cars
+-- and GROUP after the cars
 pub tasks_all : (c : Config) (tasks : List ℕ) → tasks ≡ filter (has_task c) (counting_from 1 (sizes_of c).cars) → (b : Bool) → has_task c 0 ≡ b → (if b then tasks ++ 0 ∷ [] else tasks) ≡ tasks_in_order c
 tasks_all c tasks is b has = sym (filter_append (has_task c) (counting_from 1 (sizes_of c).cars) (0 ∷ []) ∙ ap (λ l. l ++ filter (has_task c) (0 ∷ [])) (sym is) ∙ ap (λ (a : Bool). tasks ++ (if a then 0 ∷ [] else [])) has ∙ by b)
   where

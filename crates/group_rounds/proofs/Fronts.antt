@@ -87,7 +87,7 @@ ahead_on round n m all rest later low first next = record { rises = next.rises; 
 pub ahead_same : {X : Type 0} (round : X → ℕ) (n : ℕ) (xs : List X) → Rises round n xs → IsAhead round n xs xs
 ahead_same round n xs rises = record { rises = rises; same = λ k low. refl }
 
--- what is left of a copy, behind its first
+-- what is left of a copy, after its first
 pub ahead_of_copy : {X : Type 0} (round : X → ℕ) (all copy xs ys : List X) (k : ℕ) → IsAhead round 0 all copy → xs ≡ copy → ys ≡ copy → IsAhead round (0 + 1) xs (drop k xs) → IsAhead round 1 all (take (length ys - k) (drop k ys))
 ahead_of_copy {X} round all copy xs ys k first same also next =
     let whole : take (length ys - k) (drop k ys) ≡ drop k ys = take_all (length ys - k) (drop k ys) (omega (arith, length-drop k ys)) in
@@ -118,7 +118,7 @@ none_before round n m (x ∷ xs) low r =
     let here = r.0 in
     of_other round n x xs (ne_eqb (round x) n (λ e. omega (arith, e, here, low))) ∙ none_before round n (round x) xs (omega (arith, here, low)) r.1
 
--- those of a round, and what is ahead behind them
+-- those of a round, and what is ahead after them
 pub record IsFront {X : Type 0} (round : X → ℕ) (n : ℕ) (xs due later : List X) : Type 0 where
   pub own : due ≡ of_round round n xs
   pub ahead : IsAhead round (n + 1) xs later

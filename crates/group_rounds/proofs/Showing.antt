@@ -39,7 +39,7 @@ scans_next c tasks i t w m v commits report at before scan = subst (λ l. ScansC
 
 -- BEHIND COMMITS
 
--- what is written of a commit stays the same behind others
+-- what is written of a commit stays the same after others
 commit_behind : (commits : List Commit) (s : Shows) → (behind_all commits s).of_commit ≡ s.of_commit
 commit_behind [] s = refl
 commit_behind (c ∷ commits) s = commit_behind commits (behind c s)
@@ -74,7 +74,7 @@ text_next s now n commits t report old before after same is more =
 pub shows_next : (s now next : Shows) (commits : List Commit) (c : Commit) → now ≡ behind_all commits s → next ≡ behind c now → next ≡ behind_all (commits ++ c ∷ []) s
 shows_next s now next commits c same more = more ∙ ap (behind c) same ∙ sym (behind_more commits c s)
 
--- a round behind earlier commits
+-- a round after earlier commits
 pub sight_behind : (earlier : List Commit) (s : Shows) (n : ℕ) (refresh : Report) (commits : List Commit) (v : World) → sight_text (behind_all earlier s) n [] refresh commits v ≡ sight_text s n earlier refresh commits v
 sight_behind [] s n refresh commits v = refl
 sight_behind (c ∷ earlier) s n refresh commits v = sight_behind earlier (behind c s) n refresh commits v
@@ -99,7 +99,7 @@ rounds_next s p q same calls switches n before plant u w earlier now last commit
           (here.2 ∙ sight_behind commits s (suc n) here.0.report these w ∙ ap₂ (λ (a b : List Commit). sight_text s (suc n) a here.0.report b w) rounds.1 here.1),
     )
 
--- the texts of a round, one behind the other
+-- the texts of a round, one after the other
 pub texts_joined : (old refresh scans round : List ℕ) → ((old ++ refresh) ++ scans) ++ round ≡ old ++ (refresh ++ (scans ++ round))
 texts_joined old refresh scans round = append_assoc (old ++ refresh) scans round ∙ append_assoc old refresh (scans ++ round)
 

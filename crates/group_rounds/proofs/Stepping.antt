@@ -44,7 +44,7 @@ step_more c w m v events i steps e reply at are last = record {
   lead = lead_more c w m v steps e reply are.lead last;
 }
 
--- the first event that is refused behind steps of a program that stays the same
+-- the first event that is refused after steps of a program that stays the same
 pub refused_there : (p q : Program) → q ≡ p → (w m : World) (events : List TraceEvent) (i : ℕ) (steps : List Step) (e : TraceEvent) (fault : EventFault) → slice_get events i ≡ Some e → AreStepsOf p.config w (take i events) m steps
     → Refuses q.config m e fault → IsRefusedAt p.config w events i fault
 refused_there p q same w m events i steps e fault at are why =

@@ -89,7 +89,7 @@ module _ (p : Program) (w x : World) (t : ℕ) (report : Report) (whole : IsWhol
       let steps = ap (run p.config whole.begun []) (sym (instructions_are t whole.count)) ∙ whole.steps ∙ ap (λ rs. Ok (whole.ended, rs)) (replies_are whole.count) in
       (record { started = whole.begun; start = whole.start; rest = record { at_end = whole.ended; finish = record { instructions = whole.count; steps = steps }; report = report; commit = whole.commit } }, refl)
 
-  -- behind it no scan is open, if none was
+  -- after it no scan is open, if none was
   pub closes : IsRunnable p.config → IsReached p.config w → IsClosed w → IsClosed x
   closes runs reached closed = scan_closes p.config (sound_of p.config runs) t w x reached scans.0 closed
 

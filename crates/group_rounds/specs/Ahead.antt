@@ -25,7 +25,7 @@ pub record IsAhead {X : Type 0} (round : X → ℕ) (n : ℕ) (all rest : List X
   pub rises : Rises round n rest
   pub same : (k : ℕ) → n ≤ k → of_round round k rest ≡ of_round round k all
 
--- what is set in a round, and the rest of all settings behind it
+-- what is set in a round, and the rest of all settings after it
 pub record IsStanding (cars : ℕ) (all : List Setting) (n : ℕ) (switches : Switches) (later : List Setting) : Type 0 where
   pub is : switches ≡ switches_in cars all n
   pub rest : IsAhead setting_round (n + 1) all later

@@ -16,7 +16,7 @@ use Rattle.group_rounds.specs.declared.along.Stop.TheVariants.{Refused, Memory}
 abbrev pub RepliesTo : Config → World → Event → Reply → World → Type 0
 RepliesTo c w event reply v = (happens c w event ≡ Ok (v, reply)) × IsAccepted reply
 
--- an event of a trace is taken with this reply; a commit comes behind the rest of its scan, and the reply is that to the commit
+-- an event of a trace is taken with this reply; a commit comes after the rest of its scan, and the reply is that to the commit
 abbrev pub TakesWith : Config → World → TraceEvent → Reply → World → Type 0
 TakesWith c w (traced.Start t) reply v = RepliesTo c w (Start t) reply v
 TakesWith c w (traced.Commit t) reply v = (rest : FinishesAndCommits c t w v) × (reply ≡ Committed rest.report)
@@ -24,7 +24,7 @@ TakesWith c w (traced.Press call) reply v = RepliesTo c w (Press call) reply v
 TakesWith c w (traced.Gather floor) reply v = RepliesTo c w (Gather floor) reply v
 TakesWith c w (traced.Refresh fields) reply v = RepliesTo c w (Refresh fields) reply v
 
--- an event of a trace, what the world replied to it, and the world behind it
+-- an event of a trace, what the world replied to it, and the world after it
 pub record Step : Type 0 where
   pub event : TraceEvent
   pub reply : Reply
@@ -38,7 +38,7 @@ Lead c w (s ∷ steps) v = TakesWith c w s.event s.reply s.after × Lead c s.aft
 abbrev pub event_of : Step → TraceEvent
 event_of s = s.event
 
--- a trace's events are taken, one behind the other, in these steps
+-- a trace's events are taken, one after the other, in these steps
 pub record AreStepsOf (c : Config) (w : World) (events : List TraceEvent) (v : World) (steps : List Step) : Type 0 where
   pub of : map event_of steps ≡ events
   pub lead : Lead c w steps v

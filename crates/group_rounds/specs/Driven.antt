@@ -42,7 +42,7 @@ abbrev pub set_of : Switches → Set → Switches
 set_of before (Fire fire) = record before { fire = fire }
 set_of before (RunLimit run_limit) = record before { run_limit = run_limit }
 
--- and with each of these set, one behind the other
+-- and with each of these set, one after the other
 abbrev pub set_all : Switches → List Setting → Switches
 set_all before [] = before
 set_all before (s ∷ settings) = set_all (set_of before s.set) settings

@@ -11,7 +11,7 @@ use Rattle.group_rounds.specs.Shown.{ScansReporting}
 use Rattle.group_rounds.specs.declared.notice.Notice.{Notice}
 use Rattle.group_rounds.specs.Notices.{refresh_notices, commit_notices}
 
--- a whole scan of each of some tasks, one behind the other, and what they have to tell
+-- a whole scan of each of some tasks, one after the other, and what they have to tell
 abbrev pub ScansNoticed : Config → List ℕ → World → World → List Notice → Type 0
 ScansNoticed c [] w v notices = (w ≡ v) × (notices ≡ [])
 ScansNoticed c (t ∷ tasks) w v notices = (m : World) × (report : Report) × (rest : List Notice) × ScansReporting c t w m report × ScansNoticed c tasks m v rest × (notices ≡ commit_notices t report ++ rest)

@@ -18,7 +18,7 @@ pub record Commit : Type 0 where
   pub task : ℕ
   pub report : Report
 
--- what an observer writes, by the number of the round: of the report of its refresh, of that of a task's commit, and of the world behind it and
+-- what an observer writes, by the number of the round: of the report of its refresh, of that of a task's commit, and of the world after it and
 -- of all commits so far, in their order
 pub record Shows : Type 0 where
   pub of_refresh : ℕ → Report → List ℕ
@@ -57,7 +57,7 @@ rounds_commits c calls switches (suc n) plant w entries (before, u, earlier, las
 abbrev pub commits_text : Shows → ℕ → List Commit → List ℕ
 commits_text s n commits = flat_map (λ (c : Commit). s.of_commit n c.task c.report) commits
 
--- what it writes of a round behind earlier commits: of its refresh, of its commits, and of the world behind it
+-- what it writes of a round after earlier commits: of its refresh, of its commits, and of the world after it
 abbrev pub sight_text : Shows → ℕ → List Commit → Report → List Commit → World → List ℕ
 sight_text s n earlier refresh commits v = s.of_refresh n refresh ++ (commits_text s n commits ++ s.of_round n (earlier ++ commits) v)
 

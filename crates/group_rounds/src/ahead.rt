@@ -68,7 +68,7 @@ fn set_of(before: Switches, set: Set) -> Switches
     }
 }
 
-// The same with each of these set.
+// FIRE and RUNLIMIT, with each of these set.
 fn set_all(before: Switches, settings: &[Setting]) -> Switches
     ensures { result ≡ set_all before settings.now }
 {

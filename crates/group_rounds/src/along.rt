@@ -62,7 +62,7 @@ fn committed(world: &mut World, task: u8, report: &mut Report) -> Result<Reply, 
     Ok(Reply::Committed)
 }
 
-/// One event of a trace, unless it is refused, and what the world replied to it. A commit comes behind the rest of its task's scan, and the reply is that
+/// One event of a trace, unless it is refused, and what the world replied to it. A commit comes after the rest of its task's scan, and the reply is that
 /// to the commit.
 pub fn reply_to(
     world: &mut World,

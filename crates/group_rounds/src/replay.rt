@@ -17,7 +17,7 @@ pub struct Refused {
     pub fault: EventFault,
 }
 
-/// One event of a trace, unless it is refused. A commit comes behind the rest of its task's scan.
+/// One event of a trace, unless it is refused. A commit comes after the rest of its task's scan.
 pub fn take(world: &mut World, event: &TraceEvent, report: &mut Report) -> Result<(), EventFault>
     ensures taken { OnOk result (Takes world.old.program.config world.old.world event.now
         world.new.world) }
@@ -33,7 +33,7 @@ pub fn take(world: &mut World, event: &TraceEvent, report: &mut Report) -> Resul
     }
 }
 
-/// The events of a trace, one behind the other, up to the first that is refused. No allocation.
+/// The events of a trace, one after the other, up to the first that is refused. No allocation.
 pub fn replay(world: &mut World, events: &Trace<'_>) -> Result<(), Refused>
     ensures taken { OnOk result (TakesAll world.old.program.config world.old.world events.now
         world.new.world) }
@@ -44,7 +44,7 @@ pub fn replay(world: &mut World, events: &Trace<'_>) -> Result<(), Refused>
     replay_first(world, events, events.len())
 }
 
-/// The first so many events of a trace, one behind the other, up to the first that is refused. No allocation.
+/// The first so many events of a trace, one after the other, up to the first that is refused. No allocation.
 pub fn replay_first(world: &mut World, events: &Trace<'_>, count: usize) -> Result<(), Refused>
     ensures taken { OnOk result (TakesAll world.old.program.config world.old.world
         (take count events.now) world.new.world) }

@@ -276,7 +276,7 @@ pub fn simulate(
     simulate_before(alloc, verified, drive, rounds, &mut Nobody)
 }
 
-/// The same before an observer, who writes of each round.
+/// The journal of so many rounds, simulated before an observer, who writes of each round.
 pub fn simulate_before<O: Observer>(
     alloc: Global,
     verified: Verified,

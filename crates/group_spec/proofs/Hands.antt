@@ -38,19 +38,19 @@ has_from_by_mask (member ∷ calls) floor =
       | inr e ↦ rw (cond-false _ (member ∷ calls_from floor calls) (calls_from floor calls) e, e) (has_from_by_mask calls floor)
     ]
 
--- a call that stands behind each of these is put behind them
+-- a call that follows each of these is put after them
 with_behind :
     (xs ys : List Call) (added : Call) → Every (λ member. (is_before added member ≡ false) × (same_call member added ≡ false)) xs → with_call (xs ++ ys) added ≡ xs ++ with_call ys added
 with_behind [] ys added h = refl
 with_behind (x ∷ xs) ys added h =
     cond-false _ _ _ h.0.0 ∙ cond-false _ _ _ h.0.1 ∙ ap (λ rest. x ∷ rest) (with_behind xs ys added h.1)
 
--- a call that stands before each of these is put before them
+-- a call that comes before each of these is put before them
 with_before : (ys : List Call) (added : Call) → Every (λ member. is_before added member ≡ true) ys → with_call ys added ≡ added ∷ ys
 with_before [] added h = refl
 with_before (y ∷ ys) added h = cond-true _ _ _ h.0
 
--- a call that stands before each of the latter is put among the former
+-- a call that comes before each of the latter is put among the former
 with_among :
     (xs ys : List Call) (added : Call) → Every (λ member. is_before added member ≡ true) ys → with_call (xs ++ ys) added ≡ with_call xs added ++ ys
 with_among [] ys added h = with_before ys added h
@@ -372,7 +372,7 @@ orders_append [] ys h k all = k
 orders_append (x ∷ []) ys h k all = first_order x ys all.0 k
 orders_append (x ∷ z ∷ xs) ys h k all = (h.0, orders_append (z ∷ xs) ys h.1 k all.1)
 
--- the calls of words stand in the order of (from, to)
+-- the calls of words are in the order of (from, to)
 pub words_order : (from : ℕ) (words : List ℕ) → IsInOrder (calls_of_words_from from words)
 unfolding calls_of_words_from
 words_order from [] = tt

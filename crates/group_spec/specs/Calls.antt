@@ -104,7 +104,7 @@ told_at calls slot ticket car (Some (Waiting other call)) =
 unfoldable pub tell : Calls → ℕ → ℕ → ℕ → Calls × Answer
 tell calls slot ticket car = told_at calls slot ticket car (slot_at calls.slots slot)
 
--- what a serve does to the slot that stands there (own rule)
+-- what a serve does to the slot that is there (own rule)
 abbrev pub served_at : Calls → ℕ → ℕ → ℕ → Option Slot → Calls × Answer
 served_at calls slot ticket car None = (calls, NoSlot)
 served_at calls slot ticket car (Some Free) = (calls, Stale)

@@ -7,7 +7,7 @@ use Rattle.group_spec.specs.declared.calls.Call.{Call}
 abbrev pub same_call : Call → Call → Bool
 same_call a b = (a.from == b.from) && (a.to == b.to)
 
--- whether a call stands before another in the order of (from, to)
+-- whether a call comes before another in the order of (from, to)
 abbrev pub is_before : Call → Call → Bool
 is_before a b = nat_lt a.from b.from || ((a.from == b.from) && nat_lt a.to b.to)
 
@@ -49,12 +49,12 @@ calls_not_from floor set = filter (λ call. not (is_from floor call)) set
 abbrev pub mask_of : List Call → ℕ
 mask_of calls = sum_by (λ call. 2 ^ (call.to - 1)) calls
 
--- the members stand in the order of (from, to), each once
+-- the members are in the order of (from, to), each once
 abbrev pub FirstIsBehind : Call → List Call → Type 0
 FirstIsBehind call [] = Unit {0}
 FirstIsBehind call (next ∷ calls) = is_before call next ≡ true
 
--- the members stand in the order of (from, to), each once (own rule)
+-- the members are in the order of (from, to), each once (own rule)
 abbrev pub IsInOrder : List Call → Type 0
 IsInOrder [] = Unit {0}
 IsInOrder (call ∷ calls) = FirstIsBehind call calls × IsInOrder calls

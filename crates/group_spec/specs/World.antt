@@ -38,7 +38,7 @@ pub record Group : Type 0 where
   pub globals : Values
   pub tasks : List (Option TaskState)
 
--- the group, where the open scan of each task stands, the calls on the desk and those in the hand
+-- the group, where the open scan of each task is, the calls on the desk and those in the hand
 pub record World : Type 0 where
   pub group : Group
   pub scans : List (Option State)
@@ -50,7 +50,7 @@ pub data Halt : Type 0 where
   Traps : Trap → Halt
   Sticks : Halt
 
--- where a world and its reply stand, or why there is none
+-- where a world and its reply are, or why there is none
 abbrev pub Next : Type 0
 Next = Result (World × Reply) Halt
 
@@ -130,7 +130,7 @@ stepped w t (Trapped trap) = Err (Traps trap)
 stepped w t Stuck = Err Sticks
 stepped w t (Goes s) = Ok (record w { scans = slice_set w.scans t (Some s) }, reply_to s)
 
--- Instruction behind the end of the scan, 61, or before it (own rule)
+-- Instruction after the end of the scan, 61, or before it (own rule)
 abbrev pub instructs_scan : Config → World → ℕ → State → Bool → Next
 instructs_scan p w t scan true = refuses w NoOpenScan
 instructs_scan p w t scan false = stepped w t (scan_step p scan)
@@ -214,7 +214,7 @@ abbrev pub tickets_or_none : Option (List (Option ℕ)) → List (Option ℕ)
 tickets_or_none None = []
 tickets_or_none (Some tickets) = tickets
 
--- Commit before the end of the scan, 63, or behind it (own rule)
+-- Commit before the end of the scan, 63, or after it (own rule)
 abbrev pub commits_ended : Config → World → ℕ → TaskState → State → Bool → Next
 commits_ended p w t task scan false = refuses w NotAtEnd
 commits_ended p w t task scan true =

@@ -24,7 +24,7 @@ pub enum EventFault {
     /// The time, RUNLIMIT or a position, or another number of cars.
     #[error("a field out of range")]
     FieldOutOfRange,
-    /// An Instruction or a Commit where no scan of the task is open, or an Instruction behind its end.
+    /// An Instruction or a Commit where no scan of the task is open, or an Instruction after its end.
     #[error("no open scan")]
     NoOpenScan,
     /// A Start where a scan of the task is open.
@@ -57,7 +57,7 @@ impl EventFault {
     }
 }
 
-/// The reply to an event. The report of a commit or a refresh stands beside it, so that a reply is small.
+/// The reply to an event. The report of a commit or a refresh is beside it, so that a reply is small.
 #[derive(Clone, Copy, Debug, Drop, PartialEq, Eq)]
 pub enum Reply {
     Started,

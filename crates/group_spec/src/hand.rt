@@ -91,7 +91,7 @@ impl Hand {
         self.first().is_none()
     }
 
-    /// The members stand in the order of (from, to), each once.
+    /// The members are in the order of (from, to), each once.
     pub fn in_order(&self)
         ensures { IsInOrder self.now }
     {

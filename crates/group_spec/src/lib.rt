@@ -1,5 +1,5 @@
 //! What a lift group is: its image, calls, events, reports and traces.
-//! The definitions that every layer of the group cites stand in `specs/`.
+//! The definitions that every layer of the group cites are in `specs/`.
 #![tactic(auto)]
 
 mod bounds;

@@ -29,7 +29,7 @@ behind_shorter (x ∷ line) rest = let more : length rest < length (line ++ (10 
 pub next_shorter : (text line rest : List ℕ) → IsNext text line rest → length rest < length text
 next_shorter text line rest h = subst (λ (t : List ℕ). length rest < length t) (sym h.whole) (behind_shorter line rest)
 
--- what is behind a line of a variable is shorter
+-- what follows a line of a variable is shorter
 pub variable_shorter : (path : Text) (scalar : Scalar) (initial : Option Value) (text behind : List ℕ) (value : Value) → TakesVariable path scalar initial text value behind → length behind < length text
 variable_shorter path scalar initial text behind value h = next_shorter text h.line behind h.next
 

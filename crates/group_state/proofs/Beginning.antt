@@ -87,7 +87,7 @@ splits_fit text lines piece s =
     let long : length text ≡ length (text_of_lines lines) + length piece = ap length s.whole ∙ length-append (text_of_lines lines) piece in
     omega (arith, fits, long)
 
--- a fault is in a line of the text, or in the one behind them
+-- a fault is in a line of the text, or in the one after them
 pub fault_fits : (cars : ℕ) (text : List ℕ) (why : TraceFault) → RefusesFront cars text why → fault_line why ≤ length text + 1
 fault_fits cars text (BadLine line) h =
     elim h [
@@ -103,11 +103,11 @@ fault_fits cars text (Truncated line) h = let at : line ≡ 1 = h.2 in omega (ar
 fault_fits cars text Write h = absurd h
 fault_fits cars text Memory h = omega arith
 
--- behind a state the text of the events is as long as what is there, and a first line
+-- after a state the text of the events is as long as what is there, and a first line
 pub events_long : (rest : List ℕ) → length (events_text rest) ≡ 12 + length rest
 events_long rest = let long : length (trace_line Two ++ (10 ∷ rest)) ≡ 11 + length (10 ∷ rest) = length-append (trace_line Two) (10 ∷ rest) in omega (arith, long)
 
--- behind a state of so many lines
+-- after a state of so many lines
 pub few_events : (cars lines : ℕ) (rest : List ℕ) (events : List TraceEvent) (cut : Option ℕ) → lines + length rest + 11 ≤ greatest_trace → ReadsFront cars (events_text rest) events cut → lines + length events ≤ greatest_trace
 few_events cars lines rest events cut room h =
     let fit : 12 + length events ≤ length (events_text rest) = (events_fit cars (events_text rest) events cut h).0 in
@@ -128,7 +128,7 @@ fault_behind_fits cars lines rest why room h =
     let low : lines + length rest + 11 ≤ 67108864 = room in
     omega (arith, fit, long, low)
 
--- behind the opening
+-- after the opening
 pub few_opened : (cars : ℕ) (text : List ℕ) (events others : List TraceEvent) (cut : Option ℕ) (lines : ℕ) → ReadsFront cars text events cut → others ≡ events → lines ≡ 1 → lines + length others ≤ greatest_trace
 few_opened cars text events others cut lines h same one =
     let fit = events_fit cars text events cut h in
@@ -189,7 +189,7 @@ no_one_line : (line rest : List ℕ) → IsOneLine (line ++ (10 ∷ rest)) → �
 no_one_line [] rest one = one.0 refl
 no_one_line (byte ∷ line) rest one = no_one_line line rest one.1
 
--- lines behind a state
+-- lines after a state
 pub eventless : (cars lines : ℕ) (rest : List ℕ) (why : TraceFault) (fault : Fault) → RefusesFront cars (events_text rest) why → fault ≡ fault_behind (lines - 1) why → IsEventless cars lines rest fault
 eventless cars lines rest (BadLine place) fault h is = subst (IsEventless cars lines rest) (sym is) (place, h, refl, refl)
 eventless cars lines rest (Truncated place) fault h is = absurd (no_one_line (trace_line Two) rest h.1)

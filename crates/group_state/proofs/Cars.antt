@@ -37,12 +37,12 @@ three_motors P still up down o = by o.motor refl
     by Up is = up o is
     by Down is = down o is
 
--- what is behind the fields of a car begins with a space
+-- what follows the fields of a car begins with a space
 pub outputs_end : (o : CarOutputs) → Ends 32 (outputs_part o)
 unfolding outputs_part
 outputs_end o = refl
 
--- what is behind its number
+-- what follows its number
 pub fields_end : (f : CarFields) (rest : List ℕ) → Ends 32 (car_part f ++ rest)
 unfolding car_part
 fields_end f rest = refl
@@ -68,7 +68,7 @@ cars_many sizes number text rest [] (o ∷ outputs) h = absurd h
 cars_many sizes number text rest (f ∷ fields) [] h = absurd h
 cars_many sizes number text rest (f ∷ fields) (o ∷ outputs) h = let more = cars_many sizes (number + 1) h.0 rest fields outputs h.2 in omega (arith, more)
 
--- what is behind CAR
+-- what follows CAR
 pub car_parts : (number : ℕ) (line parts : List ℕ) (car : Car) → SaysCar number car line → line ≡ codes "CAR" ++ parts → parts ≡ part number ++ (car_part car.fields ++ outputs_part car.outputs)
 unfolding car_line
 car_parts number line parts car says e = cancel (codes "CAR") parts (part number ++ (car_part car.fields ++ outputs_part car.outputs)) (sym e ∙ says.1)

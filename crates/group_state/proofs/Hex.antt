@@ -5,7 +5,7 @@ use Rattle.group_state.specs.Text.{hex_digit, hex_text, configuration_line}
 use Rattle.group_state.specs.Saying.{SaysConfiguration}
 use Rattle.group_state.proofs.Words.{cancel}
 
--- the two digits at a byte's place, and those behind them
+-- the two digits at a byte's place, and those after them
 pub two_digits : (digits bytes : List ℕ) (k : ℕ) → k < length bytes → length digits ≡ 2 * length bytes → drop (2 * k) digits ≡ get_or digits (2 * k) 0 ∷ get_or digits (2 * k + 1) 0 ∷ drop (2 * (k + 1)) digits
 two_digits digits bytes k h many =
     let one : suc (2 * k) ≡ 2 * k + 1 = omega arith in

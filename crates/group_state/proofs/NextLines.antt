@@ -6,7 +6,7 @@ use Rattle.group_state.specs.declared.fault.StateFault.{StateFault}
 use Rattle.group_state.specs.declared.fault.StateFault.TheVariants.{BadLine, Truncated}
 use Rattle.group_state.specs.Lines.{IsNext, Refuses}
 
--- a line feed stands in no line
+-- a line feed is in no line
 pub no_feed : (p m r : List ℕ) → IsOneLine p → p ≡ m ++ (10 ∷ r) → ⊥
 no_feed [] [] r h e = absurd (cc)
 no_feed [] (y ∷ m) r h e = absurd (cc)

@@ -1,4 +1,4 @@
--- Texts of lines, one behind another.
+-- Texts of lines, one after another.
 use Rattle.std.proofs.Common.{◌≡◌, ℕ, zero, suc, ◌+◌, ◌≤◌, List, [], ◌∷◌, ◌++◌, length, take, refl, sym, ap, ap₂, ◌∙◌, append_assoc, append-nil, arith, Some, None, Option}
 use Rattle.std.specs.Prelude.{flat_map, slice_get, option_and_then}
 use Rattle.il_syntax.specs.declared.tree.Config.{Config}

@@ -100,7 +100,7 @@ no_waiting text none Free h = h
 no_waiting text none (Waiting t call) h = none t call [] h.0.0 h.0.1 tt (h.1 ∙ ap (λ (l : List ℕ). part t ++ (part call.from ++ l)) (sym (append-nil (part call.to))))
 no_waiting text none (Told t call car) h = h
 
--- what is behind the call of a slot that waits, and of one that is told
+-- what follows the call of a slot that waits, and of one that is told
 module _ (text : List ℕ) (t : ℕ) (call : Call) (rest : List ℕ) (few : t ≤ greatest_ticket) (small : HasSmallFloors call) (is : text ≡ part t ++ (part call.from ++ (part call.to ++ rest))) (ends : Ends 32 rest) where
   pub waiting_ends : (slot : Slot) → IsWaiting text slot → rest ≡ []
   waiting_ends Free h = absurd h
@@ -127,7 +127,7 @@ slots_more sizes last earlier text behind rest (x ∷ slots) slot h k =
     let flat : earlier ++ (x ∷ slots) ≡ (earlier ++ x ∷ []) ++ slots = sym (append_assoc earlier (x ∷ []) slots) in
     (h.0, h.1, slots_more sizes last (earlier ++ x ∷ []) h.0 behind rest slots slot h.2 (subst (λ (xs : List Slot). TakesSlot sizes last xs (length xs + 1) behind slot rest) flat k))
 
--- what is behind SLOT
+-- what follows SLOT
 pub slot_parts : (number : ℕ) (line parts : List ℕ) (slot : Slot) → SaysSlot number slot line → line ≡ codes "SLOT" ++ parts → parts ≡ part number ++ slot_part slot
 unfolding slot_line
 slot_parts number line parts slot says e = cancel (codes "SLOT") parts (part number ++ slot_part slot) (sym e ∙ says.1)

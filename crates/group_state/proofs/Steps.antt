@@ -127,7 +127,7 @@ tasks_done c g t n low high is old new e =
 
 -- THE WHOLE
 
--- pieces of a state, one behind another
+-- pieces of a state, one after another
 pub state_put :
     (old t1 t2 t3 t4 t5 t6 t7 t8 first conf tickets : List ℕ) (fields cars slots globals tasks : List (List ℕ)) → t1 ≡ old ++ text_of_lines (first ∷ []) → t2 ≡ t1 ++ text_of_lines (conf ∷ [])
     → t3 ≡ t2 ++ text_of_lines fields → t4 ≡ t3 ++ text_of_lines cars → t5 ≡ t4 ++ text_of_lines (tickets ∷ []) → t6 ≡ t5 ++ text_of_lines slots → t7 ≡ t6 ++ text_of_lines globals → t8 ≡ t7 ++ text_of_lines tasks

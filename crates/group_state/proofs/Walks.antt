@@ -33,13 +33,13 @@ at_place [] k x h e = absurd (omega (arith, h))
 at_place (y ∷ xs) zero x h e = ap Some (sym e)
 at_place (y ∷ xs) (suc k) x h e = at_place xs k x (omega (arith, h)) e
 
--- the element at a place, whatever stands for one that isn't there
+-- the element at a place, whatever means one that isn't there
 pub got : {X : Type 0} (xs : List X) (k : ℕ) (d x : X) → slice_get xs k ≡ Some x → get_or xs k d ≡ x
 got [] k d x e = absurd (cc)
 got (y ∷ xs) zero d x e = same_Some y x e
 got (y ∷ xs) (suc k) d x e = got xs k d x e
 
--- it stands before the rest
+-- it comes before the rest
 pub drop_at : {X : Type 0} (xs : List X) (k m : ℕ) (x : X) → slice_get xs k ≡ Some x → m ≡ k + 1 → drop k xs ≡ x ∷ drop m xs
 drop_at [] k m x e is = absurd (cc)
 drop_at (y ∷ xs) zero m x e is =
@@ -107,7 +107,7 @@ module _ (path : Text → Text) (initial : Values) (cells : List Cell) (k m : �
         subst (λ (cs : List Cell). RefusesVariables path initial cs text line wrong) (sym split_cells)
         (inl (h.0, subst (λ (o : Option Value). RefusesVariable (path cell.path) cell.scalar o text wrong.fault) same h.1))
 
--- behind the last cell
+-- after the last cell
 pub walked : (path : Text → Text) (initial : Values) (cells : List Cell) (k : ℕ) (from : Reached) → length cells ≤ k → TakesVariables path initial (drop k cells) from from
 walked path initial cells k from h = subst (λ (cs : List Cell). TakesVariables path initial cs from from) (sym (nothing_left cells k h)) refl
 
@@ -130,7 +130,7 @@ get_set [] t a b e = absurd (cc)
 get_set (x ∷ xs) zero a b e = refl
 get_set (x ∷ xs) (suc t) a b e = get_set xs t a b e
 
--- behind others
+-- after others
 pub get_behind : {X : Type 0} (done : List X) (x : X) (rest : List X) (k : ℕ) → length done ≡ k → slice_get (done ++ (x ∷ rest)) k ≡ Some x
 get_behind [] x rest zero e = refl
 get_behind [] x rest (suc k) e = absurd (omega (arith, e))

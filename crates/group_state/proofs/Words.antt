@@ -152,7 +152,7 @@ not_within scalar limits number word is fits e out (Integer z) s =
 
 -- THE END
 
--- the last line, and what is behind it
+-- the last line, and what follows it
 pub end_taken : (text line rest : List ℕ) → IsNext text line rest → line ≡ end_line → TakesEnd text rest
 end_taken text line rest next is = next.whole ∙ ap (λ (l : List ℕ). l ++ (10 ∷ rest)) is
 

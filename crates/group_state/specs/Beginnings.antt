@@ -21,25 +21,25 @@ use Rattle.sha2.specs.Sha256.{sha256}
 
 -- LINES BEHIND A STATE
 
--- the lines of events behind a state, as those of a text of format 2 (own rule)
+-- the lines of events after a state, as those of a text of format 2 (own rule)
 abbrev pub events_text : List ℕ → List ℕ
 events_text rest = trace_line Two ++ (10 ∷ rest)
 
--- The line of the whole text that is this one of the events' text, where so many lines stand before the first event. In a text of format 2 that is one line (own rule).
+-- The line of the whole text that is this one of the events' text, where so many lines come before the first event. In a text of format 2 that is one line (own rule).
 abbrev pub line_behind : ℕ → ℕ → ℕ
 line_behind lines line = line + (lines - 1)
 
--- a text is too long for a trace, doesn't begin with the line `LIFTTRACE 3`, or has nothing behind it (own rule)
+-- a text is too long for a trace, doesn't begin with the line `LIFTTRACE 3`, or has nothing after it (own rule)
 abbrev pub HasNoState : List ℕ → Type 0
 HasNoState text = (state : List ℕ) → text ≡ first_line ++ (10 ∷ state) → state ≢ [] → length text ≤ greatest_trace → ⊥
 
 -- WHAT A TRACE IS READ AS
 
--- A trace of a configuration whose text is the source: from this world these events lead, behind so many lines. Where the text is cut off, it ends in that line (own rule).
+-- A trace of a configuration whose text is the source: from this world these events lead, after so many lines. Where the text is cut off, it ends in that line (own rule).
 pub data BeginsTrace (c : Config) (source text : List ℕ) (w : World) (events : List TraceEvent) (lines : ℕ) (cut : Option ℕ) : Type 0 where
-  -- in format 1 or 2 the world is the opening, and the events are behind the first line
+  -- in format 1 or 2 the world is the opening, and the events are after the first line
   opens : w ≡ opening c → lines ≡ 1 → ReadsFront (sizes_of c).cars text events cut → BeginsTrace c source text w events lines cut
-  -- in format 3 the world is that of the state, and the events are behind its lines
+  -- in format 3 the world is that of the state, and the events are after its lines
   goes_on :
       (state : List ℕ) → (begun : Begun) → text ≡ first_line ++ (10 ∷ state) → length text ≤ greatest_trace → IsState c (sha256 source) state begun → w ≡ resting c begun.group → lines ≡ begun.lines
       → (place : Option ℕ) → ReadsFront (sizes_of c).cars (events_text begun.rest) events place → cut ≡ option_map (line_behind lines) place → BeginsTrace c source text w events lines cut
@@ -61,7 +61,7 @@ pub data IsRefusedAt (c : Config) (source text : List ℕ) (number line : ℕ) :
   no_state :
       (state : List ℕ) → (wrong : Wrong) → text ≡ first_line ++ (10 ∷ state) → state ≢ [] → length text ≤ greatest_trace → IsNoState c (sha256 source) state wrong → number ≡ state_fault_number wrong.fault → line ≡ wrong.line
       → IsRefusedAt c source text number line
-  -- behind the state there is a line that is wrong in a text of format 2: 80
+  -- after the state there is a line that is wrong in a text of format 2: 80
   no_events :
       (state : List ℕ) → (begun : Begun) → text ≡ first_line ++ (10 ∷ state) → length text ≤ greatest_trace → IsState c (sha256 source) state begun
       → (place : ℕ) → Reads (sizes_of c).cars (events_text begun.rest) (Err (BadLine place)) → number ≡ 80 → line ≡ line_behind begun.lines place → IsRefusedAt c source text number line

@@ -24,7 +24,7 @@ fault_line (Truncated line) = line
 fault_line Write = 0
 fault_line Memory = 0
 
--- the fault of a trace, where so many lines stand before its text (own rule)
+-- the fault of a trace, where so many lines come before its text (own rule)
 abbrev pub fault_behind : ℕ → TraceFault → Fault
 fault_behind before (BadLine line) = Refused 80 (line + before)
 fault_behind before (Truncated line) = Refused 81 (line + before)
@@ -41,7 +41,7 @@ abbrev pub error_fault : StateError → Fault
 error_fault (error.Unread wrong) = Refused (state_fault_number wrong.fault) wrong.line
 error_fault error.Memory = NoMemory
 
--- why there are no events in what is behind so many lines (own rule)
+-- why there are no events in what follows so many lines (own rule)
 abbrev pub IsEventless : ℕ → ℕ → List ℕ → Fault → Type 0
 IsEventless cars lines rest (Refused number line) =
     (place : ℕ) × Reads cars (events_text rest) (Err (BadLine place)) × (number ≡ 80) × (line ≡ line_behind lines place)

@@ -46,7 +46,7 @@ tickets_at sizes = 6 + sizes.cars
 abbrev pub slot_at : Sizes → ℕ → ℕ
 slot_at sizes number = 6 + sizes.cars + number
 
--- the first line behind the slots (own rule)
+-- the first line after the slots (own rule)
 abbrev pub variables_at : Sizes → ℕ
 variables_at sizes = 7 + sizes.cars + sizes.slots
 
@@ -79,7 +79,7 @@ RefusesTimes sizes text wrong =
 abbrev pub car_of : CarFields → CarOutputs → Car
 car_of fields outputs = record { fields = fields; outputs = outputs }
 
--- lines of cars one behind another, of which the first has this number (own rule)
+-- lines of cars one after another, of which the first has this number (own rule)
 abbrev pub TakesCars : Sizes → ℕ → List ℕ → List CarFields → List CarOutputs → List ℕ → Type 0
 TakesCars sizes number text [] [] rest = text ≡ rest
 TakesCars sizes number text [] (o ∷ outputs) rest = ⊥
@@ -132,7 +132,7 @@ RefusesImage sizes text wrong =
 
 -- CALL SLOTS
 
--- lines of slots one behind another, behind earlier ones (own rule)
+-- lines of slots one after another, after earlier ones (own rule)
 abbrev pub TakesSlots : Sizes → ℕ → List Slot → List ℕ → List Slot → List ℕ → Type 0
 TakesSlots sizes last earlier text [] rest = text ≡ rest
 TakesSlots sizes last earlier text (slot ∷ slots) rest =
@@ -161,7 +161,7 @@ RefusesCalls sizes text wrong =
 
 -- THE HEAD
 
--- What stands before the variables: the configuration, the image and the calls (own rule).
+-- What comes before the variables: the configuration, the image and the calls (own rule).
 pub record TakesHead (sizes : Sizes) (digest text : List ℕ) (image : Image) (calls : Calls) (rest : List ℕ) : Type 0 where
   pub behind_configuration : List ℕ
   pub behind_image : List ℕ

@@ -4,12 +4,12 @@ use Rattle.trace_text.specs.Reading.{IsOneLine}
 use Rattle.group_state.specs.declared.fault.StateFault.{StateFault}
 use Rattle.group_state.specs.declared.fault.StateFault.TheVariants.{BadLine, Truncated}
 
--- a text begins with a line, and this is behind its line feed (own rule)
+-- a text begins with a line, and this is after its line feed (own rule)
 pub record IsNext (text line rest : List ℕ) : Type 0 where
   pub whole : text ≡ line ++ (10 ∷ rest)
   pub one : IsOneLine line
 
--- The next line says this, it holds what has to hold, and this is behind it (own rule).
+-- The next line says this, it holds what has to hold, and this is after it (own rule).
 pub record Takes (X : Type 0) (Says : X → List ℕ → Type 0) (Holds : X → Type 0) (text : List ℕ) (said : X) (rest : List ℕ) : Type 0 where
   pub line : List ℕ
   pub next : IsNext text line rest

@@ -18,19 +18,19 @@ use Rattle.group_state.specs.Saying.{HasSmallNumbers}
 abbrev pub calls_of : Given → Calls
 calls_of given = record { slots = given.slots; last_ticket = given.last_ticket }
 
--- the text behind ` WAITING` is that of a slot that waits (own rule)
+-- the text after ` WAITING` is that of a slot that waits (own rule)
 abbrev pub IsWaiting : List ℕ → Slot → Type 0
 IsWaiting text Free = ⊥
 IsWaiting text (Waiting ticket call) = HasSmallNumbers (Waiting ticket call) × (text ≡ part ticket ++ (part call.from ++ part call.to))
 IsWaiting text (Told ticket call car) = ⊥
 
--- the text behind ` TOLD` is that of a slot that is told (own rule)
+-- the text after ` TOLD` is that of a slot that is told (own rule)
 abbrev pub IsTold : List ℕ → Slot → Type 0
 IsTold text Free = ⊥
 IsTold text (Waiting ticket call) = ⊥
 IsTold text (Told ticket call car) = HasSmallNumbers (Told ticket call car) × (text ≡ part ticket ++ (part call.from ++ (part call.to ++ part car)))
 
--- a text is split into its next line and what is behind it; or no line of it is complete (own rule)
+-- a text is split into its next line and what follows it; or no line of it is complete (own rule)
 abbrev pub IsSplit : List ℕ → Option (Bor (List ℕ) × Bor (List ℕ)) → Type 0
 IsSplit text None = IsOneLine text
 IsSplit text (Some next) = IsNext text next.0.now next.1.now
@@ -40,7 +40,7 @@ abbrev pub IsOwner : Option ℕ → Type 0
 IsOwner None = Unit {0}
 IsOwner (Some t) = t ≤ most_cars
 
--- what stands before their paths (own rule)
+-- what comes before their paths (own rule)
 abbrev pub owner_prefix : Option ℕ → List ℕ
 owner_prefix None = []
 owner_prefix (Some t) = task_name t ++ codes "."

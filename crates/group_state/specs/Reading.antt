@@ -11,7 +11,7 @@ use Rattle.group_state.specs.declared.fault.Wrong.{Wrong}
 use Rattle.group_state.specs.Heads.{IsAt, TakesHead, RefusesHead, variables_at}
 use Rattle.group_state.specs.Variables.{Reached, reached, Left, left, TakesGlobals, RefusesGlobals, TakesTasks, RefusesTasks, TakesEnd, RefusesEnd}
 
--- A group that was read, the text behind its state, and how many lines stand before that, with the first line of the text (own rule).
+-- A group that was read, the text after its state, and how many lines come before that, with the first line of the text (own rule).
 pub record Begun : Type 0 where
   pub group : Group
   pub rest : List ℕ

@@ -176,7 +176,7 @@ HasTicket last earlier Free = Unit {0}
 HasTicket last earlier (Waiting ticket call) = IsGiven last earlier ticket
 HasTicket last earlier (Told ticket call car) = IsGiven last earlier ticket
 
--- The rules for a slot, behind earlier ones (own rule).
+-- The rules for a slot, after earlier ones (own rule).
 pub record SlotHolds (sizes : Sizes) (last : ℕ) (earlier : List Slot) (slot : Slot) : Type 0 where
   pub actors : HasActors sizes slot
   pub way : HasWay slot
@@ -188,7 +188,7 @@ SlotBreaks sizes last earlier slot fault =
     ((fault ≡ NoSuchActor) × (HasActors sizes slot → ⊥))
     ⊎ (((fault ≡ SameFloor) × HasActors sizes slot × (HasWay slot → ⊥)) ⊎ ((fault ≡ Ticket) × HasActors sizes slot × HasWay slot × (HasTicket last earlier slot → ⊥)))
 
--- the next line is that of the slot of this number, behind earlier ones (own rule)
+-- the next line is that of the slot of this number, after earlier ones (own rule)
 abbrev pub TakesSlot : Sizes → ℕ → List Slot → ℕ → List ℕ → Slot → List ℕ → Type 0
 TakesSlot sizes last earlier number text slot rest = Takes Slot (SaysSlot number) (SlotHolds sizes last earlier) text slot rest
 

@@ -171,7 +171,7 @@ tasks_lines c g t (suc count) = task_lines c t (program_of c t) (task_at g t) ++
 abbrev pub image_lines : Image → List (List ℕ)
 image_lines image = fields_lines image.fields ++ cars_lines 1 image.fields.cars image.outputs
 
--- the last line of a state, behind which the events stand (own rule)
+-- the last line of a state, after which the events are (own rule)
 abbrev pub end_line : List ℕ
 end_line = codes "EVENTS"
 
@@ -179,7 +179,7 @@ end_line = codes "EVENTS"
 abbrev pub last_lines : Config → Group → List (List ℕ)
 last_lines c g = globals_lines c g.globals ++ (tasks_lines c g 0 (suc (sizes_of c).cars) ++ end_line ∷ [])
 
--- The lines behind the first, of a configuration whose text has this digest. Of the world there is nothing but the group (own rule).
+-- The lines after the first, of a configuration whose text has this digest. Of the world there is nothing but the group (own rule).
 abbrev pub state_lines : Config → List ℕ → World → List (List ℕ)
 state_lines c digest w =
     (configuration_line (hex_text digest) ∷ []) ++ (image_lines w.group.image ++ (calls_lines w.group.calls ++ last_lines c w.group))

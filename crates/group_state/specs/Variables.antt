@@ -25,7 +25,7 @@ use Rattle.group_state.specs.Heads.{IsAt}
 
 -- ONE LINE
 
--- a line is one of the variable of this path: it has this word behind the path (own rule)
+-- a line is one of the variable of this path: it has this word after the path (own rule)
 pub record IsOfVariable (path : Text) (line word : List ℕ) : Type 0 where
   pub spelled : line ≡ variable_line path word
   pub one_word : Without 32 word
@@ -74,7 +74,7 @@ pub record RefusesVariable (path : Text) (scalar : Scalar) (initial : Option Val
 
 -- ALL CELLS
 
--- Where the reading of variables stands: their values, the text that is left, and the number of its first line (own rule).
+-- Where the reading of variables is: their values, the text that is left, and the number of its first line (own rule).
 pub record Reached : Type 0 where
   pub values : Values
   pub rest : List ℕ
@@ -153,7 +153,7 @@ RefusesTasks c t (suc count) from wrong =
 
 -- THE END
 
--- a text begins with the last line of a state, and this is behind it (own rule)
+-- a text begins with the last line of a state, and this is after it (own rule)
 abbrev pub TakesEnd : List ℕ → List ℕ → Type 0
 TakesEnd text rest = text ≡ end_line ++ (10 ∷ rest)
 

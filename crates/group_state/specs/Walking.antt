@@ -12,7 +12,7 @@ use Rattle.group_state.specs.Variables.{Reached, reached, Left, left, TakesGloba
 use Rattle.group_state.specs.Heads.{IsAt}
 use Rattle.group_state.specs.Reading.{Begun}
 
--- what is behind some lines (own rule)
+-- what follows some lines (own rule)
 abbrev pub left_of : Behind → Left
 left_of b = left b.rest.now b.line
 
@@ -40,7 +40,7 @@ pub record ReadsTasks (c : Config) (before : Group) (from : Behind) (after : Gro
   pub takes : TakesTasks c 0 (suc (sizes_of c).cars) (left_of from) after.tasks (left_of to)
   pub others : after ≡ with_tasks before after.tasks
 
--- all variables are read, and the last line behind them (own rule)
+-- all variables are read, and the last line after them (own rule)
 pub record ReadsVariables (c : Config) (before : Group) (from : Behind) (after : Group) (to : Behind) : Type 0 where
   pub between : Left
   pub globals : TakesGlobals c from.rest.now from.line (reached after.globals between.rest between.line)

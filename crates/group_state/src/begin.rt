@@ -1,4 +1,4 @@
-// How a trace begins, in any format, and what stands in it.
+// How a trace begins, in any format, and what is in it.
 
 ghost use Rattle.std.specs.Prelude.{◌≡◌, ◌≢◌, ◌≤◌, ◌<◌, ◌+◌, ◌-◌, ◌^◌, ℕ, List, length, option_map, Option, IfOk, IfErr, IfSome, IfNone};
 ghost use Rattle.cli_host.specs.declared.status.Fault.TheVariants.{NoMemory};
@@ -23,18 +23,18 @@ use trace_text::format::Format;
 use trace_text::read::{Front, GREATEST_TRACE, read_events, read_front};
 use trace_text::trace::Trace;
 
-/// How a trace begins and what stands in it.
+/// How a trace begins and what is in it.
 pub struct Beginning<'t> {
     /// The world from which the events lead: the opening, or in format 3 that of the state.
     pub world: World,
     pub events: Trace<'t>,
-    /// How many lines stand before the first event: 1, or those of the state and the first line.
+    /// How many lines come before the first event: 1, or those of the state and the first line.
     pub lines: u32,
     /// In which line the text is cut off, if it isn't whole.
     pub cut: Option<u32>,
 }
 
-// The state in a text of format 3, and what is behind it; none where the text is of another format, too long, or nothing but its first line.
+// The state in a text of format 3, and what follows it; none where the text is of another format, too long, or nothing but its first line.
 fn state_of(text: &[u8]) -> Option<&[u8]>
     ensures found { IfSome result (λ state. IsStateOf text.now state.now) }
     ensures none { IfNone result (HasNoState text.now) }
@@ -61,7 +61,7 @@ fn refused(why: LineFault, line: u32) -> Fault
     }
 }
 
-// What is wrong with a trace, where so many lines stand before its text.
+// What is wrong with a trace, where so many lines come before its text.
 fn fault_of(fault: TraceFault, before: u32) -> Fault
     requires read { fault ≢ TraceFault.Write }
     requires room { fault_line fault + before < 2 ^ 32 }
@@ -89,7 +89,7 @@ fn fault_of_state(error: StateError) -> Fault
     }
 }
 
-// A trace of events behind the opening.
+// A trace of events after the opening.
 fn opened<'t>(alloc: Global, verified: Verified, front: Front<'t>) -> Result<Beginning<'t>, Fault>
     ensures world { IfOk result (λ b. b.world.world ≡ opening verified.config) }
     ensures same { IfOk result (λ b. b.world.program ≡ verified) }
@@ -143,7 +143,7 @@ fn resumed(alloc: Global, verified: Verified, core: Core) -> Result<World, Refus
     Ok(world)
 }
 
-// In which line a trace is cut off, where so many lines stand before its text.
+// In which line a trace is cut off, where so many lines come before its text.
 fn moved(cut: Option<u32>, lines: u32) -> Option<u32>
     requires lines { 1 ≤ lines }
     requires room { IfSome cut (λ line. line_behind lines line < 2 ^ 32) }
@@ -155,7 +155,7 @@ fn moved(cut: Option<u32>, lines: u32) -> Option<u32>
     }
 }
 
-// A trace of events behind a state.
+// A trace of events after a state.
 fn follow<'t>(alloc: Global, verified: Verified, begun: Begun<'t>) -> Result<Beginning<'t>, Fault>
     requires program { begun.core.config ≡ verified.config }
     requires seated { IsSeated begun.core.config begun.core.group }
@@ -220,7 +220,7 @@ fn go_on<'t>(
 }
 
 /// Reads a trace, in any format, of the configuration whose text is `source`: the world from which its events lead, the events, and
-/// behind how many lines they stand. The text may be cut off behind its first line, in format 3 behind the lines of its state. A fault
+/// after how many lines they are. The text may be cut off after its first line, in format 3 after the lines of its state. A fault
 /// has number and line of the first wrong line: 80 or 81 of a trace, or a number of a state ([`crate::fault::StateFault`]). A state of
 /// another text is 85 (own rule). The events stay in the text; reading takes a time that grows with it, and memory for the state alone.
 pub fn begin<'t>(

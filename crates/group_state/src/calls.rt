@@ -22,7 +22,7 @@ use trace_text::parts::small_number;
 // The greatest ticket.
 const GREATEST_TICKET: u64 = 9_223_372_036_854_775_807;
 
-// A ticket and the floors of a call, and what is behind them.
+// A ticket and the floors of a call, and what follows them.
 fn ticket_and_call(text: &[u8]) -> Option<(u64, Call, &[u8])>
     ensures found { IfSome result (λ p. (p.0 ≤ greatest_ticket) × HasSmallFloors p.1
         × (text.now ≡ part p.0 ++ (part p.1.from ++ (part p.1.to ++ p.2.now))) × Ends 32 p.2.now) }
@@ -36,7 +36,7 @@ fn ticket_and_call(text: &[u8]) -> Option<(u64, Call, &[u8])>
     Some((ticket, Call { from, to }, rest))
 }
 
-// A slot that waits: its ticket and its call, and nothing behind them.
+// A slot that waits: its ticket and its call, and nothing after them.
 fn waiting(text: &[u8]) -> Option<Slot>
     ensures found { IfSome result (λ slot. IsWaiting text.now slot) }
     ensures none { IfNone result ((slot : SlotOf) → IsWaiting text.now slot → ⊥) }
@@ -48,7 +48,7 @@ fn waiting(text: &[u8]) -> Option<Slot>
     Some(Slot::Waiting { ticket, call })
 }
 
-// A slot that is told: its ticket, its call and its car, and nothing behind them.
+// A slot that is told: its ticket, its call and its car, and nothing after them.
 fn told(text: &[u8]) -> Option<Slot>
     ensures found { IfSome result (λ slot. IsTold text.now slot) }
     ensures none { IfNone result ((slot : SlotOf) → IsTold text.now slot → ⊥) }
@@ -182,7 +182,7 @@ fn broken(sizes: Sizes, last: u64, earlier: &[Slot], slot: &Slot) -> Option<Stat
     None
 }
 
-// The slot of the next line, which has to be the one behind the earlier slots, and what is behind the line.
+// The slot of the next line, which has to be the one after the earlier slots, and what follows the line.
 fn take_slot<'a>(
     sizes: Sizes,
     last: u64,
@@ -205,7 +205,7 @@ fn take_slot<'a>(
     Ok((slot, rest))
 }
 
-// The line of each slot, and what is behind them.
+// The line of each slot, and what follows them.
 fn take_slots(
     sizes: Sizes,
     last: u64,
@@ -243,7 +243,7 @@ pub struct Given {
     pub slots: Bounded<Slot, SLOT_PLACES>,
 }
 
-/// The last ticket and the slots, and what is behind their lines.
+/// The last ticket and the slots, and what follows their lines.
 pub fn take_calls(sizes: Sizes, text: &[u8]) -> Result<(Given, &[u8]), Wrong>
     requires { sizes.slots ≤ SLOT_PLACES }
     ensures found { IfOk result (λ p. TakesCalls sizes text.now (calls_of p.0) p.1.now) }

@@ -60,7 +60,7 @@ fn outputs_with(text: &[u8], motor: Motor) -> Option<CarOutputs>
     None
 }
 
-// The outputs of a car, and nothing behind them.
+// The outputs of a car, and nothing after them.
 fn outputs_of(text: &[u8]) -> Option<CarOutputs>
     ensures found { IfSome result (λ o. text.now ≡ outputs_part o) }
     ensures none { IfNone result ((o : OutputsOf) → text.now ≡ outputs_part o → ⊥) }
@@ -90,7 +90,7 @@ fn car_of(number: u8, line: &[u8]) -> Option<Car>
     Some(Car { fields, outputs })
 }
 
-/// The car of the next line, which has to be that of this number, and what is behind the line.
+/// The car of the next line, which has to be that of this number, and what follows the line.
 pub fn take_car(sizes: Sizes, number: u8, text: &[u8]) -> Result<(Car, &[u8]), StateFault>
     ensures found { IfOk result (λ p. TakesCar sizes number text.now p.0 p.1.now) }
     ensures wrong { IfErr result (λ fault. RefusesCar sizes number text.now fault) }

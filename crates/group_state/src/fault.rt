@@ -33,7 +33,7 @@ pub enum StateFault {
     /// The ticket of a slot is 0, was not given yet, or is that of an earlier slot.
     #[error("no slot can have this ticket")]
     Ticket,
-    /// A variable is unknown, stands twice or out of order, or has its initial value.
+    /// A variable is unknown, is twice or out of order, or has its initial value.
     #[error("no line of this variable can stand here")]
     NoVariable,
     /// The value of a variable is not of its declared set.

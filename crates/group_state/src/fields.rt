@@ -15,7 +15,7 @@ use group_spec::{Bounded, CAR_PLACES, CarFields, Fields, Image, MOST_CARS, Outpu
 // The greatest NOW, in milliseconds.
 const LATEST: u64 = 2_147_483_647;
 
-// TRUE or FALSE, behind FIRE.
+// TRUE or FALSE, after FIRE.
 fn fire_of(line: &[u8]) -> Option<bool>
     ensures found { IfSome result (λ fire. SaysFire fire line.now) }
     ensures none { IfNone result ((fire : Bool) → SaysFire fire line.now → ⊥) }
@@ -29,7 +29,7 @@ fn fire_of(line: &[u8]) -> Option<bool>
     }
 }
 
-// FIRE, and what is behind its line.
+// FIRE, and what follows its line.
 fn take_fire(text: &[u8]) -> Result<(bool, &[u8]), StateFault>
     ensures found { IfOk result (λ p. TakesFire text.now p.0 p.1.now) }
     ensures wrong { IfErr result (λ fault. RefusesFire text.now fault) }
@@ -49,7 +49,7 @@ pub struct Times {
     pub fire: bool,
 }
 
-/// NOW, RUNLIMIT and FIRE, each from its line, and what is behind them.
+/// NOW, RUNLIMIT and FIRE, each from its line, and what follows them.
 pub fn take_times(sizes: Sizes, text: &[u8]) -> Result<(Times, &[u8]), Wrong>
     ensures found { IfOk result (λ p. TakesTimes sizes text.now p.0.time p.0.run_limit p.0.fire
         p.1.now) }
@@ -83,7 +83,7 @@ pub struct Cars {
     pub outputs: Outputs,
 }
 
-// The line of each car, and what is behind them.
+// The line of each car, and what follows them.
 fn take_cars(sizes: Sizes, text: &[u8]) -> Result<(Cars, &[u8]), Wrong>
     requires { sizes.cars ≤ MOST_CARS }
     ensures found { IfOk result (λ p. TakesAllCars sizes text.now p.0.fields p.0.outputs p.1.now) }
@@ -125,7 +125,7 @@ fn disobeying(image: &Image) -> Option<Wrong>
     })
 }
 
-/// The image, and what is behind its lines.
+/// The image, and what follows its lines.
 pub fn take_image(sizes: Sizes, text: &[u8]) -> Result<(Image, &[u8]), Wrong>
     requires { sizes.cars ≤ MOST_CARS }
     ensures found { IfOk result (λ p. TakesImage sizes text.now p.0 p.1.now) }

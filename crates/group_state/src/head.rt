@@ -67,7 +67,7 @@ fn are_digits_of(bytes: &[u8], digits: &[u8]) -> bool
     true
 }
 
-// What is behind the line of the configuration, which has to have this digest.
+// What follows the line of the configuration, which has to have this digest.
 fn take_configuration<'a>(digest: &[u8; 32], text: &'a [u8]) -> Result<&'a [u8], StateFault>
     ensures found { IfOk result (λ rest. TakesConfiguration digest.now text.now rest.now) }
     ensures wrong { IfErr result (λ fault. RefusesConfiguration digest.now text.now fault) }
@@ -92,7 +92,7 @@ pub struct Head {
     pub calls: Given,
 }
 
-/// The configuration, the image and the calls, and what is behind their lines.
+/// The configuration, the image and the calls, and what follows their lines.
 pub fn take_head<'a>(
     sizes: Sizes,
     digest: &[u8; 32],

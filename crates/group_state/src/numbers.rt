@@ -46,7 +46,7 @@ pub fn number_of(bytes: &[u8], greatest: u64) -> Option<u64>
     Some(value as u64)
 }
 
-/// A space and a number that is at most the greatest, and what is behind it.
+/// A space and a number that is at most the greatest, and what follows it.
 pub fn number(text: &[u8], greatest: u64) -> Option<(u64, &[u8])>
     requires { greatest ≤ MOST }
     ensures found { IfSome result (λ p. (p.0 ≤ greatest) × (text.now ≡ part p.0 ++ p.1.now)
@@ -58,7 +58,7 @@ pub fn number(text: &[u8], greatest: u64) -> Option<(u64, &[u8])>
     Some((number_of(digits, greatest)?, rest))
 }
 
-/// A space and a number that is at most the greatest, and nothing behind it.
+/// A space and a number that is at most the greatest, and nothing after it.
 pub fn last_number(text: &[u8], greatest: u64) -> Option<u64>
     requires { greatest ≤ MOST }
     ensures found { IfSome result (λ n. (n ≤ greatest) × (text.now ≡ part n)) }
@@ -80,7 +80,7 @@ fn number_line(word: &[u8], greatest: u64, line: &[u8]) -> Option<u64>
     last_number(behind(word, line)?, greatest)
 }
 
-/// The number of the next line, which has a word before it, and what is behind the line. Above the greatest it
+/// The number of the next line, which has a word before it, and what follows the line. Above the greatest it
 /// is no number of the line; above the most it is out of range.
 pub fn take_number<'a>(
     word: &[u8],

@@ -22,7 +22,7 @@ use group_world::Core;
 use scan_task::Verified;
 use std::alloc::Global;
 
-/// A group that was read, what is behind its state, and how many lines stand before that, with the first line of the text.
+/// A group that was read, what follows its state, and how many lines come before that, with the first line of the text.
 #[derive(Drop)]
 pub struct Begun<'a> {
     pub core: Core,
@@ -30,14 +30,14 @@ pub struct Begun<'a> {
     pub lines: u64,
 }
 
-/// What is behind some lines, and the number of its first line.
+/// What follows some lines, and the number of its first line.
 #[derive(Clone, Copy)]
 pub struct Behind<'a> {
     pub rest: &'a [u8],
     pub line: u64,
 }
 
-// The next line of a text and what is behind it, if there is one.
+// The next line of a text and what follows it, if there is one.
 fn split(text: &[u8]) -> Option<(&[u8], &[u8])>
     ensures { IsSplit text.now result }
 {
@@ -127,7 +127,7 @@ fn take_task<'a>(
     Ok(Behind { rest, line })
 }
 
-// The same, where the group may not have the task.
+// The lines of a task's variables, where the group may not have the task.
 fn take_if_there<'a>(
     core: &mut Core,
     verified: &Verified,
@@ -179,7 +179,7 @@ fn take_tasks<'a>(
     Ok(to)
 }
 
-// The variables of a group, of which the head is set, and the last line behind them.
+// The variables of a group, of which the head is set, and the last line after them.
 fn take_variables<'a>(
     core: &mut Core,
     verified: &Verified,

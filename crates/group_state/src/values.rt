@@ -29,7 +29,7 @@ fn truth_of(word: &[u8]) -> Option<bool>
     }
 }
 
-// The number below 0 of which a word has the digits, behind its sign.
+// The number below 0 of which a word has the digits, after its sign.
 fn negative(digits: &[u8]) -> Option<i64>
     ensures found { IfSome result (λ z. (n : ℕ) × (z ≡ negsuc n) × (digits.now
         ≡ decimal (suc n))) }

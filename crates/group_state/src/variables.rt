@@ -11,7 +11,7 @@ use crate::values::{is_same, value_of};
 use group_spec::MOST_CARS;
 use scan_task::{Cell, Value};
 
-/// What stands before a path: nothing for a global, and the name of its task and a point for a variable of a task.
+/// What comes before a path: nothing for a global, and the name of its task and a point for a variable of a task.
 pub fn owner_prefix(owner: Option<u8>) -> &'static str
     requires { IsOwner owner }
     ensures { result.now ≡ owner_prefix owner }
@@ -44,7 +44,7 @@ fn is_one_word(text: &[u8]) -> bool
     true
 }
 
-// The word behind the path, where the line is one of this variable.
+// The word after the path, where the line is one of this variable.
 #[tactic(auto, unfolding(crate::specs::Text::variable_line))]
 fn word_of<'a>(owner: Option<u8>, path: &str, line: &'a [u8]) -> Option<&'a [u8]>
     requires { IsOwner owner }
@@ -63,8 +63,8 @@ fn word_of<'a>(owner: Option<u8>, path: &str, line: &'a [u8]) -> Option<&'a [u8]
     Some(word)
 }
 
-/// The value that the next line gives a variable, which isn't its initial one, and what is behind the line; none where
-/// the next line is none of the variable. The next line is passed with what is behind it, if there is one.
+/// The value that the next line gives a variable, which isn't its initial one, and what follows the line; none where
+/// the next line is none of the variable. The next line is passed with what follows it, if there is one.
 pub fn take_variable<'a>(
     owner: Option<u8>,
     cell: &Cell,
@@ -96,7 +96,7 @@ pub fn take_variable<'a>(
     Ok(Some((value, rest)))
 }
 
-/// What is behind the last line of a state, with which a text begins.
+/// What follows the last line of a state, with which a text begins.
 pub fn take_end(text: &[u8]) -> Result<&[u8], StateFault>
     ensures found { IfOk result (λ rest. TakesEnd text.now rest.now) }
     ensures wrong { IfErr result (λ fault. RefusesEnd text.now fault) }

@@ -149,7 +149,7 @@ module _ (c : Config) (unbroken : HasNoFault (Broken Declaring c)) where
 
 -- DECLARED NAMES
 
--- a byte that a list doesn't contain doesn't stand there
+-- a byte that a list doesn't contain doesn't are there
 lacks_byte : (stop : ℕ) (xs : List ℕ) → (Contains xs stop → ⊥) → Without stop xs
 lacks_byte stop [] none = tt
 lacks_byte stop (x ∷ xs) none = (λ same. none (subst (λ (y : ℕ). Contains (x ∷ xs) y) same (at_head x xs)), lacks_byte stop xs (λ has. none (in_tail x xs stop has)))

@@ -22,7 +22,7 @@ module _ (c : Config) (g : Group) (stores : List (Option Standing)) (desk hand :
   abbrev scans : List (Option State)
   scans = scans_by g.tasks stores
 
-  -- the world, where the scan of the task stands so
+  -- the world, where the scan of the task is so
   abbrev at : State → World
   at x = record { group = g; scans = slice_set scans t (Some x); desk = desk; hand = hand }
 
@@ -48,7 +48,7 @@ module _ (c : Config) (g : Group) (stores : List (Option Standing)) (desk hand :
   some_steps zero x y some ended reaches = absurd (omega (arith, some))
   some_steps (suc n) x y some ended reaches = all n x y [] ended reaches
 
-  -- the world with this store is that whose scan stands there
+  -- the world with this store is that whose scan is there
   put : (s : Standing) → is_some task.tickets ≡ true → scans_by g.tasks (slice_set stores t (Some s)) ≡ slice_set scans t (Some s.state)
   put s busy =
       ap (λ ts. scans_by ts (slice_set stores t (Some s))) (sym (set_same g.tasks t (Some task) (flat_some _ task there)))

@@ -1,4 +1,4 @@
--- Where the open scan of a task stands.
+-- Where the open scan of a task is.
 use Rattle.std.proofs.Common.{◌≡◌, ℕ, true, false, Bool, Option, Some, None, Bor, refl, sym, ap, ◌∙◌, subst, if◌then◌else◌}
 use Rattle.std.specs.Prelude.{is_some, slice_get, option_map, IfSome}
 use Rattle.std.specs.Option.{option_copied}

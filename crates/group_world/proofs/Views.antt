@@ -39,7 +39,7 @@ set_again [] (suc k) u v = refl
 set_again (x ∷ xs) zero u v = refl
 set_again (x ∷ xs) (suc k) u v = ap (λ ys. x ∷ ys) (set_again xs k u v)
 
--- what stands in a list in which one place was set
+-- what is in a list in which one place was set
 pub after_set : {X : Type 0} (xs : List (Option X)) (k j : ℕ) (v x : X) → flat (slice_get (slice_set xs k (Some v)) j) ≡ Some x → ((j ≡ k) × (v ≡ x)) ⊎ (flat (slice_get xs j) ≡ Some x)
 after_set [] zero j v x e = inr e
 after_set [] (suc k) j v x e = inr e
@@ -52,7 +52,7 @@ after_set (y ∷ ys) (suc k) (suc j) v x e =
       | inr found ↦ inr found
     ]
 
--- or stood there before, at another place
+-- or was there before, at another place
 pub elsewhere : {X : Type 0} (xs : List (Option X)) (k j : ℕ) (v : Option X) (x : X) → flat (slice_get (slice_set xs k v) j) ≡ Some x → (j ≡ k) ⊎ (flat (slice_get xs j) ≡ Some x)
 elsewhere [] zero j v x e = inr e
 elsewhere [] (suc k) j v x e = inr e
@@ -73,20 +73,20 @@ there_set (y ∷ ys) zero (suc j) v x e = refl
 there_set (y ∷ ys) (suc k) zero v x e = refl
 there_set (y ∷ ys) (suc k) (suc j) v x e = there_set ys k j v x e
 
--- what was set stands there
+-- what was set is there
 pub set_there : {X : Type 0} (xs : List (Option X)) (k : ℕ) (v : X) → k < length xs → flat (slice_get (slice_set xs k (Some v)) k) ≡ Some v
 set_there [] k v below = absurd (omega (arith, below))
 set_there (y ∷ ys) zero v below = refl
 set_there (y ∷ ys) (suc k) v below = set_there ys k v (omega (arith, below))
 
--- where something stands is within the list
+-- where something is is within the list
 pub within : {X : Type 0} (xs : List (Option X)) (k : ℕ) (x : X) → flat (slice_get xs k) ≡ Some x → k < length xs
 within [] zero x e = let bad : ◌≡◌ {A = Option _} None (Some x) = e in cc
 within [] (suc k) x e = let bad : ◌≡◌ {A = Option _} None (Some x) = e in cc
 within (y ∷ ys) zero x e = omega arith
 within (y ∷ ys) (suc k) x e = let rest = within ys k x e in omega (arith, rest)
 
--- and nothing stands beyond it
+-- and nothing is beyond it
 pub beyond : {X : Type 0} (xs : List (Option X)) (k : ℕ) → length xs ≤ k → flat (slice_get xs k) ≡ None
 beyond [] zero past = refl
 beyond [] (suc k) past = refl
@@ -135,18 +135,18 @@ scans_length [] (k ∷ stores) many = absurd (omega (arith, many))
 scans_length (s ∷ tasks) [] many = absurd (omega (arith, many))
 scans_length (s ∷ tasks) (k ∷ stores) many = ap suc (scans_length tasks stores (omega (arith, many)))
 
--- what stands at an index
+-- what is at an index
 pub stands_at : {X : Type 0} (xs : List (Option X)) (k : ℕ) (d : Option X) (x : X) → slice_index_or xs k d ≡ Some x → k < length xs → flat (slice_get xs k) ≡ Some x
 stands_at [] k d x e below = absurd (omega (arith, below))
 stands_at (None ∷ xs) zero d x e below = let bad : ◌≡◌ {A = Option _} None (Some x) = e in cc
 stands_at (Some y ∷ xs) zero d x e below = e
 stands_at (y ∷ xs) (suc k) d x e below = stands_at xs k d x e (omega (arith, below))
 
--- the value that is found is the one that stands there
+-- the value that is found is the one that is there
 pub the_memory : {X : Type 0} (o : Option X) (x y : X) → o ≡ Some x → o ≡ Some y → x ≡ y
 the_memory o x y a b = let both : Some x ≡ Some y = sym a ∙ b in cc
 
--- what an index lends is what stands there
+-- what an index lends is what is there
 lent : {X : Type 0} (xs : List (Option X)) (k : ℕ) (o : Option X) → o ≡ slice_index_or xs k o → is_some (flat (slice_get xs k)) ≡ true → flat (slice_get xs k) ≡ o
 lent [] zero o e there = let bad : false ≡ true = there in cc
 lent [] (suc k) o e there = let bad : false ≡ true = there in cc

@@ -70,7 +70,7 @@ module _ (w : Inside) (is : IsWorld w) (t : ℕ) (has : HasTask w.verified.confi
   there_now : task_at begun_group t ≡ Some begun_task
   there_now = set_there g.tasks t begun_task (within g.tasks t x.task x.there)
 
-  -- where the scan stands then
+  -- where the scan is then
   abbrev first : Standing
   first = record { config = c; task = t; state = scan_begins c t (beginning_of g x.task) }
 

@@ -1,4 +1,4 @@
--- A group of a configuration, and where its scans stand (own rules).
+-- A group of a configuration, and where its scans are (own rules).
 use Rattle.std.specs.Prelude.{◌≡◌, ℕ, ◌≤◌, Bool, false, List, [], ◌∷◌, map, length, slice_get, if◌then◌else◌, Option, Some, None, is_some, refl}
 use Rattle.std.specs.Coded.{Coded, code_by, coded×}
 use Rattle.il_syntax.specs.declared.tree.Config.{Config}
@@ -33,7 +33,7 @@ is_open_in g t = holds_tickets (task_at g t)
 
 -- SCANS
 
--- where the scan of a task stands: it is open while the task has the tickets that it saw
+-- where the scan of a task is: it is open while the task has the tickets that it saw
 abbrev pub scan_by : Option TaskState → Option Standing → Option State
 scan_by None o = None
 scan_by (Some task) None = None
@@ -72,7 +72,7 @@ CommitsOpen c t before values after report =
 
 -- WHOLE SCANS
 
--- a whole scan of a task: its start, so many instructions to its end, where this store stands, and its commit, under the tickets that the slots
+-- a whole scan of a task: its start, so many instructions to its end, where this store is, and its commit, under the tickets that the slots
 -- have all along
 pub record ScansWhole (c : Config) (t : ℕ) (g : Group) (x : TaskState) (last : Standing) (after : Group) (report : Report) : Type 0 where
   pub of : IsOf c t last

@@ -51,7 +51,7 @@ replies_of (answer.Gathered mask ∷ answers) reports = Gathered mask ∷ replie
 replies_of (answer.Held ∷ answers) reports = Held ∷ replies_of answers reports
 replies_of (answer.Refused fault ∷ answers) reports = Refused fault ∷ replies_of answers reports
 
--- how many reports stand beside an answer
+-- how many reports are beside an answer
 abbrev pub reports_by : Answer → ℕ
 reports_by answer.Committed = 1
 reports_by answer.Refreshed = 1

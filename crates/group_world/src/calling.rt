@@ -162,7 +162,8 @@ pub fn tell_all(
     tell_each(calls, tickets, cars, answers);
 }
 
-/// The same under the tickets that the slots have, which are copied. It stands apart, since few scans assign a car.
+/// Tells each call to the car that GROUP assigned to its slot, under the tickets that the slots have now, which are copied. It is a function of its
+/// own, since few scans assign a car.
 #[cold]
 #[inline(never)]
 pub fn tell_all_now(calls: &mut CallBook, cars: &[u8], answers: &mut Bounded<Answered, SLOT_PLACES>)

@@ -259,7 +259,7 @@ impl Core {
         self.shared.open(task);
     }
 
-    /// The same in a store that still has the task's variables.
+    /// A task's scan begins in a store that still has the task's variables.
     pub(crate) fn start_in_place(&mut self, verified: &Verified, task: u8, store: &mut Store)
         requires program { self.old.config ≡ verified.now.config }
         requires there { IsSome (task_at self.old.group task) }
@@ -351,7 +351,7 @@ impl Core {
         enter_all(&mut self.shared.calls, hand, &mut report.entered);
     }
 
-    /// The same where no call is in the hand.
+    /// A refresh where no call is in the hand.
     #[inline(always)]
     pub(crate) fn refresh_alone(&mut self, fields: &Fields, report: &mut Report)
         requires { FieldsInRange (sizes_of self.old.config) fields.now }

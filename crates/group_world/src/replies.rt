@@ -34,7 +34,7 @@ impl Model for Replies {
     ghost invariant = { λ r. AreReports r.replies.items r.reports.items };
 }
 
-// Takes the report that stands beside a reply, if one does; there is room for it.
+// Takes the report that is beside a reply, if one does; there is room for it.
 fn keep(reports: &mut Vec<Report>, reply: Reply, report: &mut Report)
     requires { length reports.old.items + reports_by reply ≤ vec_capacity reports.old }
     ensures plain { reports_by reply ≡ 0 → reports.new.items ≡ reports.old.items }

@@ -437,7 +437,7 @@ impl World {
         self.verified.sizes()
     }
 
-    /// Where the open scan of a task stands, if it has one.
+    /// Where the open scan of a task is, if it has one.
     pub fn scan(&self, task: u8) -> Option<&Store>
         ensures stands { option_map (λ s. s.now.state) result
             ≡ model.scan_at self.now.world task }

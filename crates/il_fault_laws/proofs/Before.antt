@@ -1,4 +1,4 @@
--- What stands before a token, in a text that has the same tokens before it.
+-- What comes before a token, in a text that has the same tokens before it.
 use Rattle.std.proofs.Common.{◌≡◌, ◌<◌, ℕ, List, [], ◌∷◌, ◌++◌, length, refl, ◌∙◌, ap, subst, inl, inr, arith}
 use Rattle.il_syntax.specs.declared.token.Token.{Token}
 use Rattle.il_syntax.specs.declared.keyword.Keyword.TheVariants as word
@@ -37,7 +37,7 @@ module _ {A : Type 0} {P : List ℕ → A → Front} (fill : IsFilling tight alw
       let c = end_length mid (skip_line_ends w.0) (fill_end fill text front (skip_line_ends w.0) mid w.2) in
       omega (arith, a, b, c)
 
-  -- things stand in a text that is cut behind them, also right behind
+  -- things are in a text that is cut after them, also right after
   cut_up_to : (text other : List ℕ) (front : List A) (ts us mid at vs : List Token) → IsCut text other at ts us vs → Repeats (P text) front Nothing ts mid → IsEndOf at mid → (n : List Token) × Repeats (P other) front Nothing us n
   cut_up_to text other [] ts us mid at vs c w e = (us, refl)
   cut_up_to text other (x ∷ []) ts us mid at vs c w e =

@@ -1,4 +1,4 @@
--- No fault stands behind one of too many.
+-- No fault follows one of too many.
 use Rattle.std.specs.Prelude.{◌⊎◌, ⊤}
 use Rattle.std.specs.List.{All, slice_get}
 use Rattle.std.proofs.Common.{◌≡◌, ◌<◌, ◌≤◌, ℕ, List, [], ◌∷◌, ◌++◌, length, refl, sym, ◌∙◌, ap, subst, inl, inr, arith, Some}
@@ -35,7 +35,7 @@ use Rattle.il_fault_laws.proofs.Ends.{IsShallow, inner, behind_label, behind_ste
 use Rattle.il_fault_laws.proofs.Many.{StepSurplus, UnitSurplus, surplus_of, few_at, all_parts, stands_late, numbered, few_ends, nested_ends, shallow_prefix, same_bytes, turn_is, label_rest, invoke_end, begun, begun_there, back_inside, step_in, mid_f, there_f, no_unit, the_step, the_label, is_name, alike_f}
 
 module _ (text : List ℕ) (ts : List Token) (cut : AreTokens text 0 ts) where
-  -- behind the token behind it
+  -- after the token after it
   pub many_then_later : (p q : Place) (t x : Token) (back at : List Token) (error : SyntaxError) → Parts text ts p TooMany (t ∷ x ∷ back) → Parts text ts q error at → IsEndOf at back → ⊥
   many_then_later p q t x back at error e f k =
       let b = begun text ts cut p t (x ∷ back) e in
@@ -64,7 +64,7 @@ module _ (text : List ℕ) (ts : List Token) (cut : AreTokens text 0 ts) where
           let turned = turn_is text t (x ∷ back) (is_name text ts cut p t (x ∷ back) e q error at f near s) in
           e.nowhere g.0 g.1 (subst (λ (j : List Token). AreAlike text g.0 j ts g.1) (sym turned) a) g.5 g.6 (few_ends s.front h.unit s.steps g.5 s.before g.7)
 
-  -- an unexpected token directly behind it
+  -- an unexpected token directly after it
   pub many_then_unexpected : (p q : Place) (t : Token) (back : List Token) → Parts text ts p TooMany (t ∷ back) → Parts text ts q Unexpected back → ⊥
   many_then_unexpected p q t back e f =
       let b = begun text ts cut p t back e in
@@ -134,7 +134,7 @@ no_colon text ts cut x back there c w colon (inr s) =
         sort_some y.0.instruction (sym sort ∙ is)
     go h (inr l) = let word : x.kind ≡ kind.Word = l.5.1.2.0.0 in cc
 
--- where an instruction is the first that is too many, nothing behind it is
+-- where an instruction is the first that is too many, nothing after it is
 first_alone : (text : List ℕ) (ts : List Token) (t x : Token) (tail back : List Token) (c : Config) (front : List ProgramUnit) (steps : List Step) (h : HasStep text t front steps ts c) → AreTokens text 0 ts → IsEndOf (t ∷ tail) ts → IsEndOf (x ∷ back) tail
     → IsFront front steps → IsStep t h.it.more → UnitSurplus x c ⊎ StepSurplus x c → ⊥
 first_alone text ts t x tail back c front steps h cut there behind is y u = go u
@@ -168,7 +168,7 @@ first_alone text ts t x tail back c front steps h cut there behind is y u = go u
     go (inr u) = step_too u (split_two few front u.front h.unit u.unit h.more u.behind (sym h.units ∙ u.units) is.few u.before.few)
 
 module _ (text : List ℕ) (ts : List Token) (cut : AreTokens text 0 ts) (p q : Place) (t x : Token) (back : List Token) (e : Parts text ts p TooMany (t ∷ x ∷ back)) where
-  -- a text that goes on with the token behind it
+  -- a text that goes on with the token after it
   module _ (K : List Token → Config → Type 0) (g : IsBegun K text ts back) where
     alike_g : AreAlike text g.0 (t ∷ x ∷ back) ts g.1
     alike_g = cut_alike text g.0 back t (x ∷ back) ts g.1 g.2 g.4 e.inside (inr (end_self back))
@@ -185,14 +185,14 @@ module _ (text : List ℕ) (ts : List Token) (cut : AreTokens text 0 ts) (p q : 
     step_g : (s : StepSurplus t (begun text ts cut p t (x ∷ back) e).5) → HasStep g.0 t s.front s.steps g.1 g.5
     step_g s = step_in text ts cut p t (x ∷ back) e g.0 g.1 alike_g g.5 g.6 s
 
-    -- a label there has its colon behind it
+    -- a label there has its colon after it
     colon_g : (s : StepSurplus t (begun text ts cut p t (x ∷ back) e).5) → (l : IsLabel g.0 t (step_g s).it.here) → (x.kind ≡ kind.Sign Colon) × (g.2 ≡ l.4)
     colon_g s l =
         let one : (◌≡◌ {A = List Token} (t ∷ l.1) (t ∷ x ∷ g.2)) = one_start g.0 g.1 t t l.1 (x ∷ g.2) g.3 (label_inside g.0 g.1 t s.front s.steps g.5 (step_g s) l) there_g refl in
         let tail : l.1 ≡ x ∷ g.2 = cc in
         label_rest g.0 l.3 t x g.2 l.4 (subst (λ (j : List Token). SpellsLabel g.0 l.3 (t ∷ j) l.4) tail l.5)
 
-  -- one more of too many directly behind it
+  -- one more of too many directly after it
   pub many_then_many : Parts text ts q TooMany (x ∷ back) → ⊥
   many_then_many f =
       let b = begun text ts cut p t (x ∷ back) e in
@@ -212,7 +212,7 @@ module _ (text : List ℕ) (ts : List Token) (cut : AreTokens text 0 ts) (p q : 
           on u (inr l) = no_colon g.0 g.1 g.3 x g.2 (begun_there text ts cut q x back f) g.5 g.6 (colon_g (λ vs c. GoesBeyond TooMany x c.units) g s l).0 u
           on u (inl y) = first_alone g.0 g.1 t x (x ∷ g.2) g.2 g.5 s.front s.steps h g.3 (there_g (λ vs c. GoesBeyond TooMany x c.units) g) (end_self (x ∷ g.2)) s.before y u
 
-  -- a parenthesis too deep directly behind it
+  -- a parenthesis too deep directly after it
   pub many_then_deep : Parts text ts q TooDeep (x ∷ back) → ⊥
   many_then_deep f =
       let b = begun text ts cut p t (x ∷ back) e in

@@ -1,4 +1,4 @@
--- Texts that are completed behind some instructions of a unit: the units before it, its heading and these instructions stay, and as little as may be follows.
+-- Texts that are completed after some instructions of a unit: the units before it, its heading and these instructions stay, and as little as may be follows.
 use Rattle.std.specs.Prelude.{IsTrue}
 use Rattle.std.proofs.Common.{◌≡◌, ◌<◌, ◌≤◌, ℕ, Bool, true, false, ◌&&◌, List, [], ◌∷◌, ◌++◌, length, append-nil, refl, sym, ap, subst, inl, inr, arith}
 use Rattle.il_syntax.specs.declared.token.Token.{Token}
@@ -71,7 +71,7 @@ module _ {A : Type 0} {P : List ℕ → A → Front} (fill : IsFilling tight alw
   fill_end text (x ∷ front) ts mid w =
       end_of_end mid (skip_line_ends w.0) ts (end_of_end (skip_line_ends w.0) w.0 ts ((fill.one x).opens.ends text ts w.0 w.1) (loose_gap.ends w.0)) (fill_end text front (skip_line_ends w.0) mid w.2)
 
-  -- they stand in a text that is cut behind them
+  -- they are in a text that is cut after them
   pub cut_run : (text other : List ℕ) (front : List A) (ts us mid at vs : List Token) → IsCut text other at ts us vs → Repeats (P text) front Nothing ts mid → IsEndOf at mid → length at < length mid
       → (n : List Token) × Repeats (P other) front Nothing us n × IsCut text other at mid n vs
   cut_run text other [] ts us mid at vs c w e l = (us, refl, subst (λ (k : List Token). IsCut text other at k us vs) w c)
@@ -89,7 +89,7 @@ pub both_right : (a b : Bool) → (a && b) ≡ true → b ≡ true
 both_right true b e = e
 both_right false b e = absurd cc
 
--- what is open behind some instructions
+-- what is open after some instructions
 pub open_steps : (done xs more : List Step) (depth : ℕ) (load : Bool) (most : ℕ) → IsOpen done depth load most → IsTrue (is_nested depth load (xs ++ more)) → (d : ℕ) × (l : Bool) × (m : ℕ) × IsOpen (done ++ xs) d l m
 open_steps done [] more depth load most o w = (depth, load, most, subst (λ (ys : List Step). IsOpen ys depth load most) (sym (append-nil done)) o)
 open_steps done (x ∷ xs) more depth load most o w =
@@ -111,7 +111,7 @@ EndsIn front u K c = (b : Body) × (c.units ≡ front ++ (record u { body = b })
 ends_in : (front : List ProgramUnit) (u : ProgramUnit) (K : List Step → Type 0) (b : Body) (g : Group) → K b.steps → EndsIn front u K (config (front ++ (record u { body = b }) ∷ []) g)
 ends_in front u K b g keeps = (b, refl, keeps)
 
--- The rest of a body, of its own samples, behind some instructions: with these it keeps K.
+-- The rest of a body, of its own samples, after some instructions: with these it keeps K.
 abbrev pub Rests : UnitKind → List Step → (List Step → Type 0) → List ℕ → List Token → List Token → List Sample → Type 0
 Rests kind steps K text here at zs = (other : List ℕ) (us vs rest : List Token) → IsCut text other at here us vs → AreOf other zs vs rest → skip_line_ends rest ≡ rest
     → (more : List Step) × (y : List Named × Place) × Repeats (SpellsStep other) more (TheEndOf other (end_word kind) y) us rest × IsTrue (is_nested 0 false (steps ++ more)) × K (steps ++ more)
@@ -155,19 +155,19 @@ module _ (text : List ℕ) (whole : List Token) (cut : AreTokens text 0 whole) (
             (config (front ++ record u { body = b } ∷ []) g.0.1, (whole_config other (front ++ record u { body = b } ∷ []) g.0.1 (skip_line_ends us) rest (g.1.0, all, g.1.2), ends_in front u K b g.0.1 x.4));
       }
 
-  -- a text goes on behind these instructions
+  -- a text goes on after these instructions
   pub completed : Repeats (SpellsUnit text) front Nothing (skip_line_ends whole) from → HasItsLists u.kind u → Heading text u.kind (heading_of u) from bt → TheLineEnd bt line → Repeats (SpellsStep text) steps Nothing (skip_line_ends line) here
       → IsEndOf at here → length at < length here → Rests u.kind steps K text here at zs → IsBegun (λ vs c. EndsIn front u K c) text whole at
   completed units has heading line_end read e_here less rests = text_goes_on (λ vs c. EndsIn front u K c) text whole at cut (begins group_sampled refl units has heading line_end read e_here less rests)
 
 -- UNITS, OF THEIR WORDS
 
--- a result, and what stands behind it
+-- a result, and what follows it
 abbrev result_samples : List Sample
 result_samples =
     (sign_sample Colon ∷ word_sample (word.Elementary elementary.Bool) ∷ []) ++ ((word_sample word.VarInput ∷ declaration_samples ++ word_sample word.EndVar ∷ []) ++ body_samples word.EndFunction)
 
--- what stands behind the word of a unit, of its own samples
+-- what follows the word of a unit, of its own samples
 pub unit_rest : (k : UnitKind) → (zs : List Sample) × ((other : List ℕ) (place : Place) (n vs rest : List Token) → At place (TheWord other (unit_word k)) n vs → AreOf other zs vs rest → (v : ProgramUnit) × SpellsUnit other v n rest × (greatest_depth 0 v.body.steps ≤ 16))
 unit_rest unit.Program = (
   name_sample ∷ body_samples word.EndProgram,
@@ -240,6 +240,6 @@ module _ (text : List ℕ) (whole : List Token) (cut : AreTokens text 0 whole) (
             (config (front ++ x.0 ∷ []) g.0.1, (whole_config other (front ++ x.0 ∷ []) g.0.1 (skip_line_ends us) rest (g.1.0, all, g.1.2), ends_with front x.0 g.0.1 x.2));
       }
 
-  -- a text goes on behind the word of a unit
+  -- a text goes on after the word of a unit
   pub word_completed : Repeats (SpellsUnit text) front Nothing (skip_line_ends whole) from → At place (TheWord text (unit_word k)) from at → IsBegun (λ vs c. EndsWith front c) text whole at
   word_completed units word_here = text_goes_on (λ vs c. EndsWith front c) text whole at cut (begins_word group_sampled refl units word_here)

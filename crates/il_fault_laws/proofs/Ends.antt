@@ -1,4 +1,4 @@
--- How a body is completed: behind a label, behind an instruction, and behind an operator.
+-- How a body is completed: after a label, after an instruction, and after an operator.
 use Rattle.std.specs.Prelude.{IsTrue, ◌==◌, ◌||◌, not, max}
 use Rattle.std.proofs.Common.{◌≡◌, ◌≤◌, ℕ, zero, suc, Bool, true, false, ◌&&◌, List, [], ◌∷◌, ◌++◌, length, append-nil, refl, sym, ◌∙◌, ap, subst, inr, arith, Option}
 use Rattle.il_syntax.specs.declared.token.Token.{Token}
@@ -51,7 +51,7 @@ rest_solid last zero load = refl
 rest_solid last (suc depth) false = refl
 rest_solid last (suc depth) true = refl
 
--- behind a label its line ends, and the body
+-- after a label its line ends, and the body
 label_rests : (K : List Step → Type 0) (text : List ℕ) (kind : UnitKind) (steps : List Step) (here : List Token) (t : Token) (tl r : List Token) (ls : List Named) (n : Named) → Repeats (SpellsLabelLine text) ls Nothing here (t ∷ tl) → SpellsLabel text n (t ∷ tl) r
     → IsTrue (is_nested 0 false (steps ++ [])) → K (steps ++ []) → Rests kind steps K text here r (line_end_sample ∷ word_sample (end_word kind) ∷ [])
 label_rests K text kind steps here t tl r ls n run label nested keeps = λ other us vs rest c a solid.
@@ -71,7 +71,7 @@ label_rests K text kind steps here t tl r ls n run label nested keeps = λ other
       keeps,
     )
 
--- behind an instruction the parentheses are closed
+-- after an instruction the parentheses are closed
 step_rests : (text : List ℕ) (kind : UnitKind) (steps : List Step) (here m : List Token) (s : Step) (depth : ℕ) (load : Bool) (most : ℕ) → SpellsStep text s here m → IsOpen (steps ++ s ∷ []) depth load most → depth ≤ 16 → most ≤ 16
     → Rests kind steps IsShallow text here m (rest_samples (end_word kind) depth load)
 step_rests text kind steps here m s depth load most step open_ few low = λ other us vs rest c a solid.
@@ -90,7 +90,7 @@ step_rests text kind steps here m s depth load most step open_ few low = λ othe
     small : (g a b : ℕ) → g ≡ max a b → b ≤ depth → a ≤ 16 → g ≤ 16
     small g a b e l k = omega (arith, e, l, few, k)
 
--- an operand behind an operator
+-- an operand after an operator
 at_more : (p : Place) (F G : Front) (us m r : List Token) → At p F us m → G m r → At p (F ⨾ G) us r
 at_more p F G [] m r w g = absurd w
 at_more p F G (u ∷ us) m r w g = (w.0, w.1, (m, w.2, g))
@@ -133,14 +133,14 @@ operator_rests text kind steps here m ns p op depth load most w open_ may few lo
 
 -- WHAT STANDS IN A TEXT
 
--- what is open behind instructions that begin shallow ones
+-- what is open after instructions that begin shallow ones
 pub bounds : (steps more : List Step) (depth : ℕ) (load : Bool) (most : ℕ) → IsOpen steps depth load most → IsShallow (steps ++ more) → (depth ≤ 16) × (most ≤ 16)
 bounds steps more depth load most o low = go (greatest_depth 0 (steps ++ more)) (greatest_depth depth more) (o.deep more) (depth_least depth more) low
   where
     go : (g b : ℕ) → g ≡ max most b → depth ≤ b → g ≤ 16 → (depth ≤ 16) × (most ≤ 16)
     go g b e l k = (omega (arith, e, l, k), omega (arith, e, k))
 
--- where labels stand none is open
+-- where labels are none is open
 no_depth : (depth : ℕ) (load : Bool) (s : Step) (l : Named) (ls : List Named) → s.labels ≡ l ∷ ls → may_stand depth load s ≡ true → depth ≡ 0
 no_depth zero load s l ls is may = refl
 no_depth (suc depth) load s l ls is may =
@@ -176,7 +176,7 @@ inner text (n ∷ o ∷ ns) p F us m w =
     let e = end_of_end (skip_line_ends w.2.0) w.2.0 w.0 (line_end_fills.opens.ends text w.0 w.2.0 w.2.1) (loose_gap.ends w.2.0) in
     (k.0, end_of_end k.0 (skip_line_ends w.2.0) us (end_of_end (skip_line_ends w.2.0) w.0 us ((label_fills n).opens.ends text us w.0 w.1) e) k.1, k.2)
 
--- the first of two parts behind labels
+-- the first of two parts after labels
 at_first : (p : Place) (F G : Front) (us r : List Token) → At p (F ⨾ G) us r → (m : List Token) × At p F us m × G m r
 at_first p F G [] r w = absurd w
 at_first p F G (u ∷ us) r w = (w.2.0, (w.0, w.1, w.2.1), w.2.2)
@@ -188,7 +188,7 @@ labelled_first text (n ∷ o ∷ ns) p F G us r w = let k = labelled_first text 
 
 -- TEXTS THAT GO ON
 
--- an operation with an operand may stand where one with a parenthesis may
+-- an operation with an operand may be where one with a parenthesis may
 operation_may : (depth : ℕ) (load : Bool) (s : Step) (op : Operator) (first : Option Operand) → s.instruction ≡ instruction.Defer op first → may_stand depth load s ≡ true → (o : Operand) → may_stand depth load (operation s.labels s.place op o) ≡ true
 operation_may zero load s op first is may o = refl
 operation_may (suc depth) load s op first is may o = go load (length s.labels == 0) (subst (λ (i : Instruction). may_stand (suc depth) load (record { labels = s.labels; place = s.place; instruction = i }) ≡ true) is may)
@@ -201,7 +201,7 @@ module _ (text : List ℕ) (whole : List Token) (cut : AreTokens text 0 whole) (
   all_nested : IsTrue (is_nested 0 false (steps ++ h.it.more))
   all_nested = let x = split_unit text h.unit h.from h.behind h.spelled in subst (λ (ys : List Step). IsTrue (is_nested 0 false ys)) h.it.steps x.2.0
 
-  -- behind a label
+  -- after a label
   pub behind_label : (l : IsLabel text t h.it.here) → IsBegun (λ vs c. EndsIn front h.unit (λ ys. ys ≡ steps ++ []) c) text whole l.4
   behind_label l =
       let inside = (label_fills l.3).opens.ends text (t ∷ l.1) l.4 l.5 in
@@ -219,7 +219,7 @@ module _ (text : List ℕ) (whole : List Token) (cut : AreTokens text 0 whole) (
     pub own_nested : IsTrue (is_nested 0 false (steps ++ s ∷ ms))
     own_nested = subst (λ (ys : List Step). IsTrue (is_nested 0 false (steps ++ ys))) is all_nested
 
-    -- behind an instruction that opens no parenthesis
+    -- after an instruction that opens no parenthesis
     pub behind_step : (shallow : List Step) → IsShallow (steps ++ shallow) → ((depth : ℕ) → depth_after depth s.instruction ≤ depth) → IsBegun (λ vs c. EndsIn front h.unit IsShallow c) text whole own_rest.0
     behind_step shallow low opens_none =
         let o = open_steps [] steps (s ∷ ms) 0 false 0 none_open own_nested in
@@ -237,7 +237,7 @@ module _ (text : List ℕ) (whole : List Token) (cut : AreTokens text 0 whole) (
         both_low : (a b : ℕ) → a ≤ 16 → b ≤ 16 → max a b ≤ 16
         both_low a b x y = omega (arith, x, y)
 
-    -- behind its operator, where it opens one
+    -- after its operator, where it opens one
     pub behind_operator : (shallow : List Step) → IsShallow (steps ++ shallow) → (op : Operator) (first : Option Operand) → s.instruction ≡ instruction.Defer op first
         → (m : List Token) × SpellsLabelled text s.labels (At s.place (SpellsOperator text op)) h.it.here m × IsBegun (λ vs c. EndsIn front h.unit IsShallow c) text whole m
     behind_operator shallow low op first deferred =
@@ -253,7 +253,7 @@ module _ (text : List ℕ) (whole : List Token) (cut : AreTokens text 0 whole) (
               (operator_rests text h.unit.kind steps h.it.here k.0 s.labels s.place op o.0 o.1 o.2 k.1 o.3 (operation_may o.0 o.1 s op first deferred may) b.0 b.1),
         )
 
--- what stands behind the instructions is an end
+-- what follows the instructions is an end
 pub here_inside : (text : List ℕ) (whole : List Token) (t : Token) (front : List ProgramUnit) (steps : List Step) (d : Config) (h : HasStep text t front steps whole d) → IsEndOf h.it.here whole
 here_inside text whole t front steps d h =
     let e1 = fill_end step_filling text steps (skip_line_ends h.it.line) h.it.here h.it.read in

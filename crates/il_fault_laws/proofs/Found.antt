@@ -16,7 +16,7 @@ use Rattle.load_tree.proofs.LateUnits.{unit_spreads}
 use Rattle.il_fault_laws.proofs.Runs.{split_run, run_end}
 use Rattle.il_fault_laws.proofs.Surplus.{HasIt, HasUnits, among_token, at_token, unit_same, units_same}
 
--- what stands behind the units of a text
+-- what follows the units of a text
 abbrev pub TheRest : List ℕ → Config → Front
 TheRest text c =
     SomeName text ⋯ SpellsSizes text c ⨾ SpellsGlobals text c.globals_place c.globals ⋯ SpellsResource text c ⋯ TheWord text word.EndConfiguration ⋯ TheEnd

@@ -96,7 +96,7 @@ module _ (text : List ℕ) where
   heading_sure unit.Program unit.Program x y ts r s p q = (refl, (program_one.only x y ts r s p q).1)
   heading_sure k l x y ts r s p q = absurd (cc (heading_lead k x ts r p, heading_lead l y ts s q))
 
--- a heading stands in alike texts
+-- a heading is in alike texts
 pub heading_carries : (kind : UnitKind) (x : Place × (Named × Lists)) → Carries loose (λ text. Heading text kind x)
 heading_carries kind x =
     follows loose_gap loose_gap (placed x.0 (word_carries (unit_word kind))) (follows_directly (loosely (the_name_carries x.1.0)) (follows_directly (result_carries kind) (follows_directly (filled_carries word.VarInput x.1.1.0)

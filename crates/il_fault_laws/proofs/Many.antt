@@ -1,4 +1,4 @@
--- Of two faults none stands behind the other, where the first is of too many.
+-- Of two faults none follows the other, where the first is of too many.
 use Rattle.std.specs.Prelude.{◌⊎◌}
 use Rattle.std.specs.List.{All, slice_get}
 use Rattle.std.proofs.Common.{◌≡◌, ◌<◌, ◌≤◌, ℕ, List, [], ◌∷◌, ◌++◌, length, length-append, sym, ◌∙◌, ap, subst, inl, inr, arith, Some}
@@ -85,7 +85,7 @@ pub all_parts : (P : ProgramUnit → Type 0) (xs ys : List ProgramUnit) → All 
 all_parts P [] ys h = (All-nil P, h)
 all_parts P (x ∷ xs) ys h = let k = all_parts P xs ys (All-tail P x (xs ++ ys) h) in (All-cons P x xs (All-head P x (xs ++ ys) h) k.0, k.1)
 
--- what stands at a token stands at none behind it
+-- what is at a token is at none after it
 pub stands_late : (text : List ℕ) (ts : List Token) (t : Token) (tail vs : List Token) (p : Place) → AreTokens text 0 ts → IsEndOf (t ∷ tail) ts → IsEndOf vs tail → StandsAmong vs p → IsItsPlace t p → ⊥
 stands_late text ts t tail vs p cut there e w same =
     let less = starts_rise text 0 ts t tail w.0 w.1 cut there (end_of_end (w.0 ∷ w.1) vs tail e w.2) in
@@ -147,7 +147,7 @@ name_there text other t back tail r n same w = ap (λ x. lead_of t.kind (keyword
 pub turn_is : (text : List ℕ) (t : Token) (back : List Token) → lead_at text (t ∷ back) ≡ lead_kind.Name → turn TooMany text (t ∷ back) ≡ back
 turn_is text t back is = ap (λ l. past_name l (t ∷ back)) is
 
--- the colon behind the name of a label, and what follows
+-- the colon after the name of a label, and what follows
 pub label_rest : (text : List ℕ) (n : Named) (t x : Token) (tail r : List Token) → SpellsLabel text n (t ∷ x ∷ tail) r → (x.kind ≡ kind.Sign Colon) × (tail ≡ r)
 label_rest text n t x tail r w = subst (λ (k : List Token). TheSign Colon k r) (sym w.1.2.1) w.2
 

@@ -41,7 +41,7 @@ use Rattle.il_fault_laws.proofs.Behind.{many_then_later, many_then_unexpected, m
 
 -- A PARENTHESIS TOO DEEP, AND ONE OF TOO MANY
 
--- what ends behind a token
+-- what ends after a token
 tail_end : (t : Token) (tail m : List Token) → IsEndOf m (t ∷ tail) → length m < length (t ∷ tail) → IsEndOf m tail
 tail_end t tail m (inl e) l = let same = ap length e in absurd (omega (arith, same, l))
 tail_end t tail m (inr e) l = e
@@ -77,7 +77,7 @@ nested_with front c low e =
     (All-cons (λ (v : ProgramUnit). greatest_depth 0 v.body.steps ≤ 16) e.0 [] e.2 (All-nil (λ (v : ProgramUnit). greatest_depth 0 v.body.steps ≤ 16))))
 
 module _ (text : List ℕ) (ts : List Token) (cut : AreTokens text 0 ts) (p q : Place) (t : Token) (back : List Token) (e : Parts text ts p TooDeep (t ∷ back)) (f : Parts text ts q TooMany (t ∷ back)) where
-  -- the text in which the first surplus stands at the token, cut as the one that goes on up to it
+  -- the text in which the first surplus is at the token, cut as the one that goes on up to it
   between : IsCut (begun text ts cut q t back f).0 e.before.0 (t ∷ (begun text ts cut q t back f).2) (begun text ts cut q t back f).1 e.before.1 e.before.2
   between =
       let b = begun text ts cut q t back f in
@@ -138,7 +138,7 @@ module _ (text : List ℕ) (ts : List Token) (cut : AreTokens text 0 ts) (p q : 
         shallow_on : (m : List Token) → IsEndOf m b.2 → IsBegun (λ vs c. EndsIn s.front own.unit IsShallow c) b.0 b.1 m → ⊥
         shallow_on m end g = e.nowhere g.0 g.1 (through text b.0 g.0 t back ts b.1 b.2 m g.1 g.2 b.4 g.4 end e.inside) g.5 g.6 (nested_ends s.front own.unit IsShallow g.5 parts.0 (λ ys is. is) g.7)
 
-        -- where the token begins a part, this ends behind it
+        -- where the token begins a part, this ends after it
         ends_behind : (F : Front) (m : List Token) → ((xs : List Token) → F xs m → IsEndOf m xs × (length m < length xs)) → SpellsLabelled b.0 s.step.labels (At s.step.place F) own.it.here m → IsEndOf m b.2
         ends_behind F m law w =
             let k = inner b.0 s.step.labels s.step.place F own.it.here m w in
@@ -195,7 +195,7 @@ module _ (text : List ℕ) (ts : List Token) (cut : AreTokens text 0 ts) where
   many_first TooDeep p q t (x ∷ back) at e f (inl k) = many_then_deep text ts cut p q t x back e (subst (λ (y : List Token). Parts text ts q TooDeep y) k f)
   many_first TooMany p q t (x ∷ back) at e f (inl k) = many_then_many text ts cut p q t x back e (subst (λ (y : List Token). Parts text ts q TooMany y) k f)
 
-  -- none stands behind another
+  -- none follows another
   none_behind : (a b : SyntaxError) (p q : Place) (t : Token) (back at : List Token) → Parts text ts p a (t ∷ back) → Parts text ts q b at → IsEndOf at back → ⊥
   none_behind Unexpected b p q t back at e f k = behind_unexpected text ts p q b t back at e f k
   none_behind TooDeep b p q t back at e f k = behind_deep text ts p q b t back at e f k

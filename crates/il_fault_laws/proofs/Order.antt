@@ -1,4 +1,4 @@
--- Of two faults none stands behind the other, where the first is an unexpected token or a parenthesis too deep.
+-- Of two faults none follows the other, where the first is an unexpected token or a parenthesis too deep.
 use Rattle.std.specs.Prelude.{◌⊎◌}
 use Rattle.std.proofs.Common.{◌≡◌, ℕ, List, [], ◌∷◌, length, sym, ◌∙◌, ap, subst, inl, inr, arith}
 use Rattle.il_syntax.specs.declared.token.Token.{Token}
@@ -11,7 +11,7 @@ use Rattle.load_lines.specs.declared.stop.SyntaxError.{SyntaxError}
 use Rattle.load_lines.specs.declared.stop.SyntaxError.TheVariants.{Unexpected, TooDeep, TooMany}
 use Rattle.il_fault_laws.proofs.Parts.{Parts}
 
--- a text that is cut behind a token is alike up to it
+-- a text that is cut after a token is alike up to it
 pub cut_alike : (text other : List ℕ) (at : List Token) (t : Token) (back ts us vs : List Token) → IsCut text other at ts us vs → IsEndOf (t ∷ back) ts → IsEndOf at back → AreAlike text other (t ∷ back) ts us
 cut_alike text other at t back [] us vs c e k = absurd cc
 cut_alike text other at t back (u ∷ ts) us vs (inl c) e k =
@@ -44,13 +44,13 @@ alike_between text a b t back (u ∷ ts) us vs ws (inr c) d =
     go (inr m) f = inr (f m)
 
 module _ (text : List ℕ) (ts : List Token) where
-  -- a fault behind an unexpected token
+  -- a fault after an unexpected token
   pub behind_unexpected : (p q : Place) (error : SyntaxError) (t : Token) (back at : List Token) → Parts text ts p Unexpected (t ∷ back) → Parts text ts q error at → IsEndOf at back → ⊥
   behind_unexpected p q error t back at e f k =
       let b = f.before in
       e.nowhere b.0 b.1 (cut_alike text b.0 at t back ts b.1 b.2 b.4 e.inside k) b.5 b.6 tt
 
-  -- or behind a parenthesis too deep
+  -- or after a parenthesis too deep
   pub behind_deep : (p q : Place) (error : SyntaxError) (t : Token) (back at : List Token) → Parts text ts p TooDeep (t ∷ back) → Parts text ts q error at → IsEndOf at back → ⊥
   behind_deep p q error t back at e f k =
       let b = f.before in

@@ -32,7 +32,7 @@ blanks_up : (text ends : List ℕ) (i j : ℕ) → AreBlanks text ends i j → i
 blanks_up text [] i j h = omega (arith, h)
 blanks_up text (k ∷ ends) i j h = omega (arith, (blank_within text i k h.0).0, blanks_up text ends k j h.1)
 
--- tokens stand behind the place that they are read from
+-- tokens follows the place that they are read from
 pub tokens_up : (text : List ℕ) (at : ℕ) (ts : List Token) (t : Token) (back : List Token) → AreTokens text at ts → IsEndOf (t ∷ back) ts → at ≤ t.start
 tokens_up text at [] t back h e = absurd cc
 tokens_up text at (u ∷ ts) t back h (inl e) =
@@ -45,7 +45,7 @@ tokens_up text at (u ∷ ts) t back h (inr e) =
     let more = tokens_up text u.end ts t back h.1 e in
     omega (arith, up, within.0, more)
 
--- one behind another begins later
+-- one after another begins later
 pub starts_rise : (text : List ℕ) (at : ℕ) (ts : List Token) (t : Token) (back : List Token) (u : Token) (more : List Token) → AreTokens text at ts → IsEndOf (t ∷ back) ts → IsEndOf (u ∷ more) back → t.start < u.start
 starts_rise text at [] t back u more h e k = absurd cc
 starts_rise text at (x ∷ ts) t back u more h (inl e) k =
@@ -56,7 +56,7 @@ starts_rise text at (x ∷ ts) t back u more h (inl e) k =
     subst (λ (y : Token). y.start < u.start) (sym same) (omega (arith, within.0, up))
 starts_rise text at (x ∷ ts) t back u more h (inr e) k = starts_rise text x.end ts t back u more h.1 e k
 
--- each stands in the text
+-- each is in the text
 pub starts_within : (text : List ℕ) (at : ℕ) (ts : List Token) (t : Token) (back : List Token) → AreTokens text at ts → IsEndOf (t ∷ back) ts → t.start < length text
 starts_within text at [] t back h e = absurd cc
 starts_within text at (u ∷ ts) t back h (inl e) =

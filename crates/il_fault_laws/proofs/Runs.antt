@@ -1,4 +1,4 @@
--- Things one behind another, up to one of them, in texts that are alike.
+-- Things one after another, up to one of them, in texts that are alike.
 use Rattle.std.proofs.Common.{◌≡◌, ◌≤◌, ℕ, zero, suc, List, [], ◌∷◌, ◌++◌, length, refl, sym, ap, subst, arith, Some}
 use Rattle.std.specs.List.{slice_get}
 use Rattle.il_syntax.specs.declared.token.Token.{Token}
@@ -13,7 +13,7 @@ get_split [] (suc n) x e = absurd cc
 get_split (y ∷ xs) zero x e = let same : y ≡ x = cc in ([], xs, ap (λ z. z ∷ xs) same, refl)
 get_split (y ∷ xs) (suc n) x e = let r = get_split xs n x e in (y ∷ r.0, r.1, ap (λ z. y ∷ z) r.2, ap suc r.3)
 
--- the first of them, and what stands behind
+-- the first of them, and what follows
 pub split_run : {A : Type 0} (P : A → Front) (front more : List A) (E : Front) (ts r : List Token) → Repeats P (front ++ more) E ts r → (mid : List Token) × Repeats P front Nothing ts mid × Repeats P more E mid r
 split_run P [] more E ts r w = (ts, refl, w)
 split_run P (x ∷ front) more E ts r w = let k = split_run P front more E (skip_line_ends w.0) r w.2 in (k.0, (w.0, w.1, k.1), k.2)
@@ -24,13 +24,13 @@ join_run P [] more E ts mid r w v = subst (λ (k : List Token). Repeats P more E
 join_run P (x ∷ front) more E ts mid r w v = (w.0, w.1, join_run P front more E (skip_line_ends w.0) mid r w.2 v)
 
 module _ {A : Type 0} {P : List ℕ → A → Front} (one : IsLocal loose P) where
-  -- what stands behind them is an end
+  -- what follows them is an end
   pub run_end : (text : List ℕ) (front : List A) (ts mid : List Token) → Repeats (P text) front Nothing ts mid → IsEndOf mid ts
   run_end text [] ts mid w = end_same ts mid w
   run_end text (x ∷ front) ts mid w =
       end_of_end mid (skip_line_ends w.0) ts (end_of_end (skip_line_ends w.0) w.0 ts ((one.carries x).ends text ts w.0 w.1) (loose_gap.ends w.0)) (run_end text front (skip_line_ends w.0) mid w.2)
 
-  -- they stand in an alike text
+  -- they are in an alike text
   pub carry_run : (text other : List ℕ) (back : List Token) (front : List A) (ts us mid : List Token) → AreAlike text other back ts us → Repeats (P text) front Nothing ts mid → length back ≤ length mid
       → (n : List Token) × Repeats (P other) front Nothing us n × AreAlike text other back mid n
   carry_run text other back [] ts us mid a w l = (us, refl, subst (λ (k : List Token). AreAlike text other back k us) w a)

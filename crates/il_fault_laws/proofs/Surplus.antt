@@ -1,4 +1,4 @@
--- A surplus is local: the token with which an instruction or a unit begins, behind as many others, begins one in each text that is alike up to it, or is a
+-- A surplus is local: the token with which an instruction or a unit begins, after as many others, begins one in each text that is alike up to it, or is a
 -- label there.
 use Rattle.std.specs.Prelude.{◌⊎◌}
 use Rattle.std.proofs.Common.{◌≡◌, ◌≤◌, ℕ, List, [], ◌∷◌, ◌++◌, length, refl, sym, ◌∙◌, ap, subst, inl, inr, arith}
@@ -31,11 +31,11 @@ use Rattle.il_fault_laws.proofs.Parts.{one_start}
 use Rattle.il_fault_laws.proofs.Runs.{split_run, run_end, carry_run, same_run}
 use Rattle.il_fault_laws.proofs.Headings.{Heading, heading_of, end_none, split_unit, heading_sure, heading_carries}
 
--- the first of these instructions stands at a token
+-- the first of these instructions is at a token
 abbrev pub IsStep : Token → List Step → Type 0
 IsStep t more = (s : Step) × (ms : List Step) × (more ≡ s ∷ ms) × IsItsPlace t s.place
 
--- a token is a label, behind others on lines of their own
+-- a token is a label, after others on lines of their own
 abbrev pub IsLabel : List ℕ → Token → List Token → Type 0
 IsLabel other t us = (ls : List Named) × (tl : List Token) × Repeats (SpellsLabelLine other) ls Nothing us (t ∷ tl) × (n : Named) × (r : List Token) × SpellsLabel other n (t ∷ tl) r
 
@@ -43,18 +43,18 @@ IsLabel other t us = (ls : List Named) × (tl : List Token) × Repeats (SpellsLa
 abbrev pub TheEndOf : List ℕ → Keyword → List Named × Place → Front
 TheEndOf other last y = Repeats (SpellsLabelLine other) y.0 (At y.1 (TheWord other last))
 
--- the first label, and what stands behind it
+-- the first label, and what follows it
 behind_label : (text : List ℕ) (n : Named) (ns : List Named) (F : Front) (ts r : List Token) → SpellsLabelled text (n ∷ ns) F ts r → (m : List Token) × SpellsLabel text n ts m × SpellsLabelled text ns F (skip_line_ends m) r
 behind_label text n [] F ts r w = w
 behind_label text n (o ∷ ns) F ts r w = (w.0, w.1, subst (λ (k : List Token). SpellsLabelled text (o ∷ ns) F k r) (sym (skip_one w.0 w.2.0 w.2.1)) w.2.2)
 
 module _ (text other : List ℕ) (whole : List Token) (cut : AreTokens text 0 whole) (t : Token) (back : List Token) (there : IsEndOf (t ∷ back) whole) where
-  -- what stands at the token begins with it
+  -- what is at the token begins with it
   pub at_token : (F : Front) (p : Place) (ts r : List Token) → IsEndOf ts whole → IsItsPlace t p → At p F ts r → ts ≡ t ∷ back
   at_token F p [] r e same w = absurd w
   at_token F p (u ∷ ts) r e same w = one_start text whole u t ts back cut e there (w.0 ∙ same.0)
 
-  -- tokens among which it stands end with it
+  -- tokens among which it is end with it
   pub among_token : (p : Place) (ts : List Token) → IsEndOf ts whole → IsItsPlace t p → StandsAmong ts p → IsEndOf (t ∷ back) ts
   among_token p ts e same w =
       let one = one_start text whole w.0 t w.1 back cut (end_of_end (w.0 ∷ w.1) ts whole e w.2) there (sym w.3.0 ∙ same.0) in
@@ -73,7 +73,7 @@ module _ (text other : List ℕ) (whole : List Token) (cut : AreTokens text 0 wh
       let c = (label_local.carries n).over text other (t ∷ back) ts us m a label (omega (arith, l, less)) in
       (c.0, c.1, loose_gap.alike text other (t ∷ back) m c.0 c.2 l, inside)
 
-  -- an instruction without labels stands at the token
+  -- an instruction without labels is at the token
   placed_same : (ns : List Named) (p q : Place) (i j : Instruction) (ts us r s : List Token) → IsEndOf ts whole → IsItsPlace t p → AreAlike text other (t ∷ back) ts us → SpellsLabelled text ns (At p (SpellsInstruction text i)) ts r
       → At q (SpellsInstruction other j) us s → IsItsPlace t q
   placed_same [] p q i j ts us r s e same a w v =
@@ -86,7 +86,7 @@ module _ (text other : List ℕ) (whole : List Token) (cut : AreTokens text 0 wh
       let c = carry_label n ns (SpellsInstruction text i) p ts us k.0 r e same a k.1 k.2 in
       absurd (instruction_no_label other j n us s c.0 (at_holds other (SpellsInstruction other j) q us s v) c.1)
 
-  -- an instruction with labels stands at the token, or this is one of its labels
+  -- an instruction with labels is at the token, or this is one of its labels
   labelled_same : (ns ms : List Named) (p q : Place) (i j : Instruction) (ts us r s : List Token) → IsEndOf ts whole → IsItsPlace t p → AreAlike text other (t ∷ back) ts us → SpellsLabelled text ns (At p (SpellsInstruction text i)) ts r
       → SpellsLabelled other ms (At q (SpellsInstruction other j)) us s → IsItsPlace t q ⊎ IsLabel other t us
   labelled_same ns [] p q i j ts us r s e same a w v = inl (placed_same ns p q i j ts us r s e same a w v)
@@ -152,7 +152,7 @@ pub record HasIt (other : List ℕ) (t : Token) (us : List Token) (v : ProgramUn
   pub outcome : IsStep t more ⊎ IsLabel other t here
 
 module _ (text other : List ℕ) (whole : List Token) (cut : AreTokens text 0 whole) (t : Token) (back : List Token) (there : IsEndOf (t ∷ back) whole) where
-  -- what stands behind as many instructions
+  -- what follows as many instructions
   here_same : (last : Keyword) → sort_at (reserved last) ≡ none → (s : Step) (more : List Step) (y : List Named × Place) (ts us m r : List Token) → IsEndOf ts whole → IsItsPlace t s.place → AreAlike text other (t ∷ back) ts us
       → SpellsStep text s ts m → Repeats (SpellsStep other) more (TheEndOf other last y) us r → IsStep t more ⊎ IsLabel other t us
   here_same last ends s [] y ts us m r e same a w v = inr (ends_same text other whole cut t back there last ends s.labels y.0 s.place y.1 s.instruction ts us m r e same a w v)
@@ -206,7 +206,7 @@ module _ (text other : List ℕ) (whole : List Token) (cut : AreTokens text 0 wh
         outcome = here_same (end_word v.kind) (end_none v.kind) s z.0 (v.body.last_labels, v.body.end) k.0 c.0 k.2.0 q e_in same c.2 k.2.1 z.2;
       }
 
--- The units of an alike text begin with those before the token, and one more stands there.
+-- The units of an alike text begin with those before the token, and one more is there.
 pub record HasUnits (text other : List ℕ) (t : Token) (back : List Token) (front : List ProgramUnit) (mid us : List Token) (all : List ProgramUnit) : Type 0 where
   pub from : List Token
   pub read : Repeats (SpellsUnit other) front Nothing us from

@@ -1,4 +1,4 @@
--- Cuts, one behind another.
+-- Cuts, one after another.
 use Rattle.std.proofs.Common.{◌≡◌, ℕ, List, [], ◌∷◌, length, refl, sym, ◌∙◌, ap, subst, inl, inr, arith}
 use Rattle.il_syntax.specs.declared.token.Token.{Token}
 use Rattle.il_syntax_laws.specs.Alike.{IsEndOf, AreAlike}
@@ -9,7 +9,7 @@ use Rattle.il_syntax_laws.proofs.GoesOn.{cut_here}
 use Rattle.load_tree.proofs.Cuts.{cut_back}
 use Rattle.il_fault_laws.proofs.Order.{cut_alike}
 
--- what is behind the cut is an end of the other text
+-- what follows the cut is an end of the other text
 pub cut_rest : (text other : List ℕ) (at ts us vs : List Token) → IsCut text other at ts us vs → IsEndOf vs us
 cut_rest text other at ts us vs c = cut_end other text vs us ts at (cut_back text other at ts us vs c)
 
@@ -37,7 +37,7 @@ cut_trans text a b back (u ∷ ts) us vs ws xs (inr c) d = go (subst (λ (x : Li
         absurd (omega (arith, same, short))
     go (inr f) g = inr (f.0, f.1, c.2 ∙ f.2, g f.0 f.3)
 
--- a text that is cut like another, behind a token or later, is alike up to this token
+-- a text that is cut like another, after a token or later, is alike up to this token
 pub through : (text a b : List ℕ) (t : Token) (back ts us vs m ws xs : List Token) → IsCut text a back ts us vs → IsCut a b m us ws xs → IsEndOf m vs → IsEndOf (t ∷ back) ts → AreAlike text b (t ∷ back) ts ws
 through text a b t back ts us vs m ws xs c d k e =
     let r = cut_earlier a b m vs us ws xs d k (cut_rest text a back ts us vs c) in
@@ -57,7 +57,7 @@ before_cut text other t back (u ∷ ts) us vs (inr c) (inl e) =
     end_same us (t ∷ vs) (c.1 ∙ ap (λ (l : List Token). u ∷ l) here ∙ ap (λ (x : Token). x ∷ vs) (sym first))
 before_cut text other t back (u ∷ ts) us vs (inr c) (inr e) = subst (λ (x : List Token). IsEndOf (t ∷ vs) x) (sym c.1) (inr (before_cut text other t back ts c.0 vs c.3 e))
 
--- the tokens behind two cuts, one token apart
+-- the tokens after two cuts, one token apart
 pub next_cut : (text other : List ℕ) (x : Token) (back ts us ms ns : List Token) → IsCut text other (x ∷ back) ts us ms → IsCut text other back ts us ns → ms ≡ x ∷ ns
 next_cut text other x back [] us ms ns c d = absurd (cc c.0)
 next_cut text other x back (u ∷ ts) us ms ns (inl c) (inl d) = let a = ap length c.0 in let b = ap length d.0 in absurd (omega (arith, a, b))

@@ -1,4 +1,4 @@
--- Where tests stand, and what they are.
+-- Where tests are, and what they are.
 use Rattle.std.proofs.Common.{◌≡◌, ℕ, zero, suc, ◌+◌, List, [], ◌∷◌, refl, sym, ap, ◌∙◌, Some, None, Option, subst, ℤ, arith, slice_get, true}
 use Rattle.std.specs.Prelude.{option_map, option_and_then}
 use Rattle.il_syntax.specs.declared.tree.Config.{Config}
@@ -63,15 +63,15 @@ unlabelled_is body place i e = by_step (slice_get body.steps place) e
 pub next : (place : ℕ) → place + 1 ≡ suc place
 next place = omega arith
 
--- no test behind what is no LD of a variable
+-- no test after what is no LD of a variable
 pub compared_behind : (c : Config) (u : ProgramUnit) (place : ℕ) → loaded_variable c u (instruction_at u.body place) ≡ None → compared_at c u (place + 1) ≡ None
 compared_behind c u place e = ap (compared_at c u) (next place) ∙ nothing_on (λ i. option_and_then (comparison_of i) (loaded_variable c u (instruction_at u.body place))) (unlabelled (slice_get u.body.steps (suc place))) (λ i. on_none (comparison_of i) (loaded_variable c u (instruction_at u.body place)) e)
 
--- nor behind what is none of its comparisons
+-- nor after what is none of its comparisons
 pub tested_behind : (c : Config) (u : ProgramUnit) (place : ℕ) → compared_at c u place ≡ None → test_at c u (place + 1) ≡ None
 tested_behind c u place e = ap (test_at c u) (next place) ∙ nothing_on (λ i. option_and_then (jump_on i) (compared_at c u place)) (unlabelled (slice_get u.body.steps (suc place))) (λ i. on_none (jump_on i) (compared_at c u place) e)
 
--- a comparison that stands at a place, behind the LD of its variable
+-- a comparison that is at a place, after the LD of its variable
 pub record Compares (c : Config) (u : ProgramUnit) (place : ℕ) (t : Test) : Type 0 where
   pub variable : Text × Elementary
   pub comparison : comparison_of (instruction_at u.body place) variable ≡ Some t
@@ -83,7 +83,7 @@ compares c u (suc n) t e =
     let b = had (comparison_of a.from) (loaded_variable c u (instruction_at u.body n)) t a.gives in
     record { variable = b.from; comparison = ap (λ i. comparison_of i b.from) (unlabelled_is u.body (suc n) a.from a.was) ∙ b.gives }
 
--- the test behind an LD is one of its variable
+-- the test after an LD is one of its variable
 pub record Loads (c : Config) (u : ProgramUnit) (place : ℕ) (t : Test) : Type 0 where
   pub from : Instruction
   pub variable : Text × Elementary
@@ -96,7 +96,7 @@ loads_of c u place t e =
     let b = had (comparison_of a.from) (loaded_variable c u (instruction_at u.body place)) t a.gives in
     record { from = a.from; variable = b.from; loads = b.was; comparison = b.gives }
 
--- the jump of a test that stands at a place
+-- the jump of a test that is at a place
 pub record JumpsOn (c : Config) (u : ProgramUnit) (place : ℕ) (t : Test) : Type 0 where
   pub before : Test
   pub jumps : jump_on (instruction_at u.body place) before ≡ Some t
@@ -123,7 +123,7 @@ same_jump (Return condition) s t e = cc
 same_jump (Call condition instance arguments) s t e = cc
 same_jump (Invoke function operands) s t e = cc
 
--- the test behind a comparison is that comparison's
+-- the test after a comparison is that comparison's
 pub tested_of : (c : Config) (u : ProgramUnit) (place : ℕ) (t : Test) → test_at c u (place + 1) ≡ Some t → compared_at c u place ≡ Some t
 tested_of c u place t e =
     let a = had (λ i. option_and_then (jump_on i) (compared_at c u place)) (unlabelled (slice_get u.body.steps (suc place))) t (sym (ap (test_at c u) (next place)) ∙ e) in

@@ -71,7 +71,7 @@ pub record Knowledge : Type 0 where
   pub result : Option Known
   pub deferred : List KnownDeferred
 
--- What is known at each place of a body, the last of them the return behind its last instruction; nothing at a place that nothing reaches.
+-- What is known at each place of a body, the last of them the return after its last instruction; nothing at a place that nothing reaches.
 abbrev pub Annotation : Type 0
 Annotation = List (Option Knowledge)
 
@@ -296,7 +296,7 @@ IsStored s Plain m k = WithTarget s.known.variables m (λ scalar. Fits scalar k)
 IsStored s _ m Flag = WithTarget s.known.variables m (λ scalar. Fits scalar Flag) × GoesOnWith s s.known.result
 IsStored s _ m (Ranged e i) = ⊥
 
--- The type of a bare literal behind an operator: that of the current result.
+-- The type of a bare literal after an operator: that of the current result.
 abbrev pub operand_context : Spot → Operand → Known → Elementary
 operand_context s operand Flag = natural (spot_denotation s operand)
 operand_context s operand (Ranged e i) = e
@@ -386,7 +386,7 @@ abbrev pub after_output : Option Form → Denotation → NameMap Interval → Na
 after_output (Some (ScalarForm scalar)) m variables = after_store m (declared_known scalar) variables
 after_output _ m variables = variables
 
--- Each target of an output has the output's declared range, the last in the written order for a target that stands twice.
+-- Each target of an output has the output's declared range, the last in the written order for a target that is twice.
 abbrev pub after_outputs : Spot → Text → List Argument → NameMap Interval → NameMap Interval
 after_outputs s block [] variables = variables
 after_outputs s block (Input word operand ∷ more) variables = after_outputs s block more variables
@@ -436,7 +436,7 @@ IsInvoked s None (Some u) operands first =
     FitsFirst (named_forms u.inputs) first × FitInputs s (rest_of (named_forms u.inputs)) operands × IsResultOf s u.kind
 IsInvoked s None None operands first = ⊥
 
--- A jump stands outside of parentheses, so nothing is set aside there (3.2.2). At the jump of a test both sides have what its comparison leaves.
+-- A jump is outside of parentheses, so nothing is set aside there (3.2.2). At the jump of a test both sides have what its comparison leaves.
 -- For all values in the ranges of the place the instruction does not trap, and what it gives lies in the ranges of every successor.
 abbrev pub Passes : Spot → Instruction → Type 0
 Passes s (Load negated operand) = WithLoaded s operand (λ k. IsLoaded s negated k)
@@ -462,7 +462,7 @@ pub record IsAnnotatedBelow (config : Config) (unit : ProgramUnit) (bound : ℕ)
   pub each : (place : ℕ) (k : Knowledge) → place < bound → slice_get annotation place ≡ Some (Some k)
       → Passes (record { config = config; unit = unit; annotation = annotation; place = place; known = k }) (instruction_at unit.body place)
 
--- How many places a body has, the return behind the last instruction among them.
+-- How many places a body has, the return after the last instruction among them.
 abbrev pub places : ProgramUnit → ℕ
 places u = length u.body.steps + 1
 

@@ -112,7 +112,7 @@ abbrev pub or_dint : Option Elementary → Elementary
 or_dint None = Dint
 or_dint (Some e) = e
 
--- The type of a bare literal behind LD, in a short form and in SEL: INT where it fits, otherwise DINT.
+-- The type of a bare literal after LD, in a short form and in SEL: INT where it fits, otherwise DINT.
 -- Other operands have types of their own (own rule).
 abbrev pub natural : Denotation → Elementary
 natural (Constant l) = or_dint (literal_type l)

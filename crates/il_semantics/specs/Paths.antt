@@ -146,13 +146,13 @@ abbrev pub return_rest : Condition → List Rest → ℕ → Rest
 return_rest Always table next = rest 1 None
 return_rest _ table next = dearer (passing 1 table next) (rest 1 None)
 
--- The rest of a place, by the table of the places behind it. `own` is what the instruction costs where it acts.
+-- The rest of a place, by the table of the places after it. `own` is what the instruction costs where it acts.
 abbrev pub place_rest : Body → Instruction → ℕ → List Rest → ℕ → Rest
 place_rest body (Jump condition label) own table next = jump_rest condition table next (label_place body label.name)
 place_rest body (Return condition) own table next = return_rest condition table next
 place_rest body _ own table next = passing own table next
 
--- The table of the places from one on; the last is the return behind the last instruction.
+-- The table of the places from one on; the last is the return after the last instruction.
 abbrev pub rests : (Instruction → ℕ) → Body → ℕ → List BodyStep → List Rest
 rests own body place [] = rest 1 None ∷ []
 rests own body place (s ∷ ss) =

@@ -66,7 +66,7 @@ jump_on (Jump WhenTrue label) t = Some t
 jump_on (Jump WhenFalse label) t = Some t
 jump_on _ t = None
 
--- The instruction, if no label stands before it.
+-- The instruction, if no label comes before it.
 abbrev pub if_unlabelled : List Named → Instruction → Option Instruction
 if_unlabelled [] i = Some i
 if_unlabelled (label ∷ labels) i = None
@@ -76,13 +76,13 @@ abbrev pub unlabelled : Option Step → Option Instruction
 unlabelled None = None
 unlabelled (Some s) = if_unlabelled s.labels s.instruction
 
--- The comparison that stands at a place, behind the LD of its variable.
+-- The comparison that is at a place, after the LD of its variable.
 abbrev pub compared_at : Config → ProgramUnit → ℕ → Option Test
 compared_at c u zero = None
 compared_at c u (suc n) =
     option_and_then (λ i. option_and_then (comparison_of i) (loaded_variable c u (instruction_at u.body n))) (unlabelled (slice_get u.body.steps (suc n)))
 
--- The test whose jump stands at a place, behind its comparison.
+-- The test whose jump is at a place, after its comparison.
 abbrev pub test_at : Config → ProgramUnit → ℕ → Option Test
 test_at c u zero = None
 test_at c u (suc n) = option_and_then (λ i. option_and_then (jump_on i) (compared_at c u n)) (unlabelled (slice_get u.body.steps (suc n)))

@@ -97,7 +97,7 @@ module _ (c : Config) (p : ProgramUnit) (order : IsInOrder c p) (bound : ℕ) (v
   target_by name (Some (ArrayForm bounds e)) vs ws P w = w
   target_by name (Some (BlockForm b)) vs ws P w = w
 
-  -- the target of an output, and what is known behind some outputs
+  -- the target of an output, and what is known after some outputs
   abbrev aim : Text → Denotation
   aim name = denotation c u (OfVariable name)
 

@@ -32,7 +32,7 @@ step_of_place i None e p = let never : false ≡ true = ap can_pass e ∙ p in c
 -- THE TABLE
 
 module _ (own : Instruction → ℕ) (body : Body) where
-  -- the rest of a place, with the table behind it
+  -- the rest of a place, with the table after it
   rest_there : (place : ℕ) (ss : List BodyStep) (n : ℕ) (s : BodyStep) → slice_get ss n ≡ Some s
       → (tail : List Rest) × (slice_get (rests own body place ss) n ≡ Some (place_rest body s.instruction (own s.instruction) tail (place + n + 1))) × ((m : ℕ) → slice_get tail m ≡ slice_get (rests own body place ss) (n + 1 + m))
   rest_there place [] n s e = cc
@@ -52,7 +52,7 @@ module _ (own : Instruction → ℕ) (body : Body) where
         λ m. let k : suc (n + 1 + m) ≡ suc n + 1 + m = omega arith in r.2 m ∙ ap (slice_get (rests own body place (t ∷ ss))) k,
       )
 
-  -- behind the last place stands the return
+  -- after the last place is the return
   rest_last : (place : ℕ) (ss : List BodyStep) → slice_get (rests own body place ss) (length ss) ≡ Some (rest 1 None)
   rest_last place [] = refl
   rest_last place (s ∷ ss) = rest_last (place + 1) ss
@@ -64,7 +64,7 @@ module _ (own : Instruction → ℕ) (body : Body) where
   table_at : (n : ℕ) (r : Rest) → slice_get (rests own body 0 body.steps) n ≡ Some r → left_at n ≡ r.cost
   table_at n r e = let same : n - 0 ≡ n = omega arith in ap (λ k. (rest_or (slice_get (rests own body 0 body.steps) k)).cost) same ∙ ap (λ o. (rest_or o).cost) e
 
-  -- and at a place behind another, in the table of that
+  -- and at a place after another, in the table of that
   tail_at : (tail : List Rest) (n q : ℕ) → n < q → ((m : ℕ) → slice_get tail m ≡ slice_get (rests own body 0 body.steps) (n + 1 + m)) → (rest_at tail (0 + n + 1) q).cost ≡ left_at q
   tail_at tail n q low is =
       let here : q - (0 + n + 1) ≡ q - (n + 1) = omega arith in

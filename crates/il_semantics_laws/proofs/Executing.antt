@@ -99,7 +99,7 @@ module _ (c : Config) (p : ProgramUnit) (order : IsInOrder c p) (annotated : Ann
   positive : (i : Instruction) → 0 < own i
   positive i = costs_some (longest_within (15 - length below) c) (callee c u i)
 
-  -- the frame goes on behind its instruction
+  -- the frame goes on after its instruction
   on_ok : (i : Instruction) → instruction_at u.body f.place ≡ i → can_pass i ≡ true → (ds : List Deferred) (after : Values) (r : Option Content) (next : Knowledge) → Leads a.annotation (f.place + 1) next → Holds c p after → Confined f.path values after
       → KnowsVariables c u f.path next.variables after → AreKnown next.deferred ds → IsKnownResult next.result r → IsTested c u f.path (f.place + 1) after r → Q (goes_to scene (f.place + 1) ds after r)
   on_ok i is passes ds after r next leads held confined knows deferred is_known amid =
@@ -111,7 +111,7 @@ module _ (c : Config) (p : ProgramUnit) (order : IsInOrder c p) (annotated : Ann
   gives_ok : (i : Instruction) → instruction_at u.body f.place ≡ i → can_pass i ≡ true → (m : Option Known) (r : Option Content) → GoesOnWith spot m → IsKnownResult m r → IsTested c u f.path (f.place + 1) values r → Q (goes_on scene values r)
   gives_ok i is passes m r leads is_known amid = on_ok i is passes f.deferred values r _ leads holds (confined_nothing f.path values) a.variables a.deferred is_known amid
 
-  -- the same of an instruction behind which no test goes on
+  -- the same of an instruction after which no test goes on
   on_apart : (i : Instruction) → instruction_at u.body f.place ≡ i → can_pass i ≡ true → is_apart i ≡ true → (ds : List Deferred) (after : Values) (r : Option Content) (next : Knowledge) → Leads a.annotation (f.place + 1) next → Holds c p after → Confined f.path values after
       → KnowsVariables c u f.path next.variables after → AreKnown next.deferred ds → IsKnownResult next.result r → Q (goes_to scene (f.place + 1) ds after r)
   on_apart i is passes apart ds after r next leads held confined knows deferred is_known = on_ok i is passes ds after r next leads held confined knows deferred is_known (tested_apart c u f.path f.place i after r is apart)
@@ -126,7 +126,7 @@ module _ (c : Config) (p : ProgramUnit) (order : IsInOrder c p) (annotated : Ann
 
   -- LD AND LDN --
 
-  -- a test may stand behind LD of a number
+  -- a test may follows LD of a number
   variable_loaded : (o : Operand) (name : Text) (s : Scalar) → instruction_at u.body f.place ≡ Load false o → denotation c u o.reference ≡ Direct name s → is_counted s.elementary ≡ true → Passes spot (Load false o) → Q (executed scene (Load false o))
   variable_loaded o name s is e counts p =
       subst (λ m. Q (with_operand (natural m) f.path values m (λ d. gives scene d))) (sym e)
@@ -235,7 +235,7 @@ module _ (c : Config) (p : ProgramUnit) (order : IsInOrder c p) (annotated : Ann
           reads e x.elementary o (λ m. WithOperated operator (Ranged e i) m (λ n. GoesOnWith spot (Some n))) _ (λ j v. ap (λ (y : Content). y.elementary) h.1) w (λ m y g v.
           operated_ok Q operator (Ranged e i) m x y _ _ h g v (λ n z q t. gives_ok _ is refl (Some n) (Some z) t q (amid z)))
 
-  -- a test's comparison: behind it the result is the outcome for the variable's value
+  -- a test's comparison: after it the result is the outcome for the variable's value
   compares_ok : (operator : Operator) (o : Operand) (t : Test) → instruction_at u.body f.place ≡ Operate operator o → compared_at c u f.place ≡ Some t → Passes spot (Operate operator o) → Q (executed scene (Operate operator o))
   compares_ok operator o t is e p =
       let h = compares c u f.place t e in

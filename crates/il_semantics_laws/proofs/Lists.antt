@@ -40,7 +40,7 @@ of_flat_map {A = A} f (y ∷ ys) z among = by_side (Contains-append_cases (f y) 
     by_side (inl here) more = (y, at_head y ys, here)
     by_side (inr there) more = let r = more there in (r.0, in_tail y ys r.0 r.1, r.2)
 
--- the list before an element, and behind it
+-- the list before an element, and after it
 split : {A : Type 0} (xs : List A) (x : A) → Contains xs x → (before : List A) × (after : List A) × (xs ≡ before ++ x ∷ after)
 split [] x among = absurd (in_nothing x among)
 split (y ∷ ys) x (zero, low, same) = ([], ys, ap (λ z. z ∷ ys) same)

@@ -133,7 +133,7 @@ place_of longest c u forward place low =
 at_last : (u : ProgramUnit) (place : ℕ) → length u.body.steps ≤ place → instruction_at u.body place ≡ Return Always
 at_last u place le = ap instruction_or_return (slice_get_past u.body.steps place le)
 
--- where the next place stands
+-- where the next place is
 goes_within : (u : ProgramUnit) (place : ℕ) → place < length u.body.steps → (i : Instruction) (acts : Bool) (next : ℕ) → onward u.body place i acts ≡ To next → next ≤ length u.body.steps
 goes_within u place low i acts next e = by_kind i acts e
   where
@@ -158,7 +158,7 @@ goes_within u place low i acts next e = by_kind i acts e
     by_kind (Call condition instance arguments) acts e = one e
     by_kind (Invoke function operands) acts e = one e
 
--- the return behind the last instruction goes nowhere
+-- the return after the last instruction goes nowhere
 last_stays : {A : Type 0} (u : ProgramUnit) (place : ℕ) (acts : Bool) (next : ℕ) → length u.body.steps ≤ place → is_possible (instruction_at u.body place) acts ≡ true → onward u.body place (instruction_at u.body place) acts ≡ To next → A
 last_stays u place true next le possible e = let bad : Ends ≡ To next = ap (λ i. onward u.body place i true) (sym (at_last u place le)) ∙ e in cc
 last_stays u place false next le possible e = let bad : false ≡ true = ap (λ i. is_possible i false) (sym (at_last u place le)) ∙ possible in cc
@@ -222,7 +222,7 @@ none_follow (suc n) table = refl
 abbrev NotActing : Config → ProgramUnit → ℕ → ℕ → Type 0
 NotActing c u place cost = (others : List Visit) (other : ℕ) → IsPath c u place (visit place false ∷ others) other → other < cost
 
--- a way's first visit and those behind it
+-- a way's first visit and those after it
 ties_on : (c : Config) (u : ProgramUnit) (place : ℕ) (acts : Bool) (visits : List Visit) (cost : ℕ) → IsPath c u place (visit place acts ∷ visits) cost → (acts ≡ true → NotActing c u place cost) → ((v : Visit) → Contains visits v → ActsForMore c u v)
     → (v : Visit) → Contains (visit place acts ∷ visits) v → ActsForMore c u v
 ties_on c u place acts visits cost path more behind v (zero, low, same) = subst (ActsForMore c u) same (λ yes others other p. (visits, cost, subst (λ (b : Bool). IsPath c u place (visit place b ∷ visits) cost) yes path, more yes others other p))
@@ -375,7 +375,7 @@ way_at longest c u forward callees place fuel table ahead below low i is labels 
     by_kind (Defer operator first) is labels = must (Defer operator first) is refl refl refl
     by_kind Evaluate is labels = must Evaluate is refl refl refl
 
--- the return behind the last instruction
+-- the return after the last instruction
 last_way : (longest : ProgramUnit → ℕ) (c : Config) (u : ProgramUnit) (place fuel : ℕ) → place ≡ length u.body.steps → Way longest c u place fuel (at_place (own longest c u) u.body place)
 last_way longest c u place fuel same =
     let last = at_last u place (omega arith) in

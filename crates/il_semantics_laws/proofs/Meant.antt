@@ -114,7 +114,7 @@ module _ (c : Config) (unbroken : HasNoFault (Broken Declaring c)) where
   pub no_25 : (a : Admitted) (t : WrittenType) → Contains (written_types c) (a, t) → ¬ Contains (type_numbers c a t.form) 25
   no_25 a t among has = unbroken 25 t.place (other_type refl (type_misplaced ((a, t), among, has, refl)))
 
-  -- where scalars alone may stand, one does (25)
+  -- where scalars alone may be, one does (25)
   pub is_scalar : (t : WrittenType) → Contains (written_types c) (ScalarsAlone, t) → (s : Scalar) × (t.form ≡ ScalarForm s)
   unfolding type_numbers
   is_scalar t among = by_form t.form refl
@@ -144,7 +144,7 @@ module _ (c : Config) (unbroken : HasNoFault (Broken Declaring c)) where
       let b = is_block ScalarsAndArrays t block among is in
       no_25 ScalarsAndArrays t among (subst (λ (f : Form). Contains (type_numbers c ScalarsAndArrays f) 25) (sym is) (subst (λ o. Contains (instance_numbers ScalarsAndArrays o) 25) (sym b.1) (at_head 25 [])))
 
-  -- an instance stands among a unit's variables, and is one of a block (21, 25)
+  -- an instance is among a unit's variables, and is one of a block (21, 25)
   own_instance : (u : ProgramUnit) (name block : Text) → Contains c.units u → Owned u name (BlockForm block) → IsListed u.variables name (BlockForm block) × ((b : BlockVariables) × (block_variables c block ≡ Some b))
   own_instance u name block among (as_result s place kind same is) = cc
   own_instance u name block among (as_input l) = let s = is_scalar l.declaration.declared (input_typed c u l.declaration among l.among) in let never : BlockForm block ≡ ScalarForm s.0 = sym l.formed ∙ s.1 in cc

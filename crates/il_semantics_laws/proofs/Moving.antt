@@ -1,4 +1,4 @@
--- A frame goes on: with other values, behind its instruction, into a body, and behind a call of its own.
+-- A frame goes on: with other values, after its instruction, into a body, and after a call of its own.
 use Rattle.std.proofs.Common.{◌≡◌, ◌<◌, ℕ, suc, ◌+◌, ◌-◌, List, [], ◌∷◌, refl, sym, ap, ◌∙◌, Some, None, Option, subst, length, ℤ, arith}
 use Rattle.std.specs.Prelude.{option_map, option_and_then}
 use Rattle.il_syntax.specs.declared.tree.Subrange.{Subrange}

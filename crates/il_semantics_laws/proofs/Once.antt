@@ -87,7 +87,7 @@ module _ (c : Config) (p : ProgramUnit) (order : IsInOrder c p) where
       let moved = subst (λ (w : Text). HasVariable c block w inner2) (sym cut.0) (subst (λ (w : Text). HasVariable c w word2 inner2) (sym blocks) has2) in
       behind_once s t more more2 inner inner2 b d cut.1 (order.block_words.once block word inner inner2 has moved)
 
-  -- what a body sees, behind the name of a variable
+  -- what a body sees, after the name of a variable
   seen_behind : (v : ProgramUnit) (path q : Text) (s : Scalar) (sees : Sees c v path q s) → (rest : Text) × (q ≡ under path sees.0 ++ rest) × Behind c s rest sees.1
   seen_behind v path q s sees = behind_of c q s (under path sees.0) sees.1 sees.3
 
@@ -97,7 +97,7 @@ module _ (c : Config) (p : ProgramUnit) (order : IsInOrder c p) where
       let cut = splits name other rest more (plain name (order.words v among name form is)) (plain other (order.words v among other same_form js)) (starts c s rest form b) (starts c t more same_form d) e in
       behind_once s t rest more form same_form b d cut.1 (same_Some form same_form (sym is ∙ ap (form_named c v) cut.0 ∙ js))
 
-  -- what a function's body sees, behind its name
+  -- what a function's body sees, after its name
   function_seen : (v : ProgramUnit) (q : Text) (s : Scalar) → v.name.name ≢ [] → (sees : Sees c v v.name.name q s) → (rest : Text) × (q ≡ v.name.name ++ 46 ∷ (sees.0 ++ rest)) × Behind c s rest sees.1
   function_seen v q s some sees = by_name v.name.name some sees.0 (seen_behind v v.name.name q s sees)
     where

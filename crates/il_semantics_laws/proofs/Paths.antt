@@ -72,7 +72,7 @@ have_insert : (m : Values) (k : Text) (v : Value) (ps : List (Text × Scalar)) �
 have_insert m k v [] old new = tt
 have_insert m k v (p ∷ ps) old new = (has_insert m k v p old.0 (new p (0, omega arith, refl)), have_insert m k v ps old.1 (λ q h. new q (suc h.0, omega (arith, h.1), h.2)))
 
--- then each path has a value of its type, where none stands with two
+-- then each path has a value of its type, where none is with two
 pub have_agreed : (ps : List (Text × Scalar)) (es : List (Text × Value)) → Agree ps es → HaveOneType ps → HaveValues (from_entries es) ps
 have_agreed [] [] h once = tt
 have_agreed [] (e ∷ es) h once = absurd h

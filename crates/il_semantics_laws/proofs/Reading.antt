@@ -49,7 +49,7 @@ IsMeant c u (Indexed name bounds e variable s) = (form_named c u name ≡ Some (
 IsMeant c u (Inside instance word s) = (block : Text) × (form_named c u instance ≡ Some (BlockForm block)) × HasVariable c block word (ScalarForm s)
 IsMeant c u Unknown = Unit {0}
 
--- an entry that is found stands in its table
+-- an entry that is found is in its table
 pub found_entry : {A : Type 0} (table : List (Spelling × A)) (name : Spelling) (x : A) → entry_of table name ≡ Some x → Contains table (name, x)
 found_entry [] name x e = cc
 found_entry {A = A} (t ∷ table) name x e = by_test (bytes_eq t.0 name) refl e (found_entry table name x)

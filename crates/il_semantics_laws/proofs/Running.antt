@@ -119,7 +119,7 @@ not_within c p values u name path instance rest f (b ∷ bs) callers same word g
     by_path [] apart e = apart.some refl
     by_path (x ∷ xs) apart e = apart.outside g (instance ++ rest) (n, omega arith, is) (e ∙ ap (λ t. t ++ rest) (under_is x xs instance) ∙ append_assoc (x ∷ xs) (46 ∷ instance) rest)
 
--- so a frame of an instance stands apart
+-- so a frame of an instance is apart
 stands_apart : (c : Config) (p : ProgramUnit) (values : Values) (u : ProgramUnit) (instance : Text) (f : Frame) (below : List Frame) → CallersAgree c p values u f.unit f.path below → IsWord instance → StandsApart (under f.path instance) (f ∷ below)
 stands_apart c p values u instance f below callers word = record {
   some = instance_some f.path instance word;
@@ -189,7 +189,7 @@ module _ (c : Config) (p : ProgramUnit) (order : IsInOrder c p) (annotated : Ann
   begins_middle : Holds c p values → Middle k.variables values
   begins_middle holds = record { holds = holds; confined = confined_nothing f.path values; knows = a.variables }
 
-  -- behind a call of a block there is no result
+  -- after a call of a block there is no result
   goes_behind : (block : Text) (arguments : List Argument) (was : Option Content) (now after : Values) → f.place + 1 < places u → left_at cost u.body (f.place + 1) + callers_left c below < bound → GoesOn at_here (after_outputs at_here block arguments k.variables) None k.deferred
       → Middle (after_outputs at_here block arguments k.variables) after → IsTested c u f.path (f.place + 1) after None → well (goes_on (in_scene now was) after None)
   goes_behind block arguments was now after inside less leads mid tested =

@@ -52,7 +52,7 @@ module _ (c : Config) (p : ProgramUnit) (program : Contains c.units p) (declarin
       let r = below_reach u us is.1 w (n, omega arith, same) in
       (r.0 ++ u ∷ [], uses_on c w u v r.0 r.1 (top_used v u us is))
 
-  -- so none stands twice (20, 36)
+  -- so none is twice (20, 36)
   pub is_acyclic : IsAcyclic c p
   is_acyclic v w us is among same =
       let here = top_among v us is in

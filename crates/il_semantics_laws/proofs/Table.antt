@@ -28,7 +28,7 @@ slice_on own body place (t ∷ steps) (suc k) s e =
     let at : (place + 1) + k + 1 ≡ place + suc k + 1 = omega arith in
     (h.0, λ j. let two : suc (suc k) + j ≡ suc (suc k + j) = omega arith in rw two (h.1 j) ∙ ap (λ p. slice_get (rests own body p h.0) j) at, h.2 ∙ ap (λ p. Some (place_rest body s.instruction (own s.instruction) (rests own body p h.0) p)) at)
 
--- behind the last instruction
+-- after the last instruction
 last_rest : (own : Instruction → ℕ) (body : Body) (place : ℕ) (steps : List BodyStep) → slice_get (rests own body place steps) (length steps) ≡ Some (rest 1 None)
 last_rest own body place [] = refl
 last_rest own body place (s ∷ steps) = last_rest own body (place + 1) steps
@@ -72,7 +72,7 @@ behind own body place low = by_step (slice_get body.steps place) refl
               ap (λ p. rest_or (slice_get (rests own body p h.0) (to - (place + 1)))) (sym at) ∙ ap rest_or (sym (h.1 (to - (place + 1)))) ∙ ap (λ n. rest_or (slice_get (rests own body 0 body.steps) n)) (there ∙ sym (minus_zero to));
         }
 
--- a label stands no further than behind the last instruction
+-- a label is no further than after the last instruction
 pub place_within : (body : Body) (name : Spelling) (to : ℕ) → label_place body name ≡ Some to → to ≤ length body.steps
 unfolding label_place
 place_within body name to e = let h = label_within 0 body.steps (map (λ l. l.name) body.last_labels) name to e in omega arith

@@ -102,7 +102,7 @@ tested_at_label c u path name to values result e = by_place to (place_labelled u
 pub tested_at_entry : (c : Config) (u : ProgramUnit) (path : Text) (values : Values) (result : Option Content) → IsTested c u path 0 values result
 tested_at_entry c u path values result = no_test c u path 0 values result refl refl
 
--- whether no test goes on behind an instruction: not behind LD of what may be a variable, nor behind a comparison
+-- whether no test goes on after an instruction: not after LD of what may be a variable, nor after a comparison
 abbrev pub is_apart : Instruction → Bool
 is_apart (Load false operand) = false
 is_apart (Operate (Comparison kind) operand) = false
@@ -135,7 +135,7 @@ apart_compares (Return condition) v t e g = cc
 apart_compares (Call condition instance arguments) v t e g = cc
 apart_compares (Invoke function operands) v t e g = cc
 
--- behind such an instruction
+-- after such an instruction
 pub tested_apart : (c : Config) (u : ProgramUnit) (path : Text) (place : ℕ) (i : Instruction) (values : Values) (result : Option Content) → instruction_at u.body place ≡ i → is_apart i ≡ true → IsTested c u path (place + 1) values result
 tested_apart c u path place i values result is apart =
     no_test c u path (place + 1) values result (compared_behind c u place (ap (loaded_variable c u) is ∙ apart_loads c u i apart)) (tested_behind c u place (by_test (compared_at c u place) refl))
@@ -144,7 +144,7 @@ tested_apart c u path place i values result is apart =
     by_test None e = e
     by_test (Some t) e = let h = compares c u place t e in absurd (apart_compares i h.variable t apart (ap (λ j. comparison_of j h.variable) (sym is) ∙ h.comparison))
 
--- behind an LD, whose place stands behind no LD of its own test
+-- after an LD, whose place follows no LD of its own test
 pub tested_loaded : (c : Config) (u : ProgramUnit) (path : Text) (place : ℕ) (negated : Bool) (o : Operand) (values : Values) (result : Option Content) → instruction_at u.body place ≡ Load negated o
     → ((t : Test) → compared_at c u (place + 1) ≡ Some t → HasTested path values t (λ z. content t.elementary (Integer z)) result) → IsTested c u path (place + 1) values result
 tested_loaded c u path place negated o values result is loaded = record {
@@ -152,7 +152,7 @@ tested_loaded c u path place negated o values result is loaded = record {
   compared = λ t e. let h = compares c u place t (tested_of c u place t e) in let bad : comparison_of (Load negated o) h.variable ≡ Some t = ap (λ j. comparison_of j h.variable) (sym is) ∙ h.comparison in cc;
 }
 
--- behind an operator
+-- after an operator
 pub tested_compared : (c : Config) (u : ProgramUnit) (path : Text) (place : ℕ) (operator : Operator) (o : Operand) (values : Values) (result : Option Content) → instruction_at u.body place ≡ Operate operator o
     → ((t : Test) → compared_at c u place ≡ Some t → HasTested path values t (λ z. truth (compared t.comparison z t.number)) result) → IsTested c u path (place + 1) values result
 tested_compared c u path place operator o values result is compares = record {

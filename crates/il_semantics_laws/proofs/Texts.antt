@@ -19,7 +19,7 @@ pub behind : (a : Text) (x : ℕ) (b : Text) → Contains (a ++ x ∷ b) x
 behind [] x b = (0, omega arith, refl)
 behind (y ∷ a) x b = let r = behind a x b in (suc r.0, omega (arith, r.1), r.2)
 
--- a point and a name behind a path, and an element's index
+-- a point and a name after a path, and an element's index
 pub member_is : (path word : Text) → member_path path word ≡ path ++ 46 ∷ word
 member_is path word = append_assoc path (codes ".") word
 
@@ -70,7 +70,7 @@ before_point (x ∷ a) (y ∷ b) name rest none e =
     joined h (inl e) = inl cc
     joined h (inr r) = inr (r.0, let e = r.1 in cc)
 
--- a scalar of a body is not within another path that stands apart from it
+-- a scalar of a body is not within another path that is apart from it
 pub apart : (path name other rest : Text) → IsWord name → ¬ (path ≡ other) → ((more : Text) → ¬ (path ≡ other ++ 46 ∷ more)) → ¬ (under path name ≡ other ++ 46 ∷ rest)
 apart [] name other rest word other_path outside e = word.no_point (subst (λ (t : Text). Contains t 46) (sym e) (behind other 46 rest))
 apart (x ∷ path) name other rest word other_path outside e = by_side (before_point (x ∷ path) other name rest word.no_point (sym (under_is x path name) ∙ e))

@@ -41,7 +41,7 @@ CallsBy c u v _ = ⊥
 abbrev pub HasUse : Config → ProgramUnit → ProgramUnit → Type 0
 HasUse c u v = Contains (found_units c (used_names u)) v
 
--- a unit and those that use it, each the one before it, up to the program, which stands last (2.5)
+-- a unit and those that use it, each the one before it, up to the program, which is last (2.5)
 abbrev pub IsStack : Config → ProgramUnit → ProgramUnit → List ProgramUnit → Type 0
 IsStack c p v [] = v ≡ p
 IsStack c p v (u ∷ us) = HasUse c u v × IsStack c p u us
@@ -100,14 +100,14 @@ KnowsVariables c u path variables values = (name : Text) (i : Interval) → get 
 abbrev pub HasTested : Text → Values → Test → (ℤ → Content) → Option Content → Type 0
 HasTested path values t made result = (z : ℤ) × (get values (under path t.name) ≡ Some (Integer z)) × (result ≡ Some (made z))
 
--- Behind the LD of a test the result is the value of its variable; behind its comparison it is the outcome for that value (own rule).
+-- After the LD of a test the result is the value of its variable; after its comparison it is the outcome for that value (own rule).
 pub record IsTested (c : Config) (u : ProgramUnit) (path : Text) (place : ℕ) (values : Values) (result : Option Content) : Type 0 where
   pub loaded : (t : Test) → compared_at c u place ≡ Some t → HasTested path values t (λ z. content t.elementary (Integer z)) result
   pub compared : (t : Test) → test_at c u place ≡ Some t → HasTested path values t (λ z. truth (compared t.comparison z t.number)) result
 
 -- FRAMES
 
--- A frame of a unit stands within its body, where its annotation knows of its variables and its deferred operations what holds; and the scan keeps what it sees (own rule).
+-- A frame of a unit is within its body, where its annotation knows of its variables and its deferred operations what holds; and the scan keeps what it sees (own rule).
 pub record FrameAgrees (c : Config) (p : ProgramUnit) (values : Values) (f : Frame) (u : ProgramUnit) (k : Knowledge) : Type 0 where
   pub named : unit_named c f.unit ≡ Some u
   pub among : Contains c.units u
@@ -160,7 +160,7 @@ table_by n c (Some u) = table_of (longest_within n c) c u
 abbrev pub frame_rest : Config → ℕ → Frame → ℕ → ℕ
 frame_rest c below f place = (rest_at (table_by (15 - below) c (unit_named c f.unit)) 0 place).cost
 
--- what the frames that have called may still cost once they go on behind their calls (own rule)
+-- what the frames that have called may still cost once they go on after their calls (own rule)
 abbrev pub callers_left : Config → List Frame → ℕ
 callers_left c [] = 0
 callers_left c (f ∷ below) = frame_rest c (length below) f (f.place + 1) + callers_left c below

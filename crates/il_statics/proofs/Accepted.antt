@@ -60,7 +60,7 @@ abbrev tail_of : {X : Type 0} → List X → List X
 tail_of [] = []
 tail_of (h ∷ t) = t
 
--- in a list of one nothing stands again
+-- in a list of one nothing is again
 again_in_one : {X : Type 0} (name : X → Spelling) (x y : X) → IsAgain name (x ∷ []) y → ⊥
 again_in_one name x y ([], after, e, c) = none_in (name y) c
 again_in_one name x y (b ∷ before, after, e, c) = too_short before after y (ap tail_of e)

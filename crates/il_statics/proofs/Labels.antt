@@ -1,4 +1,4 @@
--- Where labels stand.
+-- Where labels are.
 use Rattle.std.proofs.Common.{◌≡◌, ℕ, suc, ◌+◌, ◌≤◌, Bool, true, false, if◌then◌else◌, List, [], ◌∷◌, map, length, Option, Some, None, arith}
 use Rattle.il_syntax.specs.declared.tree.Step.{Step}
 use Rattle.il_statics.specs.Names.{Spelling, is_one_of}
@@ -7,7 +7,7 @@ use Rattle.il_statics.specs.Types.{label_from}
 same_some : (a b : ℕ) → Some a ≡ Some b → a ≡ b
 same_some a b e = cc
 
--- a label stands no further than behind the last instruction
+-- a label is no further than after the last instruction
 pub label_within : (at : ℕ) (steps : List Step) (last : List Spelling) (name : Spelling) (to : ℕ) → label_from at steps last name ≡ Some to → to ≤ at + length steps
 label_within at [] last name to e = by_test (is_one_of last name) e
   where

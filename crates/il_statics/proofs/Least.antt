@@ -46,7 +46,7 @@ before a b e = by_offset (nat_eq b.place.offset a.place.offset) refl e
     by_offset true same sooner = same_place (grind (arith, nat_tests)) (grind (arith, nat_tests))
     by_offset false differs sooner = earlier (grind (arith, nat_tests))
 
--- one fault that stands for all
+-- one fault that means all
 stands : (x : NumberedFault) (r : Option NumberedFault) (P : ℕ → Place → Type 0) → r ≡ Some x → P x.number x.place → ((n : ℕ) (p : Place) → P n p → IsNoLater x.number x.place n p) → IsLeast r P
 stands x r P is here all = record {
   none = λ e n p h. let bad : Some x ≡ None = sym is ∙ e in cc;

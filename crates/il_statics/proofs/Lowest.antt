@@ -1,4 +1,4 @@
--- The lowest number of a list stands in it, and of two lists it is the lower.
+-- The lowest number of a list is in it, and of two lists it is the lower.
 use Rattle.std.proofs.Common.{◌≡◌, ℕ, ◌<◌, ◌≤◌, inl, inr, Bool, true, false, if◌then◌else◌, List, [], ◌∷◌, ◌++◌, Option, Some, None, refl, sym, ap, ◌∙◌, subst, arith}
 use Rattle.std.specs.Prelude.{Contains, nat_lt}
 use Rattle.std.proofs.lemmas.Bool.Decides.{nat_tests}
@@ -33,7 +33,7 @@ lower_assoc (Some a) (Some b) (Some c) =
     (λ c_low. by_lower a b (λ o. lower_of (Some a) (Some c) ≡ lower_of o (Some c)) (λ b_low. second_is a c (omega arith) ∙ sym (second_is b c c_low)) (λ a_low. refl))
     (λ b_least. by_lower a b (λ o. o ≡ lower_of o (Some c)) (λ b_low. sym (first_is b c b_least)) (λ a_low. sym (first_is a c (omega arith))))
 
--- two lists, one behind the other
+-- two lists, one after the other
 pub lowest_append : (xs ys : List ℕ) → lowest (xs ++ ys) ≡ lower_of (lowest xs) (lowest ys)
 lowest_append [] ys = refl
 lowest_append (x ∷ xs) ys = ap (lower_of (Some x)) (lowest_append xs ys) ∙ lower_assoc (Some x) (lowest xs) (lowest ys)

@@ -114,7 +114,7 @@ one_result config unit at (Some g) r before other = result_is config unit at g r
 one_result config unit at None r None other = refl
 one_result config unit at None r (Some g) other = absurd (r g other)
 
--- what all paths to a place give, each path to a place before it gives behind that
+-- what all paths to a place give, each path to a place before it gives after that
 given_before : (config : Config) (unit : ProgramUnit) (mid to : ℕ) (given : Elementary) → AllGive config unit to given → Follows unit.body mid to → (path : List ℕ) → Leads unit.body 0 path mid → type_behind config unit mid (type_along config unit 0 path None) ≡ Some given
 given_before config unit mid to given all follows path l =
     sym (along_on config unit 0 path mid to None l) ∙ all.each (path ++ to ∷ []) (leads_on unit.body 0 path mid to l follows)
@@ -130,7 +130,7 @@ joined config unit mid to given all reached follows r is (inr constant) =
 pub join_of_paths : (config : Config) (unit : ProgramUnit) (mid to : ℕ) (given : Elementary) → AllGive config unit to given → IsReached unit.body mid → Follows unit.body mid to → (r : Option Elementary) → IsResultAt config unit mid r → type_behind config unit mid r ≡ Some given
 join_of_paths config unit mid to given all reached follows r is = joined config unit mid to given all reached follows r is (behind-simple config unit mid)
 
--- a reached place before another, with its result, which gives this type behind it
+-- a reached place before another, with its result, which gives this type after it
 pub record GivesBehind (config : Config) (unit : ProgramUnit) (mid : ℕ) (given : Elementary) : Type 0 where
   pub result : Option Elementary
   pub is : IsResultAt config unit mid result
@@ -152,7 +152,7 @@ along_join config unit to given up each (next ∷ path) l =
     ∙ along_on config unit 0 s.before s.mid to None s.leads
     ∙ supported config unit s.mid given (each s.mid (s.before, s.leads) s.follows) s.before s.leads (behind-simple config unit s.mid)
 
--- where each reached place before another gives one type behind it, all paths give it (the forward pass joins no less)
+-- where each reached place before another gives one type after it, all paths give it (the forward pass joins no less)
 pub paths_of_join : (config : Config) (unit : ProgramUnit) (to : ℕ) (given : Elementary) → 0 < to → IsReached unit.body to → ((mid : ℕ) → IsReached unit.body mid → Follows unit.body mid to → GivesBehind config unit mid given) → AllGive config unit to given
 paths_of_join config unit to given up reached each = record { reached = reached; each = along_join config unit to given up each }
 

@@ -244,7 +244,7 @@ one_instruction a b e = cc
 pub not_both : (b : Bool) → b ≡ true → b ≡ false → ⊥
 not_both b t f = cc
 
--- a jump at a place has the label that stands there
+-- a jump at a place has the label that is there
 pub label_there : (body : Body) (at : ℕ) (s : Step) (label : Named) (there : Step) → StandsAt body at there → JumpsAt body at s label → jump_label there.instruction ≡ Some label.name
 label_there body at s label there stands jump =
     let same : there.instruction ≡ s.instruction = one_instruction there s (sym stands ∙ jump.stands) in

@@ -125,7 +125,7 @@ unit_types unit =
     ++ types_in (admitted_variables unit.kind) unit.variables
     ++ types_in ScalarsAndArrays unit.externals
 
--- the types that a configuration writes, each with what may stand there
+-- the types that a configuration writes, each with what may be there
 abbrev pub written_types : Config → List (Admitted × WrittenType)
 written_types config = flat_map unit_types config.units ++ types_in ScalarsAndArrays config.globals
 
@@ -181,13 +181,13 @@ IsInitialBroken config number place =
 pub data Access : Type 0 where
   Reads Stores : Access
 
--- a variable of this type where a scalar one stands (2.4.3, own rule)
+-- a variable of this type where a scalar one is (2.4.3, own rule)
 abbrev pub scalar_form_numbers : Form → List ℕ
 scalar_form_numbers (OfScalar scalar) = []
 scalar_form_numbers (OfArray bounds element) = 25 ∷ []
 scalar_form_numbers (OfBlock name) = 21 ∷ []
 
--- a name where a scalar variable stands: no array without an index, nothing but a variable (2.4.3, own rule)
+-- a name where a scalar variable is: no array without an index, nothing but a variable (2.4.3, own rule)
 abbrev pub scalar_numbers : Option Meaning → List ℕ
 scalar_numbers (Some (MeansVariable v)) = scalar_form_numbers v.form
 scalar_numbers (Some (MeansUnit u)) = 21 ∷ []
@@ -212,7 +212,7 @@ abbrev pub index_name_numbers : Config → ProgramUnit → Index → List ℕ
 index_name_numbers config unit (NumberIndex n) = []
 index_name_numbers config unit (VariableIndex name) = scalar_numbers (meaning config unit name)
 
--- a word behind a block's instance: an output, or an input where it is stored into (2.5.2.1, own rule)
+-- a word after a block's instance: an output, or an input where it is stored into (2.5.2.1, own rule)
 abbrev pub is_visible : Access → Option BlockVariables → Spelling → Bool
 is_visible access None word = false
 is_visible Reads (Some block) word = is_some (entry_of block.outputs word)
@@ -238,13 +238,13 @@ reference_numbers config unit access (OfVariable name) = scalar_numbers (meaning
 reference_numbers config unit access (OfElement name index) = array_numbers (meaning config unit name) ++ index_name_numbers config unit index
 reference_numbers config unit access (OfMember name word) = member_numbers config access word (meaning config unit name)
 
--- a variable of this type behind CAL (3.2.3)
+-- a variable of this type after CAL (3.2.3)
 abbrev pub called_form_numbers : Form → List ℕ
 called_form_numbers (OfScalar scalar) = 25 ∷ []
 called_form_numbers (OfArray bounds element) = 25 ∷ []
 called_form_numbers (OfBlock name) = []
 
--- what the name behind CAL breaks: it is an instance's (3.2.3)
+-- what the name after CAL breaks: it is an instance's (3.2.3)
 abbrev pub called_numbers : Option Meaning → List ℕ
 called_numbers (Some (MeansVariable v)) = called_form_numbers v.form
 called_numbers (Some (MeansUnit u)) = 25 ∷ []
@@ -290,7 +290,7 @@ IsNameBroken config number place =
 
 -- 20: DECLARED AGAIN
 
--- x stands in the list behind another of the same name
+-- x is in the list after another of the same name
 abbrev pub IsAgain : {A : Type 0} → (A → Spelling) → List A → A → Type 0
 IsAgain {A = A} name items x = (before : List A) × (after : List A) × (items ≡ before ++ x ∷ after) × Contains (map name before) (name x)
 
@@ -318,7 +318,7 @@ pub data IsDuplicate (config : Config) (place : Place) : Type 0 where
   second_unit : (unit : ProgramUnit) → IsAgain (λ u. u.name.name) config.units unit → place ≡ unit.place → IsDuplicate config place
   -- a unit's variable with a predeclared name
   predeclared_variable : (unit : ProgramUnit) (n : Named) → Contains config.units unit → Contains (unit_names unit) n → IsTrue (is_predeclared config n.name) → place ≡ n.place → IsDuplicate config place
-  -- a unit's variable with the name of a unit, wherever that stands
+  -- a unit's variable with the name of a unit, wherever that is
   variable_as_unit : (unit : ProgramUnit) (n : Named) → Contains config.units unit → Contains (unit_names unit) n → Contains (names_of_units config) n.name → place ≡ n.place → IsDuplicate config place
   -- a unit's variable with an earlier one's name
   second_variable : (unit : ProgramUnit) (n : Named) → Contains config.units unit → IsAgain (λ m. m.name) (unit_names unit) n → place ≡ n.place → IsDuplicate config place
@@ -400,7 +400,7 @@ pub data IsBadTask (config : Config) (place : Place) : Type 0 where
 
 -- 25: a type is not what its place asks for (2.4.3, 2.4.3.2, 3.2.3; own rule)
 pub data HasOtherType (config : Config) (place : Place) : Type 0 where
-  -- a type where it may not stand, or a subrange of BOOL or TIME
+  -- a type where it may not be, or a subrange of BOOL or TIME
   type_misplaced : IsTypeBroken config 25 place → HasOtherType config place
   -- an initial value of another kind or written type, or of an array or instance
   initial_of_other_type : IsInitialBroken config 25 place → HasOtherType config place

@@ -280,7 +280,7 @@ variables_of unit =
 abbrev pub own_variable : ProgramUnit → Spelling → Option Variable
 own_variable unit name = find (λ v. bytes_eq v.name name) (variables_of unit)
 
--- the value of decimal digits behind those already read; none where another byte stands among them
+-- the value of decimal digits after those already read; none where another byte is among them
 abbrev pub decimal_value : ℕ → Spelling → Option ℕ
 decimal_value total [] = Some total
 decimal_value total (b ∷ bs) = if is_ascii_digit b then decimal_value (total * 10 + (b - 48)) bs else None

@@ -78,7 +78,7 @@ name_type config unit name = option_and_then (λ v. scalar_type v.form) (variabl
 abbrev pub instance_block : Config → ProgramUnit → Spelling → Option BlockVariables
 instance_block config unit name = option_and_then (λ v. block_of config v.form) (variable_named config unit name)
 
--- the form of a word behind an instance
+-- the form of a word after an instance
 abbrev pub member_form : Spelling → BlockVariables → Option Form
 member_form word block = or_else (entry_of block.outputs word) (entry_of block.inputs word)
 
@@ -377,7 +377,7 @@ argument_numbers config unit block (Input word operand) = given_input_numbers co
 argument_numbers config unit block (Output word target) =
     written_variable_numbers (variable_named config unit target.name) ++ given_output_numbers config unit (entry_of block.outputs word.name) target.name
 
--- what the arguments of a CAL break behind those that gave these words; none is given twice (3.2.3, own rule)
+-- what the arguments of a CAL break after those that gave these words; none is given twice (3.2.3, own rule)
 abbrev pub arguments_numbers : Config → ProgramUnit → BlockVariables → List Spelling → List Argument → List ℕ
 arguments_numbers config unit block given [] = []
 arguments_numbers config unit block given (a ∷ arguments) =
@@ -509,7 +509,7 @@ opened_after opened at (Return condition) = opened
 opened_after opened at (Call condition instance arguments) = opened
 opened_after opened at (Invoke function operands) = opened
 
--- what is open behind so many of the instructions that stand from a place on
+-- what is open after so many of the instructions that are from a place on
 abbrev pub opened_behind : List Opened → ℕ → List Step → ℕ → List Opened
 opened_behind opened at [] count = opened
 opened_behind opened at (s ∷ steps) zero = opened
@@ -541,7 +541,7 @@ is_conditional Always = false
 is_conditional WhenTrue = true
 is_conditional WhenFalse = true
 
--- whether the next place can follow: not behind JMP and RET (3.2.2)
+-- whether the next place can follow: not after JMP and RET (3.2.2)
 abbrev pub goes_on : Instruction → Bool
 goes_on (Load negated operand) = true
 goes_on (StoreInto store target) = true
@@ -554,11 +554,11 @@ goes_on (Return condition) = is_conditional condition
 goes_on (Call condition instance arguments) = true
 goes_on (Invoke function operands) = true
 
--- an instruction stands at a place of a body
+-- an instruction is at a place of a body
 abbrev pub StandsAt : Body → ℕ → Step → Type 0
 StandsAt body at step = slice_get body.steps at ≡ Some step
 
--- a jump stands at a place of a body
+-- a jump is at a place of a body
 pub record JumpsAt (body : Body) (at : ℕ) (step : Step) (label : Named) : Type 0 where
   pub stands : StandsAt body at step
   pub condition : Condition
@@ -578,7 +578,7 @@ Leads body from (next ∷ path) to = Follows body from next × Leads body next p
 abbrev pub IsReached : Body → ℕ → Type 0
 IsReached body at = (path : List ℕ) × Leads body 0 path at
 
--- the type of the current result after the instruction at a place, if one stands there
+-- the type of the current result after the instruction at a place, if one is there
 abbrev pub type_behind : Config → ProgramUnit → ℕ → Option Elementary → Option Elementary
 type_behind config unit at before = option_and_then (λ s. type_after config unit (option_map (λ o. o.1) (opener unit.body at)) s.instruction before) (slice_get unit.body.steps at)
 

@@ -1,4 +1,4 @@
-// What names can mean: the standard's functions and blocks, where variables stand, and whose image names are.
+// What names can mean: the standard's functions and blocks, where variables are, and whose image names are.
 
 use il_syntax::tree::Elementary;
 
@@ -29,7 +29,7 @@ pub enum StandardBlock {
     Tof,
 }
 
-/// Where a variable stands: in a list of its unit, as a function's result, or in the image (2.4.3).
+/// Where a variable is: in a list of its unit, as a function's result, or in the image (2.4.3).
 #[derive(Clone, Copy)]
 pub enum Origin {
     Input,

@@ -186,7 +186,7 @@ no_lexeme (kind.Sign sign) j h = no_sign sign (subst (λ (k : ℕ). slice_range 
 no_lexeme kind.LineEnd j (inl h) = omega (arith, h.1)
 no_lexeme kind.LineEnd j (inr h) = omega (arith, h.1)
 
--- nothing blank stands at its front
+-- nothing blank is at its front
 no_blank : (j : ℕ) → IsBlank wrong_number 0 j → ⊥
 no_blank j (inl h) = cc h.1
 no_blank j (inr h) = cc h.opening

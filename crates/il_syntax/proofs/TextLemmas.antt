@@ -4,7 +4,7 @@ use Rattle.std.specs.Prelude.{slice_index}
 use Rattle.std.proofs.lemmas.List.Sums.{prefix_len-drop_yes, prefix_len-drop_no, prefix_len-drop_all}
 use Rattle.il_syntax.specs.Text.{run_end}
 
--- behind a byte of the run, the run ends where it did
+-- after a byte of the run, the run ends where it did
 pub run_end-goes : (test : ℕ → Bool) (text : List ℕ) (i : ℕ) → i < length text → test (slice_index text i) ≡ true → run_end test text i ≡ run_end test text (i + 1)
 unfolding run_end
 run_end-goes test text i inside passes = omega (arith, prefix_len-drop_yes test text i 0 inside passes)

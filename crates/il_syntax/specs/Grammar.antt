@@ -1,13 +1,13 @@
 -- Which tree a text spells (IEC 61131-3:2003, 2.3 to 2.7 and 3.2; annexes A and B, restricted to the profile).
 --
--- The grammar is a relation, by cases on the tree. A `Front` says what stands at the front of a list of tokens:
+-- The grammar is a relation, by cases on the tree. A `Front` says what is at the front of a list of tokens:
 -- `P ts rest` reads "`ts` is a P and then `rest`". They are put together in three ways:
---   P ⨾ Q               P, and Q directly behind it
---   P ⋯ Q               P, and Q behind it, with any number of line ends between them
+--   P ⨾ Q               P, and Q directly after it
+--   P ⋯ Q               P, and Q after it, with any number of line ends between them
 --   Repeats P xs end    a P for each of xs, and then the end
 -- so that a rule reads as one of a grammar in EBNF, with the part of the tree that each symbol gives.
 -- Line ends are blank but in a body, outside the parentheses of a CAL.
--- Where a part may be missing, `No P` says that it is: no P stands there. So nothing is spelled in two ways.
+-- Where a part may be missing, `No P` says that it is: no P is there. So nothing is spelled in two ways.
 use Rattle.std.specs.Prelude.{◌≡◌, ℕ, zero, suc, pred, ◌<◌, ◌≤◌, max, Bool, true, false, not, ◌&&◌, ◌||◌, ◌⊎◌, ◌==◌, if◌then◌else◌, ℤ, IsTrue, List, [], ◌∷◌, length, All, bytes_eq, codes, Option, Some, None, ⊤}
 use Rattle.il_syntax.specs.declared.token.Sign.{Sign}
 use Rattle.il_syntax.specs.declared.token.Sign.TheVariants.{Assign, Arrow, Range, Colon, Semicolon, Comma, OpenParenthesis, CloseParenthesis, OpenBracket, CloseBracket, Dot, Ampersand}
@@ -52,7 +52,7 @@ use Rattle.il_syntax.specs.declared.tree.Config.{Config}
 use Rattle.il_syntax.specs.Text.{AreTokens, name_of, is_plain_decimal}
 use Rattle.il_syntax.specs.Words.{keyword_of, IsName}
 
--- what stands at the front of a list of tokens, and the tokens behind it (own rule)
+-- what is at the front of a list of tokens, and the tokens after it (own rule)
 abbrev pub Front : Type 1
 Front = List Token → List Token → Type 0
 
@@ -61,12 +61,12 @@ abbrev pub is_line_end : Kind → Bool
 is_line_end kind.LineEnd = true
 is_line_end _ = false
 
--- the tokens behind the line ends at the front (own rule)
+-- the tokens after the line ends at the front (own rule)
 abbrev pub skip_line_ends : List Token → List Token
 skip_line_ends [] = []
 skip_line_ends (t ∷ ts) = if is_line_end t.kind then skip_line_ends ts else t ∷ ts
 
--- what may stand between two symbols: nothing, or any number of line ends (own rule)
+-- what may be between two symbols: nothing, or any number of line ends (own rule)
 abbrev pub Gap : Type 0
 Gap = List Token → List Token
 
@@ -83,15 +83,15 @@ infixr 20 ◌⟨◌⟩◌ ◌⨾◌ ◌⋯◌
 abbrev pub ◌⟨◌⟩◌ : Front → Gap → Front → Front
 (P ⟨ gap ⟩ Q) ts rest = (middle : List Token) × P ts middle × Q (gap middle) rest
 
--- P, and Q directly behind it (own rule)
+-- P, and Q directly after it (own rule)
 abbrev pub ◌⨾◌ : Front → Front → Front
 P ⨾ Q = P ⟨ tight ⟩ Q
 
--- P, and Q behind it, with any number of line ends between them (own rule)
+-- P, and Q after it, with any number of line ends between them (own rule)
 abbrev pub ◌⋯◌ : Front → Front → Front
 P ⋯ Q = P ⟨ loose ⟩ Q
 
--- P behind any number of line ends (own rule)
+-- P after any number of line ends (own rule)
 abbrev pub AfterLines : Front → Front
 AfterLines P ts rest = P (skip_line_ends ts) rest
 
@@ -99,7 +99,7 @@ AfterLines P ts rest = P (skip_line_ends ts) rest
 abbrev pub Nothing : Front
 Nothing ts rest = ts ≡ rest
 
--- nothing, where no P stands (own rule)
+-- nothing, where no P is (own rule)
 abbrev pub No : Front → Front
 No P ts rest = (ts ≡ rest) × ((other : List Token) → P ts other → ⊥)
 
@@ -112,7 +112,7 @@ abbrev pub One : (Token → Type 0) → Front
 One P [] rest = ⊥
 One P (t ∷ ts) rest = P t × (ts ≡ rest)
 
--- a P whose first token stands at the place (own rule)
+-- a P whose first token is at the place (own rule)
 abbrev pub At : Place → Front → Front
 At place P [] rest = ⊥
 At place P (t ∷ ts) rest = (t.start ≡ place.offset) × (t.line ≡ place.line) × P (t ∷ ts) rest
@@ -149,7 +149,7 @@ abbrev pub IsPlace : Reference → Type 0
 IsPlace (reference.Literal _) = ⊥
 IsPlace _ = ⊤
 
--- an instruction that leaves a body: none stands in parentheses (own rule)
+-- an instruction that leaves a body: none is in parentheses (own rule)
 abbrev pub leaves : Instruction → Bool
 leaves (instruction.Jump _ _) = true
 leaves (instruction.Return _) = true
@@ -166,19 +166,19 @@ abbrev pub closes : Instruction → Bool
 closes instruction.Evaluate = true
 closes _ = false
 
--- whether a load has to follow: behind a parenthesis that opens with no operand (3.2.2)
+-- whether a load has to follow: after a parenthesis that opens with no operand (3.2.2)
 abbrev pub needs_load : Instruction → Bool
 needs_load (instruction.Defer _ None) = true
 needs_load _ = false
 
--- how many parentheses are open behind an instruction, where `depth` were open before it (own rule)
+-- how many parentheses are open after an instruction, where `depth` were open before it (own rule)
 abbrev pub depth_after : ℕ → Instruction → ℕ
 depth_after depth (instruction.Defer _ _) = suc depth
 depth_after depth instruction.Evaluate = pred depth
 depth_after depth _ = depth
 
--- Whether an instruction may stand where `depth` parentheses are open and `load` says that a load has to follow (3.2.2).
--- A `)` needs a parenthesis that is open. Inside parentheses stand no labels, jumps, returns or calls of blocks.
+-- Whether an instruction may be where `depth` parentheses are open and `load` says that a load has to follow (3.2.2).
+-- A `)` needs a parenthesis that is open. Inside parentheses are no labels, jumps, returns or calls of blocks.
 abbrev pub may_stand : ℕ → Bool → Step → Bool
 may_stand zero load step = not (closes step.instruction)
 may_stand (suc depth) load step = (length step.labels == 0 && not (leaves step.instruction)) && (not load || is_load step.instruction)
@@ -320,7 +320,7 @@ module _ (text : List ℕ) where
   abbrev pub TheLetterN : ℕ → Front
   TheLetterN at = One (λ t. (t.kind ≡ kind.Word) × IsTrue (bytes_eq (name_of text t) (codes "N")) × (t.start ≡ at))
 
-  -- what stands behind an `&`: directly the letter N, or not (3.2.2)
+  -- what follows an `&`: directly the letter N, or not (3.2.2)
   abbrev pub BehindAmpersand : Bool → ℕ → Front
   BehindAmpersand true at = TheLetterN at
   BehindAmpersand false at = No (TheLetterN at)
@@ -360,7 +360,7 @@ module _ (text : List ℕ) where
   SpellsFirst (Some operand) = SpellsOperand tight operand ⨾ TheLineEnd
 
   -- An instruction and the end of its line (3.2.1, 3.2.2). `op '(' [ operand ]` is one, and the `)` that
-  -- evaluates it is another, on a line of its own; `is_nested` says where they may stand.
+  -- evaluates it is another, on a line of its own; `is_nested` says where they may be.
   abbrev pub SpellsInstruction : Instruction → Front
   SpellsInstruction (instruction.Load negated operand) = TheWord (word.Load negated) ⨾ SpellsOperand tight operand ⨾ TheLineEnd
   SpellsInstruction (instruction.Store store target) = TheWord (word.Store store) ⨾ SpellsTarget target ⨾ TheLineEnd
@@ -377,7 +377,7 @@ module _ (text : List ℕ) where
   abbrev pub SpellsLabel : Named → Front
   SpellsLabel label = TheName label ⨾ TheSign Colon
 
-  -- Labels, each on a line of its own but for the last, which may stand on the line of the P that it names (3.2.1; empty lines own rule).
+  -- Labels, each on a line of its own but for the last, which may is on the line of the P that it names (3.2.1; empty lines own rule).
   abbrev pub SpellsLabelled : List Named → Front → Front
   SpellsLabelled [] P = P
   SpellsLabelled (label ∷ []) P = SpellsLabel label ⋯ P

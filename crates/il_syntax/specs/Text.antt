@@ -1,11 +1,11 @@
 -- How the bytes of a text are cut into tokens (IEC 61131-3:2003, 2.1 and 2.2).
 --
--- A text has the tokens `ts` where, from its front to its end, these tokens stand one behind the other with
--- nothing but blanks between them: `AreTokens text 0 ts`. What stands from i up to j as a token of a kind is
+-- A text has the tokens `ts` where, from its front to its end, these tokens are one after the other with
+-- nothing but blanks between them: `AreTokens text 0 ts`. What is from i up to j as a token of a kind is
 -- `IsLexeme text kind i j`, by cases on the kind. A run of bytes of one class always goes as far as it can,
--- and a sign is the longest that stands there, so that a text has one list of tokens at most.
+-- and a sign is the longest that is there, so that a text has one list of tokens at most.
 --
--- A text has no tokens where, behind the last token or blank that can be read from the left, stands
+-- A text has no tokens where, after the last token or blank that can be read from the left, is
 --   a byte that begins none: any byte but a letter, a digit, an underscore, a sign, a space, a tab or a line
 --     end, a minus that no digit follows, a carriage return that no line feed follows;
 --   `(*` that no `*)` closes, or with another `(*` or a byte that no text has before its `*)`;
@@ -46,7 +46,7 @@ carriage_return = 13
 abbrev pub space : ℕ
 space = 32
 
--- `#`, behind a base or a type (2.2.1)
+-- `#`, after a base or a type (2.2.1)
 abbrev pub hash : ℕ
 hash = 35
 
@@ -78,7 +78,7 @@ begins_word b = is_ascii_alphabetic b || b == underscore
 abbrev pub is_word_byte : ℕ → Bool
 is_word_byte b = is_ascii_alphanumeric b || b == underscore
 
--- a byte of a number or of a typed literal behind its first: also `#` (2.2.1)
+-- a byte of a number or of a typed literal after its first: also `#` (2.2.1)
 abbrev pub is_literal_byte : ℕ → Bool
 is_literal_byte b = is_word_byte b || b == hash
 
@@ -99,7 +99,7 @@ is_grouped_after test inside (b ∷ bs) = (if b == underscore then inside else t
 abbrev pub is_grouped : (ℕ → Bool) → List ℕ → Bool
 is_grouped test bytes = is_grouped_after test false bytes
 
--- the bytes behind one leading underscore, if there is one (2.1.2)
+-- the bytes after one leading underscore, if there is one (2.1.2)
 abbrev pub without_leading_underscore : List ℕ → List ℕ
 without_leading_underscore bytes = if byte_at bytes 0 == underscore then drop 1 bytes else bytes
 
@@ -107,7 +107,7 @@ without_leading_underscore bytes = if byte_at bytes 0 == underscore then drop 1 
 unfoldable pub is_identifier : List ℕ → Bool
 is_identifier bytes = is_grouped is_ascii_alphanumeric (without_leading_underscore bytes)
 
--- the value of digits of a base, between which single underscores may stand (2.2.1)
+-- the value of digits of a base, between which single underscores may be (2.2.1)
 abbrev pub based_value : ℕ → List ℕ → Option ℕ
 based_value base digits =
     if is_grouped (λ b. is_digit b base) digits then Some (digits_value base (filter (λ b. not (b == underscore)) digits)) else None
@@ -120,7 +120,7 @@ magnitude bytes =
     else if starts_with nat_eq bytes (codes "16#") then based_value 16 (drop 3 bytes)
     else based_value 10 bytes
 
--- the value of a number: behind a minus a decimal alone (2.2.1)
+-- the value of a number: after a minus a decimal alone (2.2.1)
 unfoldable pub number_value : List ℕ → Option ℤ
 number_value bytes =
     if byte_at bytes 0 == minus then option_map (λ n. neg_ℤ (pos n)) (based_value 10 (drop 1 bytes))
@@ -131,7 +131,7 @@ abbrev pub duration_units : List (List ℕ × ℕ)
 duration_units = (codes "D", 86400000) ∷ (codes "H", 3600000) ∷ (codes "M", 60000) ∷ (codes "S", 1000) ∷ (codes "MS", 1) ∷ []
 
 -- The milliseconds of parts that have these units, in their order and each at most once. A part is the longest
--- run of digits and the longest run of letters behind it; where that is another unit, this one is left out (2.2.3.1).
+-- run of digits and the longest run of letters after it; where that is another unit, this one is left out (2.2.3.1).
 unfoldable pub parts_value : List (List ℕ × ℕ) → List ℕ → Option ℕ
 parts_value [] bytes = if length bytes == 0 then Some 0 else None
 parts_value ((unit, milliseconds) ∷ units) bytes =
@@ -180,19 +180,19 @@ sign_bytes CloseBracket = codes "]"
 sign_bytes Dot = codes "."
 sign_bytes Ampersand = codes "&"
 
--- whether a byte directly behind a sign makes it a longer one, or opens a comment (own rule)
+-- whether a byte directly after a sign makes it a longer one, or opens a comment (own rule)
 abbrev pub goes_on : Sign → ℕ → Bool
 goes_on Colon b = b == 61
 goes_on Dot b = b == 46
 goes_on OpenParenthesis b = b == star
 goes_on _ b = false
 
--- the place behind a minus, if one stands there (2.2.1)
+-- the place after a minus, if one is there (2.2.1)
 abbrev pub after_minus : List ℕ → ℕ → ℕ
 after_minus text i = if byte_at text i == minus then i + 1 else i
 
--- A token of a kind stands from i up to j.
--- A word is an identifier of at most 32 characters with no `#` behind it (2.1.2).
+-- A token of a kind is from i up to j.
+-- A word is an identifier of at most 32 characters with no `#` after it (2.1.2).
 -- A number begins with a digit, or with a minus and a digit (2.2.1).
 -- A typed literal is a word, `#`, a minus if one follows, and a run (2.2.1, 2.2.3.1).
 -- A line end is a line feed, or a carriage return and a line feed (own rule).
@@ -219,31 +219,31 @@ is_text_byte text i =
     ((nat_le 32 (byte_at text i) && nat_le (byte_at text i) 126) || byte_at text i == tab)
     || (byte_at text i == line_feed || (byte_at text i == carriage_return && byte_at text (i + 1) == line_feed))
 
--- whether `(*` stands there (2.1.5)
+-- whether `(*` is there (2.1.5)
 abbrev pub opens_comment : List ℕ → ℕ → Bool
 opens_comment text i = byte_at text i == open_parenthesis && byte_at text (i + 1) == star
 
--- whether `*)` stands there (2.1.5)
+-- whether `*)` is there (2.1.5)
 abbrev pub closes_comment : List ℕ → ℕ → Bool
 closes_comment text i = byte_at text i == star && byte_at text (i + 1) == close_parenthesis
 
--- A comment stands from i up to j: `(*`, bytes among which neither `*)` nor `(*` begins, and `*)` (2.1.5; one comment in another own rule).
+-- A comment is from i up to j: `(*`, bytes among which neither `*)` nor `(*` begins, and `*)` (2.1.5; one comment in another own rule).
 pub record IsComment (text : List ℕ) (i j : ℕ) : Type 0 where
   pub apart : i + 4 ≤ j
   pub opening : IsTrue (opens_comment text i)
   pub inside : (k : ℕ) → i + 2 ≤ k → k + 2 < j → IsTrue (is_text_byte text k && (not (opens_comment text k) && not (closes_comment text k)))
   pub closing : IsTrue (closes_comment text (j - 2))
 
--- a space, a tab or a comment stands from i up to j (2.1.4)
+-- a space, a tab or a comment is from i up to j (2.1.4)
 abbrev pub IsBlank : List ℕ → ℕ → ℕ → Type 0
 IsBlank text i j = ((j ≡ i + 1) × IsTrue (byte_at text i == space || byte_at text i == tab)) ⊎ IsComment text i j
 
--- from i up to j stand blanks, which end at these places (2.1.4)
+-- from i up to j are blanks, which end at these places (2.1.4)
 abbrev pub AreBlanks : List ℕ → List ℕ → ℕ → ℕ → Type 0
 AreBlanks text [] i j = i ≡ j
 AreBlanks text (k ∷ ends) i j = IsBlank text i k × AreBlanks text ends k j
 
--- from i up to j stands nothing but blanks (2.1.4)
+-- from i up to j is nothing but blanks (2.1.4)
 abbrev pub AreBlank : List ℕ → ℕ → ℕ → Type 0
 AreBlank text i j = (ends : List ℕ) × AreBlanks text ends i j
 
@@ -251,7 +251,7 @@ AreBlank text i j = (ends : List ℕ) × AreBlanks text ends i j
 abbrev pub line_at : List ℕ → ℕ → ℕ
 line_at text i = 1 + count_by (λ b. b == line_feed) (take i text)
 
--- The first token from a place on: blanks stand before it, and it names its kind, its bytes and its line (own rule).
+-- The first token from a place on: blanks come before it, and it names its kind, its bytes and its line (own rule).
 pub record IsToken (text : List ℕ) (at : ℕ) (t : Token) : Type 0 where
   pub gap : AreBlank text at t.start
   pub lexeme : IsLexeme text t.kind t.start t.end
@@ -270,6 +270,6 @@ HasNoTokens text = (ts : List Token) → AreTokens text 0 ts → ⊥
 abbrev pub name_of : List ℕ → Token → List ℕ
 name_of text t = upper_case (slice_range text t.start t.end)
 
--- a decimal without a sign, between whose digits single underscores may stand (2.2.1)
+-- a decimal without a sign, between whose digits single underscores may be (2.2.1)
 abbrev pub is_plain_decimal : List ℕ → Token → Bool
 is_plain_decimal text t = is_grouped is_ascii_digit (slice_range text t.start t.end)

@@ -3,7 +3,7 @@
 use crate::name::Name;
 use base_lists::Items;
 
-/// Where a part begins: how many bytes stand before it, and its line, counted from 1.
+/// Where a part begins: how many bytes come before it, and its line, counted from 1.
 #[derive(Clone, Copy, Debug)]
 pub struct Place {
     pub offset: u32,
@@ -452,7 +452,7 @@ pub struct Config {
     pub cars: Size,
     pub floors: Size,
     pub slots: Size,
-    /// Where the second VAR_GLOBAL stands, if there is one.
+    /// Where the second VAR_GLOBAL is, if there is one.
     pub globals_place: Option<Place>,
     pub globals: Items<Declaration>,
     pub tasks: Items<Task>,

@@ -53,7 +53,7 @@ alike_self text back (t ∷ ts) (inr p) = (ts, refl, refl, inr (alike_self text 
 pub tight_gap : IsGap tight
 tight_gap = record { ends = λ ts. end_self ts; alike = λ text other back ts us a l. a }
 
--- the tokens behind line ends
+-- the tokens after line ends
 skip_ends : (ts : List Token) → IsEndOf (skip_line_ends ts) ts
 skip_ends [] = refl
 skip_ends (t ∷ ts) = go (is_line_end t.kind) (skip_ends ts)
@@ -108,7 +108,7 @@ one_carries {P = P} same = record { ends = ends; over = go }
         behind (inl e) = let long = ap length e in let short = ap length p.1 in absurd (omega (arith, long, short, l))
         behind (inr b) = subst (λ x. AreAlike text other back x a.0) p.1 b
 
--- where no such token stands, none stands at the front of alike tokens
+-- where no such token is, none is at the front of alike tokens
 pub still_none : {P : List ℕ → Token → Type 0} → ((text other : List ℕ) (t : Token) → HasSameBytes text other t → P text t → P other t)
     → (text other : List ℕ) (back ts us : List Token) → AreAlike text other back ts us → ((m : List Token) → One (P text) ts m → ⊥) → (m : List Token) → One (P other) us m → ⊥
 still_none {P = P} same text other back [] us a none m p = subst (λ x. One (P other) x m) a.1 p
@@ -127,7 +127,7 @@ no_carries {P = P} same = record {
   over = λ text other back ts us m a p l. (us, (refl, λ k q. still_none same text other back ts us a p.1 k q), subst (λ x. AreAlike text other back x us) p.0 a);
 }
 
--- no such token behind any line ends
+-- no such token after any line ends
 pub none_after_lines : {P : List ℕ → Token → Type 0} → ((text other : List ℕ) (t : Token) → HasSameBytes text other t → P text t → P other t)
     → Carries loose (λ text. No (AfterLines (One (P text))))
 none_after_lines {P = P} same = record {
@@ -144,7 +144,7 @@ nothing_carries = record {
   over = λ text other back ts us m a p l. (us, refl, subst (λ x. AreAlike text other back x us) p a);
 }
 
--- one rule behind another, which may look at the first token behind the gap
+-- one rule after another, which may look at the first token after the gap
 pub in_turn : {F G : List ℕ → Front} {one two gap : Gap} → IsGap gap → IsGap two → ((k : List Token) → length (gap k) ≤ length (one k)) → Carries one F → Carries two G
     → Carries two (λ text. F text ⟨ gap ⟩ G text)
 in_turn {gap = gap} is far fits first second = record {
@@ -159,15 +159,15 @@ in_turn {gap = gap} is far fits first second = record {
       (g.0, (f.0, f.1, g.1), g.2);
 }
 
--- a rule that looks no further than the next token, and another behind it
+-- a rule that looks no further than the next token, and another after it
 pub follows : {F G : List ℕ → Front} {two gap : Gap} → IsGap gap → IsGap two → Carries tight F → Carries two G → Carries two (λ text. F text ⟨ gap ⟩ G text)
 follows is far first second = in_turn is far (gap_length is) first second
 
--- a rule that looks at the first token behind line ends, and another behind these
+-- a rule that looks at the first token after line ends, and another after these
 pub follows_lines : {F G : List ℕ → Front} {two : Gap} → IsGap two → Carries loose F → Carries two G → Carries two (λ text. F text ⋯ G text)
 follows_lines far first second = in_turn loose_gap far (λ k. omega arith) first second
 
--- behind line ends an end is an end
+-- after line ends an end is an end
 pub skip_length : (m ts : List Token) → IsEndOf m ts → length (skip_line_ends m) ≤ length (skip_line_ends ts)
 skip_length m [] e = let same = ap (λ x. length (skip_line_ends x)) e in omega (arith, same)
 skip_length m (t ∷ ts) (inl e) = let same = ap (λ x. length (skip_line_ends x)) e in omega (arith, same)
@@ -177,7 +177,7 @@ skip_length m (t ∷ ts) (inr p) = go (is_line_end t.kind) (skip_length m ts p)
     go true f = f
     go false f = let less = end_length (skip_line_ends ts) ts (skip_ends ts) in omega (arith, f, less)
 
--- two rules that look at the first token behind line ends, one directly behind the other
+-- two rules that look at the first token after line ends, one directly after the other
 pub follows_directly : {F G : List ℕ → Front} → Carries loose F → Carries loose G → Carries loose (λ text. F text ⨾ G text)
 follows_directly first second = record {
   ends = λ text ts m p. end_of_end m p.0 ts (first.ends text ts p.0 p.1) (second.ends text p.0 m p.2);
@@ -188,7 +188,7 @@ follows_directly first second = record {
       (g.0, (f.0, f.1, g.1), g.2);
 }
 
--- behind any number of line ends
+-- after any number of line ends
 pub after : {F : List ℕ → Front} {look : Gap} → IsGap look → Carries look F → Carries look (λ text. AfterLines (F text))
 after far one = record {
   ends = λ text ts m p. end_of_end m (skip_line_ends ts) ts (skip_ends ts) (one.ends text (skip_line_ends ts) m p);
@@ -237,7 +237,7 @@ one_of {F = F} {G = G} {look = look} left right = record { ends = ends; over = g
 pub never : {look : Gap} → Carries look (λ text ts rest. ⊥)
 never = record { ends = λ text ts m p. absurd p; over = λ text other back ts us m a p l. absurd p }
 
--- things one behind another
+-- things one after another
 pub repeated : {A : Type 0} {P : List ℕ → A → Front} {E : List ℕ → Front} {look : Gap} → IsGap look → ((x : A) → Carries loose (λ text. P text x)) → Carries look E
     → (xs : List A) → Carries look (λ text. Repeats (P text) xs (E text))
 repeated far one end [] = end

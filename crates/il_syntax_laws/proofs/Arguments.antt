@@ -40,7 +40,7 @@ module _ (text : List ℕ) where
       through (λ x. ((x.0.place, x.0.name), x.1)) (λ a b e i. (record { place = (e i).0.0; name = (e i).0.1 }, (e i).1))
       (chain loose (at_place (any_word_one text)) (behind loose (sign_sure Arrow) (the_name_one text)))
 
-  -- a word with `:=` behind it, and one with `=>`
+  -- a word with `:=` after it, and one with `=>`
   not_both : (a b target : Named) (o : Operand) (ts r s : List Token) → SpellsArgument text (argument.Input a o) ts r → SpellsArgument text (argument.Output b target) ts s → ⊥
   not_both a b target o ts r s p q =
       let same = (at_place (any_word_one text)).only (a.place, a.name) (b.place, b.name) ts p.0 q.0 p.1 q.1 in
@@ -72,7 +72,7 @@ module _ (text : List ℕ) where
   begins_arguments (x ∷ []) ts r p = begins_argument x ts p.0 p.1
   begins_arguments (x ∷ y ∷ ys) ts r p = begins_argument x ts p.0 p.1
 
-  -- the rest behind an empty list of arguments is one
+  -- the rest after an empty list of arguments is one
   no_arguments : IsSure (TheSign OpenParenthesis ⋯ TheSign CloseParenthesis ⨾ TheLineEnd)
   no_arguments = both loose (sign_sure OpenParenthesis) (both tight (sign_sure CloseParenthesis) line_end_sure)
 
@@ -123,7 +123,7 @@ module _ (text : List ℕ) where
       go (x ∷ xs) [] ts r s p q = absurd (cc (ap is_operand_lead (line_end_lead text ts s q), begins_operands (x ∷ xs) ts r p))
       go (x ∷ xs) (y ∷ ys) ts r s p q = listed_operands.only (x ∷ xs) (y ∷ ys) ts r s p q
 
-  -- the operand behind a parenthesis is one, missing or not
+  -- the operand after a parenthesis is one, missing or not
   pub first_one : IsDeterministic (SpellsFirst text)
   first_one = record { only = go }
     where

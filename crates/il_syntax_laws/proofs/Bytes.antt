@@ -19,7 +19,7 @@ blanks_rise text (k ∷ ends) i j h =
     let b = blanks_rise text ends k j h.1 in
     omega (arith, a, b)
 
--- a token ends behind those before it
+-- a token ends after those before it
 token_rises : (text : List ℕ) (at : ℕ) (front : List Token) (t : Token) (rest : List Token) → AreTokens text at (front ++ t ∷ rest) → at ≤ t.end
 token_rises text at [] t rest h =
     let a = blanks_rise text h.0.gap.0 at t.start h.0.gap.1 in

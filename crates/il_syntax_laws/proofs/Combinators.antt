@@ -8,7 +8,7 @@ use Rattle.il_syntax.proofs.Places.{place_is}
 use Rattle.il_syntax.specs.Grammar.{Front, Gap, skip_line_ends, ◌⟨◌⟩◌, AfterLines, No, One, At, Repeats, TheSign, Listed}
 use Rattle.il_syntax_laws.specs.One.{IsDeterministic, IsSure, AreApart}
 
--- one thing behind another
+-- one thing after another
 pub chain : {A B : Type 0} {P : A → Front} {Q : B → Front} (gap : Gap) → IsDeterministic P → IsDeterministic Q
     → IsDeterministic (λ (x : A × B). P x.0 ⟨ gap ⟩ Q x.1)
 chain {P = P} {Q = Q} gap one two = record {
@@ -18,7 +18,7 @@ chain {P = P} {Q = Q} gap one two = record {
       (λ i. (first.0 i, second.0 i), second.1);
 }
 
--- a thing behind a part without a value
+-- a thing after a part without a value
 pub behind : {B : Type 0} {F : Front} {Q : B → Front} (gap : Gap) → IsSure F → IsDeterministic Q → IsDeterministic (λ (x : B). F ⟨ gap ⟩ Q x)
 behind {Q = Q} gap one two = record {
   only = λ x y ts r s p q. two.only x y (gap q.0) r s (subst (λ m. Q x (gap m) r) (one.only ts p.0 q.0 p.1 q.1) p.2) q.2;
@@ -44,11 +44,11 @@ through f injective one = record {
   only = λ a b ts r s p q. let same = one.only (f a) (f b) ts r s p q in (injective a b same.0, same.1);
 }
 
--- behind any number of line ends
+-- after any number of line ends
 pub after_lines : {A : Type 0} {P : A → Front} → IsDeterministic P → IsDeterministic (λ a. AfterLines (P a))
 after_lines one = record { only = λ a b ts r s p q. one.only a b (skip_line_ends ts) r s p q }
 
--- nothing where something doesn't stand
+-- nothing where something doesn't are
 pub no_one : (P : Front) → IsSure (No P)
 no_one P = record { only = λ ts r s p q. sym p.0 ∙ q.0 }
 
@@ -87,7 +87,7 @@ one_token P = record { only = go }
     go [] r s p q = absurd p
     go (t ∷ ts) r s p q = sym p.1 ∙ q.1
 
--- things one behind another, and an end that is none of them
+-- things one after another, and an end that is none of them
 pub repeats : {A B : Type 0} {P : A → Front} {E : B → Front} → IsDeterministic P → IsDeterministic E → AreApart P E
     → IsDeterministic (λ (x : List A × B). Repeats P x.0 (E x.1))
 repeats {A = A} {B = B} {P = P} {E = E} one end apart = record { only = λ x y ts r s p q. go x.0 y.0 x.1 y.1 ts r s p q }
@@ -105,7 +105,7 @@ repeats {A = A} {B = B} {P = P} {E = E} one end apart = record { only = λ x y t
 pub valueless : {F : Front} → IsSure F → IsDeterministic (λ (u : Unit {0}). F)
 valueless one = record { only = λ a b ts r s p q. (refl, one.only ts r s p q) }
 
--- things one behind another, up to an end without a value
+-- things one after another, up to an end without a value
 pub repeats_until : {A : Type 0} {P : A → Front} {F : Front} → IsDeterministic P → IsSure F → AreApart P (λ (u : Unit {0}). F)
     → IsDeterministic (λ (xs : List A). Repeats P xs F)
 repeats_until one end apart = through (λ xs. (xs, tt)) (λ xs ys e i. (e i).0) (repeats one (valueless end) apart)

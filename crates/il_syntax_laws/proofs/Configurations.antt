@@ -21,7 +21,7 @@ use Rattle.il_syntax_laws.proofs.Leads.{reserved, lead, word_lead, at_holds, wor
 use Rattle.il_syntax_laws.proofs.Types.{declaration_one, declaration_lead}
 use Rattle.il_syntax_laws.proofs.Units.{unit_one, unit_lead}
 
--- the rest behind the end is one
+-- the rest after the end is one
 pub end_sure : IsSure TheEnd
 end_sure = record { only = λ ts r s p q. p.1 ∙ sym q.1 }
 
@@ -34,11 +34,11 @@ module _ (text : List ℕ) where
   pub decimal_one : IsDeterministic (ADecimal text)
   decimal_one = token (λ a b t p q. cc (p.0, q.0))
 
-  -- the rest behind a name that the tree leaves out is one
+  -- the rest after a name that the tree leaves out is one
   pub some_name_sure : IsSure (SomeName text)
   some_name_sure = one_token _
 
-  -- the rest behind a word that is not reserved is one
+  -- the rest after a word that is not reserved is one
   pub text_sure : (n : List ℕ) → IsSure (TheText text n)
   text_sure n = one_token _
 
@@ -135,7 +135,7 @@ module _ (text : List ℕ) where
   pub resource_one : Fixes {B = List Task × (List ProgramLine × Place)} (λ (c : Config). (c.tasks, (c.programs, c.end_resource))) (SpellsResource text)
   resource_one = record { only = λ a b ts r s p q. resource_parts.only (a.tasks, (a.programs, a.end_resource)) (b.tasks, (b.programs, b.end_resource)) ts r s p q }
 
-  -- a unit, and the configuration behind the units
+  -- a unit, and the configuration after the units
   unit_no_configuration : (kind : UnitKind) (ts : List Token) → lead text ts ≡ reserved (unit_word kind) → lead text ts ≡ reserved word.Configuration → ⊥
   unit_no_configuration (unit.Function result place) ts p q = cc (p, q)
   unit_no_configuration unit.FunctionBlock ts p q = cc (p, q)

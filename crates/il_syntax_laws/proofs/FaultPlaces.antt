@@ -89,12 +89,12 @@ from_globals c = flat_map declaration_places c.globals ++ from_tasks c
 in_sizes : (c : Config) (p : Place) → Contains (c.cars.place ∷ c.floors.place ∷ c.slots.place ∷ resource_places c) p → Contains (places c) p
 in_sizes c p h = right_in (flat_map unit_places c.units) (c.cars.place ∷ c.floors.place ∷ c.slots.place ∷ resource_places c) p h
 
--- what stands behind the sizes
+-- what follows the sizes
 in_resource : (c : Config) (p : Place) → Contains (resource_places c) p → Contains (places c) p
 in_resource c p h =
     in_sizes c p (later_in c.cars.place (c.floors.place ∷ c.slots.place ∷ resource_places c) p (later_in c.floors.place (c.slots.place ∷ resource_places c) p (later_in c.slots.place (resource_places c) p h)))
 
--- what stands behind the globals
+-- what follows the globals
 behind_globals : (c : Config) (p : Place) → Contains (from_tasks c) p → Contains (places c) p
 behind_globals c p h = in_resource c p (right_in (globals_places c.globals_place) (from_globals c) p (right_in (flat_map declaration_places c.globals) (from_tasks c) p h))
 
@@ -189,7 +189,7 @@ at_label c u n p h g e =
 
 -- THE RULES
 
--- what stands again stands there
+-- what is again is there
 again_in : {A : Type 0} (name : A → Spelling) (xs : List A) (x : A) → IsAgain name xs x → Contains xs x
 again_in name xs x (before, after, e, c) = subst (λ l. Contains l x) (sym e) (middle_in before after x)
 

@@ -26,12 +26,12 @@ cut_here text other at [] us vs c e = c.1
 cut_here text other at (t ∷ ts) us vs (inl c) e = c.1
 cut_here text other at (t ∷ ts) us vs (inr c) e = let less = end_length at ts (cut_end text other at ts c.0 vs c.3) in let same = ap length e in absurd (omega (arith, less, same))
 
--- tokens of samples, one behind another
+-- tokens of samples, one after another
 pub samples_apart : (other : List ℕ) (ss zs : List Sample) (vs rest : List Token) → AreOf other (ss ++ zs) vs rest → (mid : List Token) × AreOf other ss vs mid × AreOf other zs mid rest
 samples_apart other [] zs vs rest a = (vs, refl, a)
 samples_apart other (s ∷ ss) zs vs rest a = let b = samples_apart other ss zs a.1 rest a.4 in (b.0, (a.0, a.1, a.2, a.3, b.1), b.2)
 
--- what stands behind tokens of samples is an end of them
+-- what follows tokens of samples is an end of them
 pub samples_end : (other : List ℕ) (ss : List Sample) (vs rest : List Token) → AreOf other ss vs rest → IsEndOf rest vs
 samples_end other [] vs rest a = end_same vs rest a
 samples_end other (s ∷ ss) vs rest a = subst (λ x. IsEndOf rest x) (sym a.2) (inr (samples_end other ss a.1 rest a.4))
@@ -41,7 +41,7 @@ abbrev pub is_solid : List Sample → Bool
 is_solid [] = false
 is_solid (s ∷ ss) = not (is_line_end s.kind)
 
--- what the tokens of samples pass, where the tokens behind them pass a test
+-- what the tokens of samples pass, where the tokens after them pass a test
 pub record Passes (first : Test) (samples : List Sample) (second : Test) : Type 0 where
   pub yes : (other : List ℕ) (vs rest : List Token) → AreOf other samples vs rest → second other rest → first other vs
 
@@ -141,7 +141,7 @@ line_calm other t ts e = record {
   letter = λ at rest p. line_word t.kind e p.0.0;
 }
 
--- what such samples pass, whatever stands behind
+-- what such samples pass, whatever follows
 pub passes_quiet : {samples : List Sample} {test : Test} → is_calm samples ≡ true → Passes quiet samples test
 passes_quiet {samples = samples} {test = test} e = go samples e
   where
@@ -184,7 +184,7 @@ tight_cut = record { over = tight_open; still = λ text other at ts us vs c e s.
 pub loose_cut : IsCutGap loose
 loose_cut = record { over = loose_open; still = skip_still }
 
--- how far a rule has to look, so that it looks no less far than the gap behind it
+-- how far a rule has to look, so that it looks no less far than the gap after it
 abbrev pub Reaches : Gap → Gap → Type 0
 Reaches gap look = (m : List Token) → length (gap m) ≤ length (look m)
 
@@ -194,7 +194,7 @@ reach_tight cut m = gap_length cut.over.is m
 pub reach_loose : Reaches loose loose
 reach_loose m = omega arith
 
--- a rule that has samples, behind another
+-- a rule that has samples, after another
 module _ {A B : Type 0} {P : List ℕ → A → Front} {Q : List ℕ → B → Front} {first second : Test} {ss zs : List Sample} (gap : Gap) where
   pub then_sampled : IsSampled first P ss → IsSampled second Q zs → Passes first zs second → Stays gap zs second → IsSampled second (λ text (x : A × B). P text x.0 ⟨ gap ⟩ Q text x.1) (ss ++ zs)
   then_sampled p q passes stays = record {
@@ -205,7 +205,7 @@ module _ {A B : Type 0} {P : List ℕ → A → Front} {Q : List ℕ → B → F
         ((x.0, y.0), (mid.0, x.1, subst (λ k. Q other y.0 k rest) (sym (stays.same other mid.0 rest mid.2 t)) y.1));
   }
 
--- the same behind a rule without a value
+-- the same after a rule without a value
 pub behind_sampled : {B : Type 0} {F : List ℕ → Front} {Q : List ℕ → B → Front} {first second : Test} {ss zs : List Sample} (gap : Gap)
     → IsSampled first (λ text (u : Unit {0}). F text) ss → IsSampled second Q zs → Passes first zs second → Stays gap zs second → IsSampled second (λ text (y : B). F text ⟨ gap ⟩ Q text y) (ss ++ zs)
 behind_sampled {Q = Q} {ss = ss} {zs = zs} gap p q passes stays = record {
@@ -271,7 +271,7 @@ pub record IsFilling {A : Type 0} (look : Gap) (test : Test) (P : List ℕ → A
 pub record IsOpening {A : Type 0} (look : Gap) (test : Test) (P : List ℕ → A → Front) : Type 0 where
   pub one : (x : A) → Opens look test (λ text. P text x)
 
--- a part stands there, and what has to follow breaks off
+-- a part is there, and what has to follow breaks off
 pub begins_later_open_by : {A B : Type 0} {P : List ℕ → A → Front} {Q : List Token → List ℕ → B → Front} {first second : Test} {zs : List Sample} {text : List ℕ} {ts m at : List Token} {x : A} {look gap : Gap}
     → IsCutGap gap → Reaches gap look → IsOpening look first P → P text x ts m → ((vs : List Token) → IsSampled second (Q vs) zs) → Passes first zs second → Stays gap zs second → BeginsBy second Q text (gap m) at
     → BeginsBy second (λ vs text (y : A × B). P text y.0 ⟨ gap ⟩ Q vs text y.1) text ts at
@@ -353,7 +353,7 @@ begins_at {A = A} {P = P} some b = record { inside = b.inside; samples = b.sampl
     go other [] rest x p = let less = (some x).less other [] rest p in absurd (omega (arith, less))
     go other (u ∷ us) rest x p = ((record { offset = u.start; line = u.line }, x), (refl, refl, p))
 
--- the same behind a part without a value
+-- the same after a part without a value
 pub begins_behind_by : {B : Type 0} {F : List ℕ → Front} {Q : List Token → List ℕ → B → Front} {first second : Test} {zs : List Sample} {text : List ℕ} {ts m at : List Token} {look gap : Gap}
     → IsCutGap gap → Reaches gap look → Fills look first F → F text ts m → ((vs : List Token) → IsSampled second (Q vs) zs) → Passes first zs second → Stays gap zs second → BeginsBy second Q text (gap m) at
     → BeginsBy second (λ vs text (y : B). F text ⟨ gap ⟩ Q vs text y) text ts at
@@ -371,7 +371,7 @@ pub one_more : {A : Type 0} (xs : List A) (x : A) (more : List A) → xs ++ (x �
 one_more [] x more = refl
 one_more (y ∷ xs) x more = ap (λ zs. y ∷ zs) (one_more xs x more)
 
--- What a loop has read stands in cut tokens too, before what is left.
+-- What a loop has read is in cut tokens too, before what is left.
 pub record HasGone {A : Type 0} (P : List ℕ → A → Front) (E : List ℕ → Front) (text : List ℕ) (start : List Token) (xs : List A) (ts : List Token) : Type 0 where
   pub inside : IsEndOf ts start
   pub on : (other : List ℕ) (at us vs : List Token) → IsEndOf at ts → IsCut text other at start us vs → ((length at < length ts) ⊎ (skip_line_ends vs ≡ vs))
@@ -435,7 +435,7 @@ cut_one text other at (t ∷ ts) us ws vs (inl a) (inr b) = let less = end_lengt
 cut_one text other at (t ∷ ts) us ws vs (inr a) (inl b) = let less = end_length at ts (cut_end text other at ts a.0 vs a.3) in let same = ap length b.0 in absurd (omega (arith, less, same))
 cut_one text other at (t ∷ ts) us ws vs (inr a) (inr b) = a.1 ∙ ap (λ zs. t ∷ zs) (cut_one text other at ts a.0 b.0 vs a.3 b.3) ∙ sym b.1
 
--- What a loop over a list has read stands in cut tokens too, before the things that are left.
+-- What a loop over a list has read is in cut tokens too, before the things that are left.
 pub record WantsGone {A : Type 0} (gap : Gap) (P : List ℕ → A → Front) (E : List ℕ → Front) (text : List ℕ) (start ts : List Token) : Type 0 where
   pub inside : IsEndOf ts start
   pub on : (other : List ℕ) (at us vs : List Token) → IsEndOf at ts → IsCut text other at start us vs → ((length at < length ts) ⊎ (gap vs ≡ vs))
@@ -447,7 +447,7 @@ module _ {A : Type 0} {gap : Gap} {P : List ℕ → A → Front} {E : List ℕ �
   pub wanted_starts : (ts : List Token) → WantsGone gap P E text ts ts
   wanted_starts ts = record { inside = end_self ts; on = λ other at us vs e c d. (us, c, λ y more r w. (y ∷ more, w)) }
 
-  -- one more, and a comma behind it
+  -- one more, and a comma after it
   pub wanted_on : {look : Gap} {first : Test} {start ts m k : List Token} {x : A} → IsCutGap gap → Reaches gap look → IsFilling look first P → WantsGone gap P E text start ts → P text x ts m → TheSign Comma (gap m) k
       → WantsGone gap P E text start (gap k)
   wanted_on {look = look} {start = start} {ts = ts} {m = m} {k = k} {x = x} cut far fill so_far here comma =
@@ -502,7 +502,7 @@ module _ {A : Type 0} {gap : Gap} {P : List ℕ → A → Front} {E : List ℕ �
                 n.2 x.0.0 [] rest x.1;
           }
 
-  -- the last one, and no end behind it
+  -- the last one, and no end after it
   pub wanted_end : {look : Gap} {first second : Test} {es : List Sample} {start ts m : List Token} {x : A} → IsCutGap gap → Reaches gap look → IsFilling look first P → IsSampled second (λ text (u : Unit {0}). E text) es
       → Passes first es second → Stays gap es second → WantsGone gap P E text start ts → P text x ts m → Begins second (λ text ys. Listed gap (P text) ys (E text)) text start (gap m)
   wanted_end {start = start} {ts = ts} {m = m} {x = x} cut far fill e passes stays so_far here =
@@ -518,7 +518,7 @@ module _ {A : Type 0} {gap : Gap} {P : List ℕ → A → Front} {E : List ℕ �
             n.2 y.0.0 [] rest y.1;
       }
 
--- a rule behind any number of line ends breaks off
+-- a rule after any number of line ends breaks off
 pub begins_lines_by : {A : Type 0} {P : List Token → List ℕ → A → Front} {test : Test} {zs : List Sample} {text : List ℕ} {ts at : List Token} → ((vs : List Token) → IsSampled test (P vs) zs) → is_solid zs ≡ true → BeginsBy test P text (skip_line_ends ts) at
     → BeginsBy test (λ vs text x. AfterLines (P vs text x)) text ts at
 begins_lines_by {A = A} {P = P} {test = test} {zs = zs} {text = text} {ts = ts} {at = at} q solid b = go (whole_or at (skip_line_ends ts) b.inside)
@@ -552,7 +552,7 @@ less_or (suc a) (suc b) = step (less_or a b)
     step (inl l) = inl (omega (arith, l))
     step (inr l) = inr (omega (arith, l))
 
--- a rule that stands behind line ends more as well
+-- a rule that follows line ends more as well
 pub record IsLax {A : Type 0} (P : List ℕ → A → Front) : Type 0 where
   pub more : (text : List ℕ) (x : A) (t : Token) (ts rest : List Token) → is_line_end t.kind ≡ true → P text x ts rest → P text x (t ∷ ts) rest
 
@@ -579,7 +579,7 @@ front_lax {Q = Q} lax text other y at (t ∷ m) n vs rest (inr c) l w =
     go true line l f = lax.more other y t c.0 rest line (f l)
     go false line l f = let less = end_length at m (cut_end text other at m c.0 vs c.3) in absurd (omega (arith, less, l))
 
--- a part that looks behind line ends stands there, and what follows directly breaks off
+-- a part that looks after line ends is there, and what follows directly breaks off
 pub begins_later_lax_by : {A B : Type 0} {P : List ℕ → A → Front} {Q : List Token → List ℕ → B → Front} {first second : Test} {zs : List Sample} {text : List ℕ} {ts m at : List Token} {x : A}
     → IsOpening loose first P → P text x ts m → ((vs : List Token) → IsSampled second (Q vs) zs) → ((vs : List Token) → IsLax (Q vs)) → Passes first zs second → BeginsBy second Q text m at → BeginsBy second (λ vs text (y : A × B). P text y.0 ⨾ Q vs text y.1) text ts at
 begins_later_lax_by {A = A} {B = B} {P = P} {Q = Q} {first = first} {second = second} {zs = zs} {text = text} {ts = ts} {m = m} {at = at} {x = x} one here q lax passes b = go (less_or (length at) (length (skip_line_ends m)))

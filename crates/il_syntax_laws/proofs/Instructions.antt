@@ -101,15 +101,15 @@ module _ (text : List ℕ) where
   invoke_one : IsDeterministic (λ (x : Named × List Operand). SpellsInstruction text (instruction.Invoke x.0 x.1))
   invoke_one = chain tight (the_name_one text) (operands_one text)
 
-  -- the rest behind NOT is one
+  -- the rest after NOT is one
   not_sure : IsSure (SpellsInstruction text instruction.Not)
   not_sure = both tight (word_sure text word.Not) line_end_sure
 
-  -- the rest behind `)` is one
+  -- the rest after `)` is one
   evaluate_sure : IsSure (SpellsInstruction text instruction.Evaluate)
   evaluate_sure = both tight (sign_sure CloseParenthesis) line_end_sure
 
-  -- behind an operator stands an operand or a parenthesis
+  -- after an operator is an operand or a parenthesis
   not_deferred : (o other : Operator) (x : Operand) (first : Option Operand) (ts r s : List Token)
       → SpellsInstruction text (instruction.Operate o x) ts r → SpellsInstruction text (instruction.Defer other first) ts s → ⊥
   not_deferred o other x first ts r s p q =
@@ -138,7 +138,7 @@ module _ (text : List ℕ) where
       go (instruction.Invoke a x) (instruction.Invoke b y) ts r s p q = let same = invoke_one.only (a, x) (b, y) ts r s p q in (λ i. instruction.Invoke (same.0 i).0 (same.0 i).1, same.1)
       go a b ts r s p q = absurd (cc (instruction_sort a ts r p, instruction_sort b ts s q))
 
-  -- behind a name that begins an instruction stands no colon
+  -- after a name that begins an instruction is no colon
   operands_no_colon : (xs : List Operand) (ts r s : List Token) → SpellsOperands text xs ts r → TheSign Colon ts s → ⊥
   operands_no_colon [] ts r s p q = cc (line_end_lead text ts r p, sign_lead text Colon ts s q)
   operands_no_colon (x ∷ xs) ts r s p q = cc (begins_operands text (x ∷ xs) ts r p, ap is_operand_lead (sign_lead text Colon ts s q))

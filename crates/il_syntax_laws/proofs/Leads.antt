@@ -70,7 +70,7 @@ module _ (text : List ℕ) where
   typed_lead value [] r p = absurd p
   typed_lead value (t ∷ ts) r p = rw p.0 refl
 
-  -- what stands at a place stands there
+  -- what is at a place is there
   pub at_holds : (P : Front) (place : Place) (ts r : List Token) → At place P ts r → P ts r
   at_holds P place [] r p = absurd p
   at_holds P place (t ∷ ts) r p = p.2
@@ -83,7 +83,7 @@ module _ (text : List ℕ) where
   pub word_one : IsDeterministic (TheWord text)
   word_one = token (λ a b t p q. cc (p.1, q.1))
 
-  -- the rest behind a reserved word is one
+  -- the rest after a reserved word is one
   pub word_sure : (k : Keyword) → IsSure (TheWord text k)
   word_sure k = one_token (λ t. (t.kind ≡ kind.Word) × (keyword_of (name_of text t) ≡ Some k))
 
@@ -99,11 +99,11 @@ module _ (text : List ℕ) where
   pub the_name_one : IsDeterministic (TheName text)
   the_name_one = through (λ n. (n.place, n.name)) (λ a b e i. record { place = (e i).0; name = (e i).1 }) (at_place name_one)
 
--- the rest behind a sign is one
+-- the rest after a sign is one
 pub sign_sure : (s : Sign) → IsSure (TheSign s)
 sign_sure s = one_token (λ t. t.kind ≡ kind.Sign s)
 
--- the rest behind a line end is one
+-- the rest after a line end is one
 pub line_end_sure : IsSure TheLineEnd
 line_end_sure = one_token (λ t. t.kind ≡ kind.LineEnd)
 

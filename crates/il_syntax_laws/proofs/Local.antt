@@ -108,7 +108,7 @@ end_carries = record { ends = λ text ts m p. end_same ts m (p.0 ∙ sym p.1); o
     go text other back [] us m a p l = ([], (a.1, refl), subst (λ x. AreAlike text other back x []) (sym p.1) (a.0, refl))
     go text other back (t ∷ ts) us m a p l = let e = p.0 in absurd cc
 
--- and whether one stands there is told by the first
+-- and whether one is there is told by the first
 pub sign_told : (s : Sign) → IsTold (λ text. TheSign s)
 sign_told s = one_told (λ text other t same p. p)
 

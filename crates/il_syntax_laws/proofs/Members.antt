@@ -11,11 +11,11 @@ none_in x (k, low, e) = omega arith
 pub first_in : {X : Type 0} (x : X) (xs : List X) → Contains (x ∷ xs) x
 first_in x xs = (0, omega arith, refl)
 
--- one behind the first
+-- one after the first
 pub later_in : {X : Type 0} (y : X) (xs : List X) (x : X) → Contains xs x → Contains (y ∷ xs) x
 later_in y xs x (k, low, e) = (suc k, omega arith, e)
 
--- it is the first, or behind it
+-- it is the first, or after it
 pub first_or_later : {X : Type 0} (y : X) (xs : List X) (x : X) → Contains (y ∷ xs) x → (y ≡ x) ⊎ Contains xs x
 first_or_later y xs x (zero, low, e) = inl e
 first_or_later y xs x (suc k, low, e) = inr (k, omega arith, e)
@@ -60,13 +60,13 @@ of_mapped P f [] h y c = absurd (none_in y c)
 of_mapped P f (x ∷ xs) h y (zero, low, e) = subst P e (h x (first_in x xs))
 of_mapped P f (x ∷ xs) h y (suc k, low, e) = of_mapped P f xs (λ z d. h z (later_in x xs z d)) y (k, omega arith, e)
 
--- what stands at a place
+-- what is at a place
 pub standing_in : {X : Type 0} (xs : List X) (at : ℕ) (x : X) → slice_get xs at ≡ Some x → Contains xs x
 standing_in [] at x e = let bad : None ≡ Some x = e in absurd cc
 standing_in (y ∷ xs) zero x e = let same : Some y ≡ Some x = e in (0, omega arith, cc)
 standing_in (y ∷ xs) (suc at) x e = later_in y xs x (standing_in xs at x e)
 
--- what stands between others
+-- what is between others
 pub middle_in : {X : Type 0} (before after : List X) (x : X) → Contains (before ++ x ∷ after) x
 middle_in before after x = right_in before (x ∷ after) x (first_in x after)
 

@@ -1,4 +1,4 @@
--- Each rule of the grammar holds of tokens that are cut behind it, if what stands there now passes its test.
+-- Each rule of the grammar holds of tokens that are cut after it, if what is there now passes its test.
 use Rattle.std.proofs.Common.{◌≡◌, ◌<◌, ◌≤◌, ℕ, Bool, true, false, List, [], ◌∷◌, length, refl, sym, ◌∙◌, ap, subst, inl, inr, arith, Option, Some, None}
 use Rattle.std.specs.Prelude.{◌⊎◌, ℤ, IsTrue, bytes_eq, codes, if◌then◌else◌}
 use Rattle.il_syntax.specs.declared.token.Token.{Token}
@@ -47,28 +47,28 @@ use Rattle.il_syntax_laws.specs.GoesOn.{IsCut, Test, always, stops, lacks, quiet
 use Rattle.il_syntax_laws.proofs.Alike.{end_length, end_of_end, end_same, tight_gap, loose_gap, gap_length, skip_length}
 use Rattle.il_syntax_laws.proofs.Local.{same_name, word_same}
 
--- A rule holds of tokens that are cut behind it. It looks ahead as far as the first token behind `look`: where this is kept, nothing is tested.
+-- A rule holds of tokens that are cut after it. It looks ahead as far as the first token after `look`: where this is kept, nothing is tested.
 pub record Opens (look : Gap) (test : Test) (F : List ℕ → Front) : Type 0 where
   pub ends : (text : List ℕ) (ts m : List Token) → F text ts m → IsEndOf m ts
   pub keeps : (text other : List ℕ) (at ts us vs m : List Token) → F text ts m → IsEndOf at m → IsCut text other at ts us vs
       → ((length at < length (look m)) ⊎ test other vs) → (n : List Token) × F other us n × IsCut text other at m n vs
 
--- A rule takes a token behind `look` at least.
+-- A rule takes a token after `look` at least.
 pub record Takes (look : Gap) (F : List ℕ → Front) : Type 0 where
   pub less : (text : List ℕ) (ts m : List Token) → F text ts m → length m < length (look ts)
 
--- What a gap leaves of cut tokens is cut, if the cut is behind the gap.
+-- What a gap leaves of cut tokens is cut, if the cut is after the gap.
 pub record IsOpenGap (gap : Gap) : Type 0 where
   pub is : IsGap gap
   pub cut : (text other : List ℕ) (at ts us vs : List Token) → IsCut text other at ts us vs → length at < length (gap ts) → IsCut text other at (gap ts) (gap us) vs
 
--- what is behind the cut is an end
+-- what follows the cut is an end
 pub cut_end : (text other : List ℕ) (at ts us vs : List Token) → IsCut text other at ts us vs → IsEndOf at ts
 cut_end text other at [] us vs c = c.0
 cut_end text other at (t ∷ ts) us vs (inl c) = inl c.0
 cut_end text other at (t ∷ ts) us vs (inr c) = inr (cut_end text other at ts c.0 vs c.3)
 
--- tokens that are cut behind the front have the same first token
+-- tokens that are cut after the front have the same first token
 cut_later : (text other : List ℕ) (at : List Token) (t : Token) (ts us vs : List Token) → IsCut text other at (t ∷ ts) us vs → length at ≤ length ts
     → (ws : List Token) × (us ≡ t ∷ ws) × HasSameBytes text other t × IsCut text other at ts ws vs
 cut_later text other at t ts us vs (inl c) l = let same = ap length c.0 in absurd (omega (arith, same, l))
@@ -182,7 +182,7 @@ no_opens {P = P} same = record {
         let here = subst (λ x. One (P other) x rest) c.1 p in
         none ts (same other text t (sym c.2) here.0, refl)
 
--- no such token behind line ends
+-- no such token after line ends
 pub no_after_opens : {P : List ℕ → Token → Type 0} → ((text other : List ℕ) (t : Token) → HasSameBytes text other t → P text t → P other t)
     → Opens loose (stops (λ text. One (P text))) (λ text. No (AfterLines (One (P text))))
 no_after_opens {P = P} same = record {
@@ -219,7 +219,7 @@ nothing_opens = record {
   keeps = λ text other at ts us vs m p e c d. (us, refl, subst (λ x. IsCut text other at x us vs) p c);
 }
 
--- one rule behind another, where the second takes a token: of the first nothing is asked
+-- one rule after another, where the second takes a token: of the first nothing is asked
 pub in_turn : {F G : List ℕ → Front} {one two gap : Gap} {first second : Test} → IsOpenGap gap → ((k : List Token) → length (gap k) ≤ length (one k)) → Opens one first F → Takes tight G → Opens two second G
     → Opens two second (λ text. F text ⟨ gap ⟩ G text)
 in_turn {gap = gap} over fits f some g = record {
@@ -238,11 +238,11 @@ in_turn {gap = gap} over fits f some g = record {
 pub follows : {F G : List ℕ → Front} {two gap : Gap} {first second : Test} → IsOpenGap gap → Opens tight first F → Takes tight G → Opens two second G → Opens two second (λ text. F text ⟨ gap ⟩ G text)
 follows over f some g = in_turn over (λ k. gap_length over.is k) f some g
 
--- the same, where the first looks at the first token behind line ends
+-- the same, where the first looks at the first token after line ends
 pub follows_lines : {F G : List ℕ → Front} {two : Gap} {first second : Test} → Opens loose first F → Takes tight G → Opens two second G → Opens two second (λ text. F text ⋯ G text)
 follows_lines f some g = in_turn loose_open (λ k. omega arith) f some g
 
--- one rule directly behind another, where the second takes a token that is no line end
+-- one rule directly after another, where the second takes a token that is no line end
 pub behind : {F G : List ℕ → Front} {two : Gap} {first second : Test} → Opens loose first F → Takes loose G → Opens two second G → Opens two second (λ text. F text ⨾ G text)
 behind f some g = record {
   ends = λ text ts m p. end_of_end m p.0 ts (f.ends text ts p.0 p.1) (g.ends text p.0 m p.2);
@@ -258,7 +258,7 @@ behind f some g = record {
 abbrev IsLook : Gap → Type 0
 IsLook look = (m ts : List Token) → IsEndOf m ts → length (look m) ≤ length (look ts)
 
--- one rule directly behind another, where the same is asked of both
+-- one rule directly after another, where the same is asked of both
 both_look : {F G : List ℕ → Front} {look : Gap} {test : Test} → IsLook look → Opens look test F → Opens look test G → Opens look test (λ text. F text ⨾ G text)
 both_look {look = look} far f g = record {
   ends = λ text ts m p. end_of_end m p.0 ts (f.ends text ts p.0 p.1) (g.ends text p.0 m p.2);
@@ -279,7 +279,7 @@ both f g = both_look (λ m ts e. end_length m ts e) f g
 pub both_lines : {F G : List ℕ → Front} {test : Test} → Opens loose test F → Opens loose test G → Opens loose test (λ text. F text ⨾ G text)
 both_lines f g = both_look skip_length f g
 
--- a rule that takes no token, behind a gap of line ends
+-- a rule that takes no token, after a gap of line ends
 pub at_last : {F G : List ℕ → Front} {weak : Test} → Opens tight always F → Opens tight weak G → Opens loose (λ other vs. weak other vs × (skip_line_ends vs ≡ vs)) (λ text. F text ⋯ G text)
 at_last {weak = weak} f g = record {
   ends = λ text ts m p. end_of_end m (skip_line_ends p.0) ts (end_of_end (skip_line_ends p.0) p.0 ts (f.ends text ts p.0 p.1) (loose_gap.ends p.0)) (g.ends text (skip_line_ends p.0) m p.2);
@@ -302,7 +302,7 @@ at_last {weak = weak} f g = record {
     nearer other at m vs (inl l) = let less = gap_length loose_gap m in inl (omega (arith, l, less))
     nearer other at m vs (inr k) = inr k.0
 
--- behind any number of line ends
+-- after any number of line ends
 pub after : {F : List ℕ → Front} {look : Gap} {test : Test} → Takes tight F → Opens look test F → Opens look test (λ text. AfterLines (F text))
 after some one = record {
   ends = λ text ts m p. end_of_end m (skip_line_ends ts) ts (loose_gap.ends ts) (one.ends text (skip_line_ends ts) m p);
@@ -354,7 +354,7 @@ one_of {F = F} {G = G} {look = look} {test = test} left right = record { ends = 
 pub never : {look : Gap} {test : Test} → Opens look test (λ text ts rest. ⊥)
 never = record { ends = λ text ts m p. absurd p; keeps = λ text other at ts us vs m p e c d. absurd p }
 
--- A rule that holds of tokens that are cut behind it, and takes one at least.
+-- A rule that holds of tokens that are cut after it, and takes one at least.
 pub record Fills (look : Gap) (test : Test) (F : List ℕ → Front) : Type 0 where
   pub opens : Opens look test F
   pub takes : Takes tight F
@@ -396,14 +396,14 @@ first_less some g = record {
       omega (arith, a1, a2);
 }
 
--- one rule behind another
+-- one rule after another
 pub next : {F G : List ℕ → Front} {two gap : Gap} {first second : Test} → IsOpenGap gap → Fills tight first F → Fills two second G → Fills two second (λ text. F text ⟨ gap ⟩ G text)
 next over f g = record { opens = follows over f.opens g.takes g.opens; takes = last_less over f.opens g.takes }
 
 pub next_lines : {F G : List ℕ → Front} {two : Gap} {first second : Test} → Fills loose first F → Fills two second G → Fills two second (λ text. F text ⋯ G text)
 next_lines f g = record { opens = follows_lines f.opens g.takes g.opens; takes = last_less loose_open f.opens g.takes }
 
--- behind any number of line ends, at a place, with a fact, one of two, none
+-- after any number of line ends, at a place, with a fact, one of two, none
 pub fill_after : {F : List ℕ → Front} {look : Gap} {test : Test} → Fills look test F → Fills look test (λ text. AfterLines (F text))
 fill_after one = record {
   opens = after one.takes one.opens;
@@ -435,7 +435,7 @@ fill_one_of {F = F} {G = G} left right = record { opens = one_of left.opens righ
 fill_never : {look : Gap} {test : Test} → Fills look test (λ text ts rest. ⊥)
 fill_never = record { opens = never; takes = record { less = λ text ts m p. absurd p } }
 
--- things one behind another
+-- things one after another
 pub repeated : {A : Type 0} {P : List ℕ → A → Front} {E : List ℕ → Front} {look : Gap} {first second : Test} → ((x : A) → Fills loose first (λ text. P text x)) → Fills look second E
     → (xs : List A) → Fills look second (λ text. Repeats (P text) xs (E text))
 repeated one end [] = end
@@ -711,7 +711,7 @@ result_opens (unit.Function result place) = (fill_after (next loose_open (sign_f
 result_opens unit.FunctionBlock = freely nothing_opens
 result_opens unit.Program = freely nothing_opens
 
--- what stands in a unit behind its head takes a token that is no line end
+-- what is in a unit after its head takes a token that is no line end
 record Reaches (F : List ℕ → Front) : Type 0 where
   opens : Opens tight always F
   takes : Takes loose F

@@ -85,21 +85,21 @@ module _ (text : List ℕ) where
   reference_tag gap (reference.Element n i) ts r p = ap is_literal_lead (name_lead text n ts p.0 p.1)
   reference_tag gap (reference.Member n m) ts r p = ap is_literal_lead (name_lead text n ts p.0 p.1)
 
-  -- a name with a bracket behind it, and one with none
+  -- a name with a bracket after it, and one with none
   no_element : (gap : Gap) (a b : List ℕ) (i : Index) (ts r s : List Token)
       → SpellsReference text gap (reference.Variable a) ts r → SpellsReference text gap (reference.Element b i) ts s → ⊥
   no_element gap a b i ts r s p q =
       let same = (name_one text).only a b ts p.0 q.0 p.1 q.1 in
       p.2.1.1 q.2.0 (subst (λ m. TheSign OpenBracket (gap m) q.2.0) (sym same.1) q.2.1)
 
-  -- a name with a dot behind it, and one with none
+  -- a name with a dot after it, and one with none
   no_member : (gap : Gap) (a b m : List ℕ) (ts r s : List Token)
       → SpellsReference text gap (reference.Variable a) ts r → SpellsReference text gap (reference.Member b m) ts s → ⊥
   no_member gap a b m ts r s p q =
       let same = (name_one text).only a b ts p.0 q.0 p.1 q.1 in
       p.2.2.1 q.2.0 (subst (λ k. TheSign Dot k q.2.0) (ap gap (sym same.1) ∙ p.2.1.0) q.2.1)
 
-  -- a name with a bracket behind it, and one with a dot
+  -- a name with a bracket after it, and one with a dot
   not_both : (gap : Gap) (a b m : List ℕ) (i : Index) (ts r s : List Token)
       → SpellsReference text gap (reference.Element a i) ts r → SpellsReference text gap (reference.Member b m) ts s → ⊥
   not_both gap a b m i ts r s p q =
@@ -150,7 +150,7 @@ module _ (text : List ℕ) where
   pub target_one : IsDeterministic (SpellsTarget text)
   target_one = record { only = λ a b ts r s p q. (operand_one tight).only a b ts r s p.1 q.1 }
 
-  -- the sign of an operator, and the N behind it, are one
+  -- the sign of an operator, and the N after it, are one
   pub ampersand_one : IsDeterministic (SpellsAmpersand text)
   ampersand_one = record { only = go }
     where

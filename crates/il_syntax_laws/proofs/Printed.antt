@@ -1,4 +1,4 @@
--- From samples to bytes: a text goes on with tokens of samples behind any of its tokens.
+-- From samples to bytes: a text goes on with tokens of samples after any of its tokens.
 use Rattle.std.proofs.Common.{◌≡◌, ℕ, ◌+◌, ◌-◌, ◌<◌, ◌≤◌, Bool, true, false, List, [], ◌∷◌, ◌++◌, length, take, drop, refl, sym, ◌∙◌, ap, subst, inl, inr, arith, cond, length-drop, length-take, length-append, append_assoc}
 use Rattle.std.specs.Prelude.{◌==◌, ◌&&◌, ◌||◌, not, nat_le, if◌then◌else◌, slice_range, count_by}
 use Rattle.std.specs.List.{prefix_len}
@@ -31,7 +31,7 @@ slice_in front tail i j up l =
     let fits : j - i ≤ length (drop i front) = omega (arith, length-drop i front, up, l) in
     ap (take (j - i)) (drop-append-le i front tail (omega (arith, up, l))) ∙ take-append-le (j - i) (drop i front) tail fits
 
--- a run ends where it did, if that is not behind the cut
+-- a run ends where it did, if that is not after the cut
 run_in : (test : ℕ → Bool) (front tail behind : List ℕ) (i : ℕ) → test 32 ≡ false → i ≤ length front → run_end test (front ++ tail) i ≤ length front
     → run_end test (front ++ 32 ∷ behind) i ≡ run_end test (front ++ tail) i
 unfolding run_end
@@ -192,7 +192,7 @@ pub last_end : ℕ → List Token → ℕ
 last_end at [] = at
 last_end at (t ∷ ts) = last_end t.end ts
 
--- that is behind the place from which they are read, and within the text
+-- that is after the place from which they are read, and within the text
 ends_rise : (text : List ℕ) (at : ℕ) (ts back : List Token) → AreTokens text at (ts ++ back) → at ≤ last_end at ts
 unfolding last_end
 ends_rise text at [] back h = omega arith
@@ -235,7 +235,7 @@ module _ (front tail behind : List ℕ) where
       let within = lexeme_within (front ++ tail) t.kind t.start t.end h.0.lexeme in
       inr (ts ++ vs, refl, sym (same_slice front tail behind t.start t.end (omega (arith, within.0)) (omega (arith, up, e))), cut_is t.end ts back vs e h.1)
 
--- an end of a list stands behind a beginning
+-- an end of a list follows a beginning
 before_end : (at ts : List Token) → IsEndOf at ts → (front : List Token) × (ts ≡ front ++ at)
 before_end at [] e = ([], sym e)
 before_end at (t ∷ ts) (inl e) = ([], sym e)
@@ -298,14 +298,14 @@ module _ (front text : List ℕ) where
 
 -- WHAT CAN BE WRITTEN
 
--- a sample's bytes, with a space behind them, are a token of its kind wherever they stand
+-- a sample's bytes, with a space after them, are a token of its kind wherever they are
 printed_lexeme : (s : Sample) → (front behind : List ℕ) → IsLexeme (front ++ (s.bytes ++ 32 ∷ behind)) s.kind (length front) (length front + length s.bytes)
 printed_lexeme s front behind =
     let here = cut_lexeme s.bytes (32 ∷ []) behind s.kind 0 (length s.bytes) (omega arith) s.lexeme in
     let e : length front + 0 ≡ length front = omega arith in
     subst (λ n. IsLexeme (front ++ (s.bytes ++ 32 ∷ behind)) s.kind n (length front + length s.bytes)) e (move_lexeme front (s.bytes ++ 32 ∷ behind) s.kind 0 (length s.bytes) here)
 
--- what is written behind a space: each sample, and a space behind it
+-- what is written after a space: each sample, and a space after it
 abbrev pub printed : List Sample → List ℕ
 printed [] = []
 printed (s ∷ ss) = s.bytes ++ 32 ∷ printed ss
@@ -346,7 +346,7 @@ printed_tokens text front at (s ∷ ss) same from =
       (t, rest.0, refl, (refl, bytes), rest.2),
     )
 
--- A text goes on with tokens of samples behind the first of its tokens: up to the end of these the bytes are the same.
+-- A text goes on with tokens of samples after the first of its tokens: up to the end of these the bytes are the same.
 pub goes_on_behind : (text : List ℕ) (front at : List Token) (samples : List Sample) → AreTokens text 0 (front ++ at)
     → (other : List ℕ) × (vs : List Token) × AreTokens other 0 (front ++ vs) × IsCut text other at (front ++ at) (front ++ vs) vs × AreOf other samples vs [] × (take (last_end 0 front) text ≡ take (last_end 0 front) other)
 goes_on_behind text front at samples tokens =
@@ -364,7 +364,7 @@ goes_on_behind text front at samples tokens =
       sym (ap (λ n. take n (take (last_end 0 front) text ++ 32 ∷ printed samples)) long ∙ take-append_seam (take (last_end 0 front) text) (32 ∷ printed samples)),
     )
 
--- the same behind those before the first of `at`
+-- the same after those before the first of `at`
 pub goes_on_with : (text : List ℕ) (ts at : List Token) (samples : List Sample) → AreTokens text 0 ts → IsEndOf at ts
     → (other : List ℕ) × (others : List Token) × (vs : List Token) × AreTokens other 0 others × IsCut text other at ts others vs × AreOf other samples vs []
 goes_on_with text ts at samples tokens end =

@@ -368,7 +368,7 @@ is_quiet k = is_calm k
 pub name_is : (s : Sample) (other : List ℕ) (t : Token) → IsOf other s t → name_of other t ≡ upper_case s.bytes
 name_is s other t is = ap upper_case is.1
 
--- behind an operand such tokens may stand
+-- after an operand such tokens may be
 pub begins_calm : (s : Sample) (ss : List Sample) → is_calm s.kind ≡ true → bytes_eq (upper_case s.bytes) (codes "N") ≡ false → (other : List ℕ) (us rest : List Token) → AreOf other (s ∷ ss) us rest → calm other us
 begins_calm s ss still no_letter other us rest a = record {
   bracket = λ r p.
@@ -385,7 +385,7 @@ begins_calm s ss still no_letter other us rest a = record {
       cc;
 }
 
--- behind a type too
+-- after a type too
 pub begins_quiet : (s : Sample) (ss : List Sample) → is_line_end s.kind ≡ false → is_quiet s.kind ≡ true → bytes_eq (upper_case s.bytes) (codes "N") ≡ false
     → (other : List ℕ) (us rest : List Token) → AreOf other (s ∷ ss) us rest → quiet other us
 begins_quiet s ss solid still no_letter other us rest a =
@@ -409,14 +409,14 @@ begins_quiet s ss solid still no_letter other us rest a =
           cc;
     }
 
--- where another word stands, this one doesn't
+-- where another word is, this one doesn't
 pub begins_lacking : (s : Sample) (ss : List Sample) (k : Keyword) → is_line_end s.kind ≡ false → ((s.kind ≡ kind.Word) → (keyword_of (upper_case s.bytes) ≡ Some k) → ⊥)
     → (other : List ℕ) (us rest : List Token) → AreOf other (s ∷ ss) us rest → lacks k other us
 begins_lacking s ss k solid differs other us rest a r p =
     let here = subst (λ x. TheWord other k x r) (begins_solid s ss solid other us rest a ∙ a.2) p in
     differs (sym a.3.0 ∙ here.0.0) (ap keyword_of (sym (name_is s other a.0 a.3)) ∙ here.0.1)
 
--- the same behind a line end
+-- the same after a line end
 pub lacks_behind_line : (ss : List Sample) (k : Keyword) → ((other : List ℕ) (us rest : List Token) → AreOf other ss us rest → lacks k other us)
     → (other : List ℕ) (us rest : List Token) → AreOf other (line_end_sample ∷ ss) us rest → lacks k other us
 lacks_behind_line ss k behind other us rest a r p =
@@ -440,7 +440,7 @@ placed {P = P} one = record {
       ((place, f.0), subst (λ x. At place (P other f.0) x rest) (sym a.2) (refl, refl, subst (λ x. P other f.0 x rest) a.2 f.1));
 }
 
--- one rule behind another, where the tokens of the second pass the test of the first
+-- one rule after another, where the tokens of the second pass the test of the first
 pub in_turn : {A B : Type 0} {P : List ℕ → A → Front} {Q : List ℕ → B → Front} {first second : Test} {ss more : List Sample} (gap : Gap)
     → ((other : List ℕ) (us rest : List Token) → AreOf other more us rest → second other rest → first other us) → ((other : List ℕ) (us rest : List Token) → AreOf other more us rest → gap us ≡ us)
     → IsSampled first P ss → IsSampled second Q more → IsSampled second (λ text (x : A × B). P text x.0 ⟨ gap ⟩ Q text x.1) (ss ++ more)
@@ -452,7 +452,7 @@ in_turn {Q = Q} {ss = ss} {more = more} gap under join one two = record {
       ((p.0, q.0), (m.0, p.1, subst (λ x. Q other q.0 x rest) (sym (join other m.0 rest m.2)) q.1));
 }
 
--- directly behind a rule that asks nothing
+-- directly after a rule that asks nothing
 pub next : {A B : Type 0} {P : List ℕ → A → Front} {Q : List ℕ → B → Front} {second : Test} {ss more : List Sample} → IsSampled always P ss → IsSampled second Q more
     → IsSampled second (λ text (x : A × B). P text x.0 ⨾ Q text x.1) (ss ++ more)
 next one two = in_turn tight (λ other us rest a k. tt) (λ other us rest a. refl) one two
@@ -466,7 +466,7 @@ next_lines {more = more} {s = s} solid one two = in_turn loose (λ other us rest
 pub reading : {A B : Type 0} {P : List ℕ → B → Front} {test : Test} {ss : List Sample} (f : A → B) → IsSampled test (λ text (x : A). P text (f x)) ss → IsSampled test P ss
 reading f one = record { stands = λ other vs rest a k. let p = one.stands other vs rest a k in (f p.0, p.1) }
 
--- behind any number of line ends
+-- after any number of line ends
 pub after_lines : {A : Type 0} {P : List ℕ → A → Front} {test : Test} {s : Sample} {ss : List Sample} → is_line_end s.kind ≡ false → IsSampled test P (s ∷ ss) → IsSampled test (λ text (x : A). AfterLines (P text x)) (s ∷ ss)
 after_lines {P = P} {s = s} {ss = ss} solid one = record {
   stands = λ other vs rest a k.
@@ -474,7 +474,7 @@ after_lines {P = P} {s = s} {ss = ss} solid one = record {
       (p.0, subst (λ x. P other p.0 x rest) (sym (begins_solid s ss solid other vs rest a)) p.1);
 }
 
--- nothing, where such a token doesn't stand
+-- nothing, where such a token doesn't are
 pub none_there : (F : List ℕ → Front) → IsSampled (stops F) (λ text (u : Unit {0}). No (AfterLines (F text))) []
 none_there F = record { stands = λ other vs rest a k. (tt, (a, λ r p. k r (subst (λ x. F other (skip_line_ends x) r) a p))) }
 
@@ -558,7 +558,7 @@ type_sampled = reading (λ (x : Place × TypeForm). record { place = x.0; form =
 pub initial_sampled : IsSampled always (λ text. SpellsInitial text) (sign_sample Semicolon ∷ [])
 initial_sampled = reading (λ (u : Unit {0}). None) (sign_sampled Semicolon)
 
--- an initial value behind its sign
+-- an initial value after its sign
 pub value_sampled : IsSampled always (λ text (i : Initial). At i.place (ALiteral text i.literal) ⋯ TheSign Semicolon) (true_sample ∷ sign_sample Semicolon ∷ [])
 value_sampled =
     reading (λ (x : (Place × Literal) × Unit {0}). record { place = x.0.0; literal = x.0.1 }) (next_lines refl (placed literal_sampled) (sign_sampled Semicolon))
@@ -568,7 +568,7 @@ pub typed_sampled : IsSampled always (λ text (x : WrittenType × Option Initial
 typed_sampled =
     in_turn loose (λ other us rest a k. begins_quiet (sign_sample Semicolon) [] refl refl refl other us rest a) (λ other us rest a. begins_solid (sign_sample Semicolon) [] refl other us rest a) type_sampled initial_sampled
 
--- the names of a declaration, also behind a comma
+-- the names of a declaration, also after a comma
 pub names_sampled : IsSampled always (λ text (ns : List Named). Listed loose (TheName text) ns (TheSign Colon)) (name_sample ∷ sign_sample Colon ∷ [])
 names_sampled = reading (λ (x : Named × Unit {0}). x.0 ∷ []) (next_lines refl the_name_sampled (sign_sampled Colon))
 
@@ -580,14 +580,14 @@ pub declaration_sampled : IsSampled always (λ text. SpellsDeclaration text) dec
 declaration_sampled =
     reading (λ (x : List Named × (WrittenType × Option Initial)). record { names = x.0; declared = x.1.0; initial = x.1.1 }) (next_lines refl names_sampled typed_sampled)
 
--- the rest of a list, behind its word or a declaration
+-- the rest of a list, after its word or a declaration
 pub list_end_sampled : IsSampled always (λ text (ds : List Declaration). Repeats (SpellsDeclaration text) ds (TheWord text word.EndVar)) (word_sample word.EndVar ∷ [])
 list_end_sampled = no_more (word_sampled word.EndVar)
 
 pub externals_end_sampled : IsSampled always (λ text (ds : List Declaration). Repeats (SpellsExternal text) ds (TheWord text word.EndVar)) (word_sample word.EndVar ∷ [])
 externals_end_sampled = no_more (word_sampled word.EndVar)
 
--- a list of one declaration, behind its word
+-- a list of one declaration, after its word
 pub filled_end_sampled : IsSampled always (λ text (x : Declaration × List Declaration). Repeats (SpellsDeclaration text) (x.0 ∷ x.1) (TheWord text word.EndVar)) (declaration_samples ++ word_sample word.EndVar ∷ [])
 filled_end_sampled = next_lines refl declaration_sampled list_end_sampled
 
@@ -610,7 +610,7 @@ optional_list_sampled k P = record { stands = λ other vs rest a l. let n = (lac
 pub index_sampled : IsSampled always (λ text. SpellsIndex text) (number_sample ∷ [])
 index_sampled = reading (λ (v : ℤ). index.Number v) number_sampled
 
--- an operand that is a literal: behind it anything may stand
+-- an operand that is a literal: after it anything may be
 pub reference_sampled : (gap : Gap) → IsSampled always (λ text. SpellsReference text gap) (true_sample ∷ [])
 reference_sampled gap = reading (λ (l : Literal). reference.Literal l) literal_sampled
 
@@ -645,7 +645,7 @@ target_sampled = record {
       (record { place = n.0.0; reference = reference.Variable n.0.1 }, (tt, n.1));
 }
 
--- what stands behind an argument's word
+-- what follows an argument's word
 pub passed_sampled : IsSampled always (λ text (o : Operand). TheSign Assign ⋯ SpellsOperand text loose o) (sign_sample Assign ∷ true_sample ∷ [])
 passed_sampled = reading (λ (x : Unit {0} × Operand). x.1) (next_lines refl (sign_sampled Assign) (operand_sampled loose))
 
@@ -687,7 +687,7 @@ load_sampled = reading (λ (x : Unit {0} × Operand). x.1) (next (word_sampled (
 pub ends_sampled : (k : Keyword) → IsSampled always (λ text (x : List Named × Place). Repeats (SpellsLabelLine text) x.0 (At x.1 (TheWord text k))) (word_sample k ∷ [])
 ends_sampled k = none_more (placed_word_sampled k)
 
--- What stands in a body behind some of its instructions, where `depth` parentheses are open and `load` says that a load has to follow, and where no more open.
+-- What is in a body after some of its instructions, where `depth` parentheses are open and `load` says that a load has to follow, and where no more open.
 abbrev pub SpellsRest : Keyword → ℕ → Bool → List ℕ → List Step × (List Named × Place) → Front
 SpellsRest last depth load text x ts rest =
     IsTrue (is_nested depth load x.0) × Repeats (SpellsStep text) x.0 (Repeats (SpellsLabelLine text) x.1.0 (At x.1.1 (TheWord text last))) ts rest × (greatest_depth depth x.0 ≤ depth)
@@ -702,7 +702,7 @@ rest_samples last zero load = word_sample last ∷ []
 rest_samples last (suc depth) false = closing_samples last (suc depth)
 rest_samples last (suc depth) true = word_sample (word.Load false) ∷ true_sample ∷ line_end_sample ∷ closing_samples last (suc depth)
 
--- behind no more open parentheses, no more open
+-- after no more open parentheses, no more open
 deeper : (below depth : ℕ) (steps : List Step) → greatest_depth below steps ≤ below → below ≤ depth → max depth (greatest_depth below steps) ≤ depth
 deeper below depth steps less under = omega (arith, less, under)
 
@@ -747,7 +747,7 @@ body_lacks last k differs other us rest a =
 
 -- THE CONFIGURATION
 
--- a size behind its word
+-- a size after its word
 abbrev pub sized_samples : List Sample
 sized_samples = word_sample (word.Elementary elementary.Int) ∷ sign_sample Assign ∷ number_sample ∷ sign_sample Semicolon ∷ []
 
@@ -813,7 +813,7 @@ with_samples = word_sample word.With ∷ name_sample ∷ sign_sample Colon ∷ n
 pub with_sampled : IsSampled always (λ text (x : Named × Named). TheWord text word.With ⋯ TheName text x.0 ⋯ TheSign Colon ⋯ TheName text x.1 ⋯ TheSign Semicolon) with_samples
 with_sampled = reading (λ (x : Unit {0} × (Named × Named)). x.1) (next_lines refl (word_sampled word.With) bound_sampled)
 
--- the rest of a resource, behind ON and its name, or a task, or a program
+-- the rest of a resource, after ON and its name, or a task, or a program
 pub programs_end_sampled : IsSampled always (λ text (x : List ProgramLine × Place). Repeats (SpellsProgramLine text) x.0 (At x.1 (TheWord text word.EndResource))) (word_sample word.EndResource ∷ [])
 programs_end_sampled = none_more (placed_word_sampled word.EndResource)
 
@@ -848,7 +848,7 @@ ending_sampled = reading (λ (x : (List Task × (List ProgramLine × Place)) × 
 abbrev pub ending_samples : List Sample
 ending_samples = resource_samples ++ word_sample word.EndConfiguration ∷ []
 
--- the same, where a list of globals may stand before it
+-- the same, where a list of globals may be before it
 pub globals_ending_sampled : IsSampled ended (λ text (x : List Task × (List ProgramLine × Place)). SpellsGlobals text None [] ⋯ (TheWord text word.Resource ⋯ SomeName text ⋯ TheWord text word.On ⋯ SomeName text
     ⋯ Repeats (SpellsTask text) x.0 (Repeats (SpellsProgramLine text) x.1.0 (At x.1.1 (TheWord text word.EndResource)))) ⋯ TheWord text word.EndConfiguration ⋯ TheEnd) ending_samples
 globals_ending_sampled =

@@ -38,13 +38,13 @@ all_lines text at [] to h k d below = absurd (omega arith)
 all_lines text at (p ∷ ps) to h zero d below = h.1
 all_lines text at (p ∷ ps) to h (suc k) d below = all_lines text p.offset ps to h.2 k d (omega arith)
 
--- none stands before the first
+-- none comes before the first
 all_behind : (text : List ℕ) (at : ℕ) (ps : List Place) (to k : ℕ) (d : Place) → Rise text at ps to → k < length ps → at ≤ (get_or ps k d).offset
 all_behind text at [] to k d h below = absurd (omega arith)
 all_behind text at (p ∷ ps) to zero d h below = h.0
 all_behind text at (p ∷ ps) to (suc k) d h below = let rest = all_behind text p.offset ps to k d h.2 (omega arith) in omega (arith, h.0, rest)
 
--- none stands before an earlier one
+-- none comes before an earlier one
 in_order : (text : List ℕ) (at : ℕ) (ps : List Place) (to : ℕ) → Rise text at ps to → AllPairs (λ (p q : Place). p.offset ≤ q.offset) ps
 in_order text at [] to h i j d up below = absurd (omega arith)
 in_order text at (p ∷ ps) to h zero zero d up below = absurd (omega arith)

@@ -26,7 +26,7 @@ Inside = List Declaration × (List Declaration × (List Declaration × (List Dec
 abbrev Parts : Type 0
 Parts = Place × (Named × Inside)
 
--- the rest behind nothing is one
+-- the rest after nothing is one
 pub nothing_sure : IsSure Nothing
 nothing_sure = record { only = λ ts r s p q. sym p ∙ q }
 

@@ -1,5 +1,5 @@
 -- A walk over the tokens of a text, along a rule of its grammar: the places that the rule gives rise, each has its line, and
--- the tokens behind it are those of the text from some place on.
+-- the tokens after it are those of the text from some place on.
 use Rattle.std.proofs.Common.{◌≡◌, ℕ, ◌≤◌, List, [], ◌∷◌, ◌++◌, refl, sym, ◌∙◌, ap, subst, arith, append_assoc, append-nil, Bool, true, false, ◌⊎◌, inl, inr}
 use Rattle.std.specs.Prelude.{flat_map}
 use Rattle.il_syntax.specs.declared.token.Token.{Token}
@@ -26,7 +26,7 @@ raise : (text : List ℕ) (at : ℕ) (ps : List Place) (a b : ℕ) → Rise text
 raise text at [] a b h le = omega arith
 raise text at (p ∷ ps) a b h le = (h.0, h.1, raise text p.offset ps a b h.2 le)
 
--- places behind others
+-- places after others
 both_rise : (text : List ℕ) (at middle to : ℕ) (ps qs : List Place) → Rise text at ps middle → Rise text middle qs to → Rise text at (ps ++ qs) to
 both_rise text at middle to [] qs h k = lower text at middle qs to h k
 both_rise text at middle to (p ∷ ps) qs h k = (h.0, h.1, both_rise text p.offset middle to ps qs h.2 k)
@@ -82,7 +82,7 @@ module _ {text : List ℕ} where
   pub placed : {P : Front} {ps qs : List Place} {X : Type 0} → ps ≡ qs → Shows text P ps X → Shows text P qs X
   placed {P = P} {X = X} e one = subst (λ l. Shows text P l X) e one
 
-  -- one thing behind another
+  -- one thing after another
   pub chain : {P Q : Front} {gap : Gap} {ps qs : List Place} {X Y : Type 0} → Skips text gap → Shows text P ps X → Shows text Q qs Y → Shows text (P ⟨ gap ⟩ Q) (ps ++ qs) (X × Y)
   chain {ps = ps} {qs = qs} gap one two = record {
     walk = λ at ts r h p.
@@ -92,7 +92,7 @@ module _ {text : List ℕ} where
         (second.0, second.1, both_rise text at between.0 second.0 ps qs (raise text at ps first.0 between.0 first.2 between.2) second.2, (first.3, second.3));
   }
 
-  -- a thing behind a part without places
+  -- a thing after a part without places
   pub behind : {P Q : Front} {gap : Gap} {qs : List Place} {X Y : Type 0} → Skips text gap → Shows text P [] X → Shows text Q qs Y → Shows text (P ⟨ gap ⟩ Q) qs Y
   behind gap one two = gives (λ x. x.1) (chain gap one two)
 
@@ -100,7 +100,7 @@ module _ {text : List ℕ} where
   pub before : {P Q : Front} {gap : Gap} {ps : List Place} {X Y : Type 0} → Skips text gap → Shows text P ps X → Shows text Q [] Y → Shows text (P ⟨ gap ⟩ Q) ps X
   before {ps = ps} gap one two = gives (λ x. x.0) (placed (append-nil ps) (chain gap one two))
 
-  -- behind any number of line ends
+  -- after any number of line ends
   pub after_lines : {P : Front} {ps : List Place} {X : Type 0} → Shows text P ps X → Shows text (AfterLines P) ps X
   after_lines {ps = ps} one = record {
     walk = λ at ts r h p.
@@ -152,14 +152,14 @@ module _ {text : List ℕ} where
           let up = token_up text at t ts h in
           (w.0, w.1, (subst (λ o. at ≤ o) p.0 up.0, sym p.1 ∙ h.0.line ∙ ap (line_at text) p.0, subst (λ o. Rise text o ps w.0) p.0 w.2), w.3)
 
-  -- things one behind another, and an end
+  -- things one after another, and an end
   pub repeats : {A : Type 0} {P : A → Front} {places : A → List Place} {X : A → Type 0} {F : Front} {qs : List Place} {Y : Type 0} → ((a : A) → Shows text (P a) (places a) (X a)) → Shows text F qs Y → (xs : List A)
       → Shows text (Repeats P xs F) (flat_map places xs ++ qs) (Each X xs × Y)
   repeats each end [] = gives (λ y. (tt, y)) end
   repeats {places = places} {qs = qs} each end (x ∷ xs) =
       gives (λ y. ((y.0, y.1.0), y.1.1)) (placed (sym (append_assoc (places x) (flat_map places xs) qs)) (chain loosely (each x) (repeats each end xs)))
 
-  -- things one behind another, up to an end without places
+  -- things one after another, up to an end without places
   pub repeats_until : {A : Type 0} {P : A → Front} {places : A → List Place} {X : A → Type 0} {F : Front} {Y : Type 0} → ((a : A) → Shows text (P a) (places a) (X a)) → Shows text F [] Y → (xs : List A)
       → Shows text (Repeats P xs F) (flat_map places xs) (Each X xs)
   repeats_until {places = places} each end xs = gives (λ y. y.0) (placed (append-nil (flat_map places xs)) (repeats each end xs))

@@ -1,8 +1,8 @@
 -- Texts whose tokens are alike up to one of them, and what a rule of the grammar can tell there.
 --
 -- `back` is the end of a list of tokens, from the token in question on. Two lists are alike up to it where they begin
--- with the same tokens, up to that one and with it, and each of these has the same bytes in both texts. What stands
--- behind it may be anything. Where `back` is empty, the token in question is the end of the text, and the lists are one.
+-- with the same tokens, up to that one and with it, and each of these has the same bytes in both texts. What is
+-- after it may be anything. Where `back` is empty, the token in question is the end of the text, and the lists are one.
 use Rattle.std.specs.Prelude.{◌≡◌, ◌⊎◌, ◌≤◌, ℕ, List, [], ◌∷◌, length, slice_range}
 use Rattle.il_syntax.specs.declared.token.Token.{Token}
 use Rattle.il_syntax.specs.Grammar.{Front, Gap}
@@ -28,13 +28,13 @@ pub record IsGap (gap : Gap) : Type 0 where
   pub alike : (text other : List ℕ) (back ts us : List Token) → AreAlike text other back ts us → length back ≤ length (gap ts)
       → AreAlike text other back (gap ts) (gap us)
 
--- A rule that holds of tokens holds of alike ones. It looks ahead as far as the first token behind `look`, and no further (own rule).
+-- A rule that holds of tokens holds of alike ones. It looks ahead as far as the first token after `look`, and no further (own rule).
 pub record Carries (look : Gap) (F : List ℕ → Front) : Type 0 where
   pub ends : (text : List ℕ) (ts m : List Token) → F text ts m → IsEndOf m ts
   pub over : (text other : List ℕ) (back ts us m : List Token) → AreAlike text other back ts us → F text ts m → length back ≤ length (look m)
       → (n : List Token) × F other us n × AreAlike text other back m n
 
--- What stands at the front of tokens is one thing, and the same at the front of alike ones (own rule).
+-- What is at the front of tokens is one thing, and the same at the front of alike ones (own rule).
 pub record IsLocal {A : Type 0} (look : Gap) (P : List ℕ → A → Front) : Type 0 where
   pub one : (text : List ℕ) → IsDeterministic (P text)
   pub carries : (x : A) → Carries look (λ text. P text x)
@@ -44,6 +44,6 @@ pub record IsLocalPart (look : Gap) (F : List ℕ → Front) : Type 0 where
   pub one : (text : List ℕ) → IsSure (F text)
   pub carries : Carries look F
 
--- Whether a rule stands there is told by the first token (own rule).
+-- Whether a rule is there is told by the first token (own rule).
 pub record IsTold (F : List ℕ → Front) : Type 0 where
   pub still : (text other : List ℕ) (back ts us : List Token) → AreAlike text other back ts us → ((m : List Token) → F text ts m → ⊥) → (m : List Token) → F other us m → ⊥

@@ -1,4 +1,4 @@
--- Texts that go on: what other tokens may stand behind those of a text up to one of them.
+-- Texts that go on: what other tokens may follows those of a text up to one of them.
 --
 -- `at` is the end of a list of tokens, from the token in question on, and `[]` for the end of the text. Another text is cut there
 -- where its tokens are those before the first of `at`, of the same bytes, and then others.
@@ -11,7 +11,7 @@ use Rattle.il_syntax.specs.Text.{space, IsLexeme}
 use Rattle.il_syntax.specs.Grammar.{Front, skip_line_ends, AfterLines, TheSign, TheWord, TheLetterN}
 use Rattle.il_syntax_laws.specs.Alike.{HasSameBytes, IsEndOf}
 
--- a token that a text may have: with a space behind them, its bytes are a token of its kind (own rule)
+-- a token that a text may have: with a space after them, its bytes are a token of its kind (own rule)
 pub record Sample : Type 0 where
   pub kind : Kind
   pub bytes : List ℕ
@@ -31,7 +31,7 @@ abbrev pub IsCut : List ℕ → List ℕ → List Token → List Token → List 
 IsCut text other at [] us vs = (at ≡ []) × (us ≡ vs)
 IsCut text other at (t ∷ ts) us vs = ((at ≡ t ∷ ts) × (us ≡ vs)) ⊎ ((ws : List Token) × (us ≡ t ∷ ws) × HasSameBytes text other t × IsCut text other at ts ws vs)
 
--- What may be asked of the tokens behind a part that looks ahead: a test of the first of them behind line ends (own rule).
+-- What may be asked of the tokens after a part that looks ahead: a test of the first of them after line ends (own rule).
 abbrev pub Test : Type 1
 Test = List ℕ → List Token → Type 0
 
@@ -39,15 +39,15 @@ Test = List ℕ → List Token → Type 0
 abbrev pub always : Test
 always other vs = ⊤
 
--- nothing of this stands there (own rule)
+-- nothing of this is there (own rule)
 abbrev pub stops : (List ℕ → Front) → Test
 stops F other vs = (rest : List Token) → AfterLines (F other) vs rest → ⊥
 
--- this reserved word doesn't stand there (own rule)
+-- this reserved word doesn't are there (own rule)
 abbrev pub lacks : Keyword → Test
 lacks keyword = stops (λ text. TheWord text keyword)
 
--- no sign stands there that an operand or a type goes on with, and no letter N, with which an operator does (own rule)
+-- no sign is there that an operand or a type goes on with, and no letter N, with which an operator does (own rule)
 pub record IsQuiet (other : List ℕ) (vs : List Token) : Type 0 where
   pub parenthesis : stops (λ text. TheSign OpenParenthesis) other vs
   pub bracket : stops (λ text. TheSign OpenBracket) other vs
@@ -68,20 +68,20 @@ pub record IsCalm (other : List ℕ) (vs : List Token) : Type 0 where
 abbrev pub calm : Test
 calm other vs = IsCalm other vs
 
--- the same, and no line end stands there: what is asked behind an operand of an argument (own rule)
+-- the same, and no line end is there: what is asked after an operand of an argument (own rule)
 abbrev pub settled : Test
 settled other vs = IsCalm other vs × (skip_line_ends vs ≡ vs)
 
--- nothing stands there (own rule)
+-- nothing is there (own rule)
 abbrev pub ended : Test
 ended other vs = vs ≡ []
 
--- A rule has a first sample: tokens of it are a P wherever what stands behind them passes a test (own rule).
+-- A rule has a first sample: tokens of it are a P wherever what follows them passes a test (own rule).
 pub record IsSampled {A : Type 0} (test : Test) (P : List ℕ → A → Front) (samples : List Sample) : Type 0 where
   pub stands : (other : List ℕ) (vs rest : List Token) → AreOf other samples vs rest → test other rest → (x : A) × P other x vs rest
 
--- The tokens before the first of `at` are the beginning of a P: with tokens of some samples behind them they are one, in any text, wherever what
--- stands behind these passes a test. What a P is may depend on the tokens from the samples on (own rule).
+-- The tokens before the first of `at` are the beginning of a P: with tokens of some samples after them they are one, in any text, wherever what
+-- follows these passes a test. What a P is may depend on the tokens from the samples on (own rule).
 pub record BeginsBy {A : Type 0} (test : Test) (P : List Token → List ℕ → A → Front) (text : List ℕ) (ts at : List Token) : Type 0 where
   pub inside : IsEndOf at ts
   pub samples : List Sample

@@ -3,15 +3,15 @@ use Rattle.std.specs.Prelude.{◌≡◌, List}
 use Rattle.il_syntax.specs.declared.token.Token.{Token}
 use Rattle.il_syntax.specs.Grammar.{Front}
 
--- What stands at the front is one thing, and the rest behind it (own rule).
+-- What is at the front is one thing, and the rest after it (own rule).
 pub record IsDeterministic {A : Type 0} (P : A → Front) : Type 0 where
   pub only : (a b : A) (ts r s : List Token) → P a ts r → P b ts s → (a ≡ b) × (r ≡ s)
 
--- What stands at the front fixes this view of the thing, and the rest behind it (own rule).
+-- What is at the front fixes this view of the thing, and the rest after it (own rule).
 pub record Fixes {A B : Type 0} (view : A → B) (P : A → Front) : Type 0 where
   pub only : (a b : A) (ts r s : List Token) → P a ts r → P b ts s → (view a ≡ view b) × (r ≡ s)
 
--- The rest behind what stands at the front is one (own rule).
+-- The rest after what is at the front is one (own rule).
 pub record IsSure (P : Front) : Type 0 where
   pub only : (ts r s : List Token) → P ts r → P ts s → r ≡ s
 

@@ -47,7 +47,7 @@ abbrev pub first_places : Option Operand → List Place
 first_places None = []
 first_places (Some operand) = operand_places operand
 
--- what stands behind the operator; a function's name is the operator itself
+-- what follows the operator; a function's name is the operator itself
 abbrev pub instruction_places : Instruction → List Place
 instruction_places (Load negated operand) = operand_places operand
 instruction_places (Store store target) = operand_places target
@@ -60,7 +60,7 @@ instruction_places (Return condition) = []
 instruction_places (Call condition instance arguments) = instance.place ∷ flat_map argument_places arguments
 instruction_places (Invoke function operands) = function.place ∷ flat_map operand_places operands
 
--- its labels, its operator and what stands behind that
+-- its labels, its operator and what follows that
 abbrev pub step_places : Step → List Place
 step_places s = flat_map name_places s.labels ++ s.place ∷ instruction_places s.instruction
 
@@ -110,7 +110,7 @@ places c = flat_map unit_places c.units ++ c.cars.place ∷ c.floors.place ∷ c
 abbrev pub HasItsLine : List ℕ → Place → Type 0
 HasItsLine text place = place.line ≡ line_at text place.offset
 
--- each place has its line, and none stands before one that comes earlier in the tree
+-- each place has its line, and none comes before one that comes earlier in the tree
 pub record AreInText (text : List ℕ) (ps : List Place) : Type 0 where
   pub lines : All (HasItsLine text) ps
   pub order : AllPairs (λ (p q : Place). p.offset ≤ q.offset) ps
@@ -119,7 +119,7 @@ pub record AreInText (text : List ℕ) (ps : List Place) : Type 0 where
 abbrev pub BreaksAtPlaces : Config → (ℕ → Place → Type 0) → Type 0
 BreaksAtPlaces config rule = (number : ℕ) (place : Place) → rule number place → Contains (places config) place
 
--- two faults that are both first have one number, and stand on one line
+-- two faults that are both first have one number, and is on one line
 abbrev pub IsFirstAtOneLine : (ℕ → Place → Type 0) → Type 0
 IsFirstAtOneLine rule =
     (number other_number : ℕ) (place other_place : Place) → IsFirst rule number place → IsFirst rule other_number other_place → (number ≡ other_number) × (place.line ≡ other_place.line)

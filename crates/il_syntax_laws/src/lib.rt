@@ -25,12 +25,12 @@ pub fn spelled_trees_are_written()
     ensures { (text : List ℕ) (c : Config) → Spells text c → IsWritten c }
 {}
 
-/// A law: each place of a spelled tree has the line of its byte, and none stands before one that comes earlier in the tree.
+/// A law: each place of a spelled tree has the line of its byte, and none comes before one that comes earlier in the tree.
 pub fn places_are_in_the_text()
     ensures { (text : List ℕ) (c : Config) → Spells text c → AreInText text (places c) }
 {}
 
-/// A law: what breaks a rule stands at a place of the tree.
+/// A law: what breaks a rule is at a place of the tree.
 pub fn faults_are_at_places()
     ensures { (phase : Phase) (config : Config) → BreaksAtPlaces config (Broken phase config) }
 {}

@@ -43,7 +43,7 @@ front n m p q start le = go q.offset refl
 pub predeclared_unit-first : IsFirst (Broken Declaring predeclared_unit) 20 (place 0 1)
 predeclared_unit-first = record { broken = predeclared_unit-row; first = λ m q b. front 20 m (place 0 1) q refl (from_twenty predeclared_unit m q b) }
 
--- the one PROGRAM line stands behind the front
+-- the one PROGRAM line follows the front
 late_line : (p : Place) → HasTooManySlots calls_itself p → 0 < p.offset
 late_line p (of_task line program functions among is those many at) =
     let here : p.offset ≡ line.place.offset = ap (λ (x : Place). x.offset) at in
@@ -110,7 +110,7 @@ on_the_line config unit alone supported line lines n p (unreached e (never_reach
     let low = slice_get_within unit.body.steps at s stands in
     absurd (none (subst (λ (v : ProgramUnit). IsReached v.body at) (sym same) (on_line config unit supported at (omega arith)).reached))
 
--- what stands at a place of a list of one
+-- what is at a place of a list of one
 by_one : (a : Step) (P : ℕ → Step → Type 0) → P 0 a → (at : ℕ) (s : Step) → slice_get (a ∷ []) at ≡ Some s → P at s
 by_one a P p zero s e = subst (P 0) (step_is a s e) p
   where
@@ -118,7 +118,7 @@ by_one a P p zero s e = subst (P 0) (step_is a s e) p
     step_is s t e = cc
 by_one a P p (suc k) s e = let bad : None ≡ Some s = e in absurd cc
 
--- what stands at a place of a list of two
+-- what is at a place of a list of two
 by_two : (a b : Step) (P : ℕ → Step → Type 0) → P 0 a → P 1 b → (at : ℕ) (s : Step) → slice_get (a ∷ b ∷ []) at ≡ Some s → P at s
 by_two a b P p q zero s e = by_one a P p zero s e
 by_two a b P p q (suc k) s e = by_one b (λ n t. P (suc n) t) q k s e

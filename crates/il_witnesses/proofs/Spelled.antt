@@ -28,7 +28,7 @@ calls_spelled : (E : Front) (rest : List Token) → E (skip_line_ends (from 361)
 unfolding keyword_of entry_of
 calls_spelled E rest end = (from 328, (refl, refl, (from 312, ((refl, refl), refl), (from 313, (refl, refl, ((refl, refl, refl), refl)), (from 314, (refl, refl), (from 327, (from 320, (from 315, (refl, refl, ((refl, refl), refl)), (from 316, (refl, refl), (refl, refl, (from 317, ((refl, refl, refl), refl), (from 318, (refl, refl), (from 319, (refl, refl), (refl, refl))))))), (from 321, (refl, refl), (from 326, (from 323, (refl, refl, ((refl, refl), refl)), (from 325, (refl, refl), (refl, refl, ((refl, refl, refl), refl)))), (refl, refl)))), (refl, refl)))))), (from 331, (refl, refl, (from 329, ((refl, refl), refl), (from 330, (refl, refl, (from 330, ((refl, refl, refl), refl), (from 330, (refl, λ other p. cc p.0), (refl, λ other p. cc p.0)))), (refl, refl)))), (from 334, (refl, refl, (from 332, ((refl, refl), refl), (from 333, (refl, refl, ((refl, refl, refl), refl)), (inl (refl, refl))))), (from 339, (refl, refl, (from 335, ((refl, refl), refl), (from 336, (refl, refl, ((refl, refl, refl), refl)), (inr (from 337, (refl, refl), (from 338, (refl, refl), (refl, refl))))))), (from 342, (refl, refl, (from 340, ((refl, refl), refl), (from 341, (refl, refl, (refl, refl)), (refl, refl)))), (from 345, (refl, refl, (from 343, (refl, refl, ((refl, refl, refl), refl)), (from 344, (refl, refl, (from 344, ((refl, refl, refl), refl), (from 344, (refl, λ other p. cc p.0), (refl, λ other p. cc p.0)))), (refl, refl)))), (from 353, (refl, refl, (from 346, (refl, refl, ((refl, refl, refl), refl)), (from 350, (refl, refl, (from 347, ((refl, refl, refl), refl), (from 348, (refl, refl), (from 349, ((refl, refl, refl), refl), (refl, refl))))), (from 351, (refl, refl), (from 352, (refl, refl, (refl, refl)), (refl, refl)))))), (from 355, (refl, refl, (from 354, (refl, refl, ((refl, refl, refl), refl)), (refl, refl))), (from 357, (refl, refl, (from 356, ((refl, refl), refl), (refl, refl))), (from 359, (refl, refl, (from 358, ((refl, refl), refl), (refl, refl))), (from 361, (refl, refl, (from 360, ((refl, refl), refl), (refl, refl))), end)))))))))))
 
--- what stands behind each part of the program
+-- what follows each part of the program
 abbrev behind_calls : Front
 behind_calls = Repeats (SpellsLabelLine whole_text) program_tree.body.last_labels (At program_tree.body.end (TheWord whole_text word.EndProgram))
 

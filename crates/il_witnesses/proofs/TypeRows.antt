@@ -31,7 +31,7 @@ none_some given e = cc
 at_first : (config : Config) (unit : ProgramUnit) → IsResultAt config unit 0 None
 at_first config unit given all = none_some given (all.each [] refl)
 
--- behind a first instruction that leaves a type and goes on there is that type
+-- after a first instruction that leaves a type and goes on there is that type
 behind_first : (config : Config) (unit : ProgramUnit) (step : Step) (given : Elementary) → StandsAt unit.body 0 step → goes_on step.instruction ≡ true → type_along config unit 0 (1 ∷ []) None ≡ Some given → IsResultAt config unit 1 (Some given)
 behind_first config unit step given stands on gives = record {
   reached = (1 ∷ [], (onward step stands on refl, refl));

@@ -1,4 +1,4 @@
--- Small texts that are refused, as trees: which rule each breaks, and where. The lines of a text that matter stand before its tree.
+-- Small texts that are refused, as trees: which rule each breaks, and where. The lines of a text that matter come before its tree.
 use Rattle.std.specs.Prelude.{List, [], ◌∷◌, ◌+◌, ℕ, pos, true, false, Some, None, codes}
 use Rattle.il_syntax.specs.declared.tree.Elementary.TheVariants as elementary
 use Rattle.il_syntax.specs.declared.tree.Literal.TheVariants as literal
@@ -14,7 +14,7 @@ use Rattle.il_syntax.specs.declared.tree.Unit.{Unit as ProgramUnit}
 use Rattle.il_syntax.specs.declared.tree.Config.{Config}
 use Rattle.il_witnesses.specs.Trees.{place, named, range, scalar, written, declaration, operand, step, size, task, program_line}
 
--- the configuration behind its units: one car, two floors, one slot, and task CAR1 that runs C
+-- the configuration after its units: one car, two floors, one slot, and task CAR1 that runs C
 --     CONFIGURATION K
 --     VAR_GLOBAL CONSTANT CARS : INT := 1; FLOORS : INT := 2; SLOTS : INT := 1; END_VAR
 --     RESOURCE M ON PLC
@@ -1179,7 +1179,7 @@ two_writers = record {
   end_resource = place 354 14;
 }
 
--- a label that no jump uses, behind a return
+-- a label that no jump uses, after a return
 --     FUNCTION F2 : BOOL
 --     VAR_INPUT P : SINT; Q : BOOL; END_VAR
 --     LD Q

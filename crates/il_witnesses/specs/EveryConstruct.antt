@@ -21,7 +21,7 @@ use Rattle.il_witnesses.specs.Trees.{lines, place, named, range, scalar, written
 
 -- THE TEXT
 
--- a function, with a comment behind it
+-- a function, with a comment after it
 abbrev pub function_text : List ℕ
 function_text =
     lines (

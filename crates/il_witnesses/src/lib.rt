@@ -1,4 +1,4 @@
-//! Rows of the grammar and of the rules: a text with its tree, and trees with their faults. Nothing stands on this crate: it is
+//! Rows of the grammar and of the rules: a text with its tree, and trees with their faults. Nothing builds on this crate: it is
 //! there so that a grammar that is too strict, or a rule that is off, is seen.
 #![tactic(auto)]
 

@@ -52,7 +52,7 @@ table_by n c (Some u) = work_table (most_within n c) c u
 abbrev work_rest : Config → ℕ → Frame → ℕ → ℕ
 work_rest c below f place = (rest_at (table_by (15 - below) c (unit_named c f.unit)) 0 place).cost
 
--- what the frames that have called may still do behind their calls
+-- what the frames that have called may still do after their calls
 abbrev callers_work : Config → List Frame → ℕ
 callers_work c [] = 0
 callers_work c (f ∷ below) = work_rest c (length below) f (f.place + 1) + callers_work c below
@@ -101,7 +101,7 @@ module _ (c : Config) (p : ProgramUnit) (order : IsInOrder c p) (values : Values
       let later = rest_is frame place refl in
       omega arith
 
-  -- behind an instruction stands the next one, of which its own work is not left any more
+  -- after an instruction is the next one, of which its own work is not left any more
   abbrev IsPassed : Instruction → Type 0
   IsPassed i = (tail : List Rest) (next : ℕ) → place_rest u.body i (own i) tail next ≡ passing (own i) tail next
 
@@ -265,7 +265,7 @@ falls : (c : Config) (p : ProgramUnit) → IsInOrder c p → (s : State) → Agr
 unfolding step
 falls c p order s agrees = step_falls c p order s.values s.result s.frames agrees.frames
 
--- behind the end there is none
+-- after the end there is none
 over : (c : Config) (n : ℕ) (s : State) → s.frames ≡ [] → step_work c s.frames + work_behind (work_of n c) (step c s) ≤ work_left c s.frames
 unfolding step
 over c n s ended = rw ended (omega arith)

@@ -35,7 +35,7 @@ pub record Agrees (exact : path.Rest) (kept : Rest) : Type 0 where
   pub cost : kept.cost ≡ capped exact.cost
   pub next : exact.cost ≤ 1000000 → kept.next ≡ exact.next
 
--- the rest a place behind, in both tables
+-- the rest a place after, in both tables
 abbrev pub exact_up : List path.Rest → ℕ → path.Rest
 exact_up table up = path.rest_or (slice_get table up)
 
@@ -190,7 +190,7 @@ callee_agrees c longest costs (Some k) named are (v, is, stands) =
     let e : capped (1 + number_at costs k) ≡ capped (1 + longest v) = omega (arith, at) in
     e ∙ ap (λ o. capped (cost_of longest o)) (sym is)
 
--- the rest of an instruction, by those of the places behind it
+-- the rest of an instruction, by those of the places after it
 step_agrees : (c : Config) (u : ProgramUnit) (longest : ProgramUnit → ℕ) (costs : List ℕ) (table : List path.Rest) (kept : List Rest) (next : ℕ) (i : Instruction) → AreCosts c longest costs → Stacks table kept
     → Agrees (place_rest u.body i (cost_of longest (callee c u i)) table next) (way_rest costs kept next (way_of c u i))
 step_agrees c u longest costs table kept next (Load negated operand) are s = passing_agrees table kept 1 1 next s (let e : 1 ≡ capped 1 = omega arith in e)

@@ -30,7 +30,7 @@ abbrev pub line_or : ℕ → Option Step → ℕ
 line_or end None = end
 line_or end (Some s) = s.place.line
 
--- the line of a place; behind the last instruction that of the END word, where the implicit RET stands
+-- the line of a place; after the last instruction that of the END word, where the implicit RET is
 abbrev pub line_at : Body → ℕ → ℕ
 line_at body place = line_or body.end.line (slice_get body.steps place)
 

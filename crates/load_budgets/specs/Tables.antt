@@ -33,7 +33,7 @@ abbrev pub callee_cost : List ℕ → Option ℕ → ℕ
 callee_cost costs None = 1
 callee_cost costs (Some number) = capped (1 + number_at costs number)
 
--- the rest so many places behind the last that was added
+-- the rest so many places after the last that was added
 abbrev pub rest_up : List Rest → ℕ → Rest
 rest_up rests up = if nat_lt up (length rests) then rest_or (slice_get rests (length rests - 1 - up)) else no_rest
 
@@ -50,7 +50,7 @@ abbrev pub jumping : List Rest → ℕ → Option ℕ → Rest
 jumping rests next None = no_rest
 jumping rests next (Some place) = rest (capped (1 + (rest_up rests (place - next)).cost)) (Some place)
 
--- the rest of an instruction, by those of the places behind it
+-- the rest of an instruction, by those of the places after it
 abbrev pub way_rest : List ℕ → List Rest → ℕ → Way → Rest
 way_rest costs rests next (Next callee) = passing (callee_cost costs callee) rests next
 way_rest costs rests next (Jump Always to) = jumping rests next to

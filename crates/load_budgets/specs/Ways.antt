@@ -1,4 +1,4 @@
--- How control paths go on behind each instruction, by the numbers of units and by places (own rules).
+-- How control paths go on after each instruction, by the numbers of units and by places (own rules).
 use Rattle.std.specs.Prelude.{ℕ, Option, Some, None, option_map}
 use Rattle.il_syntax.specs.declared.tree.Config.{Config}
 use Rattle.il_syntax.specs.declared.tree.Unit.{Unit as ProgramUnit}

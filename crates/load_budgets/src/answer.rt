@@ -18,7 +18,7 @@ impl Drop for Budget {
     }
 }
 
-/// The lines of a control path of the greatest cost, of each unit in the order of the text (own rule). The implicit return stands
+/// The lines of a control path of the greatest cost, of each unit in the order of the text (own rule). The implicit return is
 /// at the line of the END word.
 pub struct Path {
     pub units: Items<Items<u32>>,

@@ -24,7 +24,7 @@ use std::alloc::{AllocError, Global};
 pub fn budget(alloc: Global, checked: &Checked) -> Result<(Budget, Path), Refusal>
     ensures budgets { IfOk result (λ r. AreBudgets checked.now r.0) }
     ensures paths { IfOk result (λ r. ArePaths checked.now r.1) }
-    // The same by the table of the definitions, by which the layers above say what they print.
+    // The costs by the table of the definitions, by which the layers above say what they print.
     ensures costs { IfOk result (λ r. r.0.units ≡ map (longest checked.now) checked.now.units) }
     ensures lines { IfOk result (λ r. r.1.units ≡ map (path_of checked.now) checked.now.units) }
     ensures accepted { IfOk result (λ _. HasNoFault (IsTooLong checked.now)) }
@@ -33,7 +33,7 @@ pub fn budget(alloc: Global, checked: &Checked) -> Result<(Budget, Path), Refusa
     budgets(alloc, checked.names())
 }
 
-// The same of a configuration that breaks no rule of declarations, types and order.
+// The budgets of a configuration that breaks no rule of declarations, types and order.
 fn budgets(alloc: Global, names: &Scoped) -> Result<(Budget, Path), Refusal>
     requires declared { HasNoFault (Broken Declaring names.now) }
     requires typed { HasNoFault (Broken Typing names.now) }

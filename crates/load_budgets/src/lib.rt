@@ -30,7 +30,7 @@ use std::alloc::Global;
 /// Finds ranges for each instruction of each unit, by one forward pass with joins where paths meet (own rule).
 /// 40 where a result may leave its type, 41 where a divisor may be 0, 42 where an index may lie outside of its array,
 /// 43 where a stored value may leave its variable's range, 44 where an argument may: at the first instruction of a unit
-/// up to and including which no ranges exist, of several units at the one that stands earliest in the text.
+/// up to and including which no ranges exist, of several units at the one that is earliest in the text.
 pub fn verify(alloc: Global, code: Code) -> Result<Checked, Refusal>
     ensures same { IfOk result (λ c. c ≡ code) }
     ensures accepted { IfOk result (λ _. Annotated code) }

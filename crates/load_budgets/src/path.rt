@@ -27,7 +27,7 @@ pub fn path(alloc: Global, body: &Body, rests: &[Rest]) -> Result<Items<u32>, Al
     Ok(lines)
 }
 
-// The line of a place: behind the last instruction that of the END word.
+// The line of a place: after the last instruction that of the END word.
 fn line_at(body: &Body, place: usize) -> u32
     ensures { result ≡ line_at body.now place }
 {

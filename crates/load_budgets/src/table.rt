@@ -52,7 +52,7 @@ fn callee_cost(costs: &[u32], callee: Option<usize>) -> u32
     }
 }
 
-/// The rest so many places behind the last that was added.
+/// The rest so many places after the last that was added.
 pub fn rest_up(rests: &[Rest], up: usize) -> Rest
     ensures { result ≡ rest_up rests.now up }
 {
@@ -97,7 +97,7 @@ fn jumping(rests: &[Rest], next: usize, to: Option<usize>) -> Rest
     }
 }
 
-// The rest of an instruction, by those of the places behind it.
+// The rest of an instruction, by those of the places after it.
 fn way_rest(costs: &[u32], rests: &[Rest], next: usize, way: Way) -> Rest
     ensures { result ≡ way_rest costs.now rests.now next way }
 {
@@ -124,7 +124,7 @@ fn way_rest(costs: &[u32], rests: &[Rest], next: usize, way: Way) -> Rest
     }
 }
 
-/// The rests of a body's places, the last place first: the return behind the last instruction.
+/// The rests of a body's places, the last place first: the return after the last instruction.
 pub fn rests(alloc: Global, ways: &[Way], costs: &[u32]) -> Result<Items<Rest>, AllocError>
     ensures { IfOk result (λ rests. rests ≡ rests_above costs.now 0 ways.now) }
 {
@@ -140,7 +140,7 @@ pub fn rests(alloc: Global, ways: &[Way], costs: &[u32]) -> Result<Items<Rest>, 
     Ok(rests)
 }
 
-// Adds the rest of a place to those of the places behind it.
+// Adds the rest of a place to those of the places after it.
 fn push_rest(
     rests: &mut Items<Rest>,
     ways: &[Way],

@@ -1,4 +1,4 @@
-// How control paths go on behind each instruction of a body.
+// How control paths go on after each instruction of a body.
 
 ghost use Rattle.std.specs.Prelude.{◌≡◌, IfOk, Some, map, slice_get};
 ghost use Rattle.il_syntax.specs.declared.tree.Unit.{Unit as ProgramUnit};
@@ -10,10 +10,10 @@ use load_scope::Scoped;
 use load_scope::entry::{Binding, BlockType, VariableType};
 use std::alloc::{AllocError, Global};
 
-/// How a control path goes on behind an instruction.
+/// How a control path goes on after an instruction.
 #[derive(Clone, Copy)]
 pub enum Way {
-    /// To the next place, behind the body of an own unit if it runs one.
+    /// To the next place, after the body of an own unit if it runs one.
     Next {
         callee: Option<usize>,
     },

@@ -9,7 +9,7 @@ use Rattle.load_slots.specs.declared.flat.Cell.{Cell}
 use Rattle.load_slots.specs.Paths.{slot_at}
 use Rattle.load_code.specs.Tasks.{AreIndexed}
 
--- the place of a name behind others
+-- the place of a name after others
 place_of-last : (names : List Text) (n q : Text) → place_of (names ++ n ∷ []) q ≡ or_else (place_of names q) (if bytes_eq n q then Some (length names) else None)
 place_of-last [] n q = by_name (bytes_eq n q)
   where

@@ -176,7 +176,7 @@ first_is os = rows_after (rows [] []) os ∙ ap₂ rows (map_twice (λ (v : Text
 
 -- STANDARD BLOCKS
 
--- the slots of variables, one list behind another
+-- the slots of variables, one list after another
 listed_both : (inner : Text → Option BlockType → List Opening) (path : Text) (xs ys : List Variable) → list_openings inner path (xs ++ ys) ≡ list_openings inner path xs ++ list_openings inner path ys
 listed_both inner path [] ys = refl
 listed_both inner path (x ∷ xs) ys =

@@ -46,11 +46,11 @@ use Rattle.load_slots.proofs.Distinct.{blocks_named, unit_entities_named}
 use Rattle.load_slots.proofs.Counted.{mapped_at, IsBlock, of_standard, of_own, of_none, which_block, offset_found, offsets_are, standard_offset_is}
 use Rattle.load_slots.proofs.Tasks.{at_contains}
 
--- the table of a unit stands at its number
+-- the table of a unit is at its number
 pub table_there : (c : Config) (u : ProgramUnit) (at : ℕ) (tables : List (NameMap ℕ)) → tables ≡ all_offsets c → slice_get c.units at ≡ Some u → slice_get tables at ≡ Some (unit_offsets c u)
 table_there c u at tables are there = ap (λ ts. slice_get ts at) are ∙ mapped_at (unit_offsets c) c.units at u there
 
--- the indices of what stands under a name are of a size
+-- the indices of what is under a name are of a size
 short_form : (es : List Entity) (name : Text) (f : Form) → AreNamed es → form_in es name ≡ Some f → HasShort f
 short_form [] name f named is = cc
 short_form (e ∷ es) name f named is = by_test (bytes_eq e.name name) is (short_form es name f named.4)
@@ -173,7 +173,7 @@ module _ (c : Config) (checked : IsChecked c) (u : ProgramUnit) (itself : unit_n
       entry_outputs None = refl
       entry_outputs (Some v) = refl
 
-  -- the word of an instance stands as far behind the first as both lead
+  -- the word of an instance is as far after the first as both lead
   pub word_led : (instance name word : Text) → form_named c u instance ≡ Some (BlockForm name) → capped (n.offset instance + capped (offset_in wide (block_entities c name) word)) ≡ n.word instance word
   word_led instance name word is =
       twice (offset_in wide (declared_in c u.name.name) instance) (offset_in wide (block_entities c name) word)

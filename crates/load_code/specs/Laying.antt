@@ -111,7 +111,7 @@ laid_task own seen bases = record {
   first = with_values (rows [] []) own;
 }
 
--- the task of a program, behind the frames of the functions that it uses
+-- the task of a program, after the frames of the functions that it uses
 abbrev pub task_by : Config → ProgramUnit → Frames → TaskLayout
 task_by c p f = laid_task (f.openings ++ openings_of c [] (own_entities p)) (openings_to 17 c [] (entities p.externals ++ seen_image c p)) (map (base_or (length f.openings)) f.bases)
 

@@ -113,7 +113,7 @@ resolve c u (VariableReference name) = Place (direct_operand (known c u name))
 resolve c u (Element name index) = Place (element_operand (known c u) name index)
 resolve c u (Member instance word) = Place (member_operand c (known c u instance) word)
 
--- with its literals as they stand in flat code
+-- with its literals as they are in flat code
 abbrev pub by_resolved : (Literal → Operand) → Resolved → Operand
 by_resolved literal (OfLiteral l) = literal l
 by_resolved literal (Place o) = o

@@ -51,7 +51,7 @@ pub record AreGlobals (c : Config) (t : TaskLayout) : Type 0 where
   pub cells : t.cells ≡ global_cells c
   pub first : t.first ≡ first_rows (global_values c)
 
--- the slots of the tasks of all PROGRAM lines, one behind another
+-- the slots of the tasks of all PROGRAM lines, one after another
 pub record AreTasks (c : Config) (tasks : List TaskLayout) : Type 0 where
   pub count : length tasks ≡ length c.programs
   pub each : (line : ℕ) (t : TaskLayout) (p : ProgramUnit) → slice_get tasks line ≡ Some t → program_of c (slice_get c.programs line) ≡ Some p → IsTaskOf c p t

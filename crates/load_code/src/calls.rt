@@ -127,7 +127,7 @@ fn outputs_at(
     Ok(outputs)
 }
 
-// The call of a block, whose instance stands at an offset.
+// The call of a block, whose instance is at an offset.
 fn block_call(
     alloc: Global,
     here: &Here,

@@ -15,7 +15,7 @@ use load_order::Ordered;
 use load_slots::variables::{Variable, function_variables, own_variables};
 use std::alloc::{AllocError, Global};
 
-// How deep instances stand in one another at most.
+// How deep instances are in one another at most.
 const DEPTH: usize = 16;
 
 /// The slots of the functions that a task uses, and where the frame of each unit begins, if it has one.

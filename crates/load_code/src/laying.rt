@@ -65,7 +65,7 @@ fn numbered_path(alloc: Global, path: &str, number: i128) -> Result<String, Allo
     Ok(path)
 }
 
-// The path of an element that stands so far from the first (IEC 61131-3:2003, 2.4.1.2).
+// The path of an element that is so far from the first (IEC 61131-3:2003, 2.4.1.2).
 fn path_of_element(
     alloc: Global,
     path: &str,

@@ -43,7 +43,7 @@ fn parts_by(alloc: Global, ordered: &Ordered, names: &Scoped) -> Result<Parts, A
     })
 }
 
-// The same of an ordered configuration.
+// The flat code and the slots of an ordered configuration.
 fn parts_of(alloc: Global, ordered: &Ordered) -> Result<Parts, AllocError>
     ensures belongs { IfOk result (λ p. Belongs ordered.now p.units p.tasks) }
     ensures globals { IfOk result (λ p. AreGlobals ordered.now p.globals) }

@@ -17,7 +17,7 @@ use load_scope::entry::VariableType;
 use load_slots::flat::{Operand, Slot};
 use load_slots::sizes::sum;
 
-/// A variable, or a word of a block: its type, and how far it stands from the first.
+/// A variable, or a word of a block: its type, and how far it is from the first.
 #[derive(Clone, Copy)]
 pub struct Known {
     pub declared: VariableType,
@@ -97,7 +97,7 @@ fn direct_operand(known: Option<Known>) -> Operand
     }
 }
 
-// How far an element stands from the first.
+// How far an element is from the first.
 fn index_in(bounds: Subrange, number: i64) -> usize
     ensures { result ≡ index_in bounds number }
 {

@@ -50,7 +50,7 @@ fn task_with(
     TaskCode::of(alloc, own, seen.as_slice(), bases)
 }
 
-// The slots of the task of a program behind the frames of the functions that it uses.
+// The slots of the task of a program after the frames of the functions that it uses.
 fn framed_task(
     alloc: Global,
     blocks: &Blocks,
@@ -178,7 +178,7 @@ fn global_openings(alloc: Global, blocks: &Blocks) -> Result<Items<Opening>, All
     Ok(openings)
 }
 
-// The slots of the globals, with those of no task behind them.
+// The slots of the globals, with those of no task after them.
 fn laid_globals(alloc: Global, blocks: &Blocks) -> Result<TaskCode, AllocError>
     ensures { IfOk result (λ t. t ≡ laid_task
         (openings_to 0 blocks.now.names.now [] (entities blocks.now.names.now.globals)) [] []) }

@@ -42,7 +42,7 @@ fn add_cells(alloc: Global, cells: &mut Items<Cell>, openings: &[Opening]) -> Re
     Ok(())
 }
 
-/// Slots that stay from one scan to the next, and behind them others.
+/// Slots that stay from one scan to the next, and after them others.
 pub fn cells_of(alloc: Global, own: &[Opening], seen: &[Opening]) -> Result<Items<Cell>, AllocError>
     ensures { IfOk result (λ cs. cs ≡ map cell_of own.now ++ map cell_of seen.now) }
 {

@@ -17,7 +17,7 @@ use std::alloc::{AllocError, Global};
 use std::marker::Model;
 
 /// The slots of the task of a PROGRAM line: the frames of the functions that its program uses, each once; the program's own variables;
-/// and behind them what a scan is given, its externals and the image.
+/// and after them what a scan is given, its externals and the image.
 #[derive(Drop)]
 pub struct TaskCode {
     cells: Items<Cell>,
@@ -81,7 +81,7 @@ impl TaskCode {
         self.cells.as_slice()
     }
 
-    /// How many slots stay from one scan to the next; they stand first.
+    /// How many slots stay from one scan to the next; they are first.
     pub fn own(&self) -> usize
         ensures { result ≡ self.now.own }
     {

@@ -1,4 +1,4 @@
--- Names that stand again: lists one behind another, and what the rules say.
+-- Names that are again: lists one after another, and what the rules say.
 use Rattle.std.proofs.Common.{◌≡◌, inl, inr, ℕ, ◌+◌, ◌<◌, Bool, true, false, IsTrue, List, [], ◌∷◌, ◌++◌, map, take, length, get_or, refl, sym, ap, ◌∙◌, subst, Option, Some, None, is_some, append-nil, append_assoc, ◌||◌, bytes_eq, if◌then◌else◌}
 use Rattle.std.proofs.lemmas.List.Concat.{flat_map-append}
 use Rattle.std.specs.Prelude.{flat_map}
@@ -16,7 +16,7 @@ use Rattle.load_declarations.specs.Again.{Seen, with_names, AgainFrom, NamedAgai
 use Rattle.load_declarations.proofs.Lists.{in_one_of, one_of_in, one_of-last}
 
 module _ {A : Type 0} (name_of : A → Spelling) (place_of : A → Place) (number : ℕ) where
-  -- one list behind another
+  -- one list after another
   up : (seen : Seen) (xs ys : List A) (n : ℕ) (p : Place) → Either (AgainFrom name_of place_of number seen xs) (AgainFrom name_of place_of number (with_names seen (map name_of xs)) ys) n p → AgainFrom name_of place_of number seen (xs ++ ys) n p
   up seen [] ys n p (inl h) = absurd h
   up seen [] ys n p (inr h) = h
@@ -72,7 +72,7 @@ module _ {A : Type 0} (name_of : A → Spelling) (place_of : A → Place) (numbe
     seen_is = added ∙ ap (λ m. with_names m (map name_of ys)) before.seen_is ∙ sym (after-append seen xs ys);
   }
 
-  -- the items of one list more, of lists one behind another
+  -- the items of one list more, of lists one after another
   pub so_far_lists : {B : Type 0} (f : B → List A) (seen : Seen) (bs : List B) (i : ℕ) (b : B) (ys : List A) (found one r : Option NumberedFault) (mid new : Seen) → i < length bs → b ≡ get_or bs i b → ys ≡ f b → IsLeast one (AgainFrom name_of place_of number mid ys) → new ≡ with_names mid (map name_of ys) → r ≡ earlier_of found one
       → IsSoFar seen found mid (flat_map f (take i bs)) → IsSoFar seen r new (flat_map f (take (i + 1) bs))
   so_far_lists f seen bs i b ys found one r mid new low there same here added is before =
@@ -118,12 +118,12 @@ set_more s seen n is q = ap is_some (get-inserted seen n tt q) ∙ by_name (byte
     by_name false o = refl
 
 module _ {A : Type 0} (name_of : A → Spelling) (place_of : A → Place) (number : ℕ) where
-  -- what stands behind one of its name is found
+  -- what follows one of its name is found
   found_from : (s : List Spelling) (seen : Seen) (n : ℕ) (p : Place) → IsSet s seen → (before after : List A) (x : A) → is_one_of (s ++ map name_of before) (name_of x) ≡ true → n ≡ number → p ≡ place_of x → AgainFrom name_of place_of number seen (before ++ x ∷ after) n p
   found_from s seen n p is [] after x again num at = inl (is (name_of x) ∙ ap (λ l. is_one_of l (name_of x)) (sym (append-nil s)) ∙ again, num, at)
   found_from s seen n p is (b ∷ before) after x again num at = inr (found_from (s ++ name_of b ∷ []) (insert seen (name_of b) tt) n p (set_more s seen (name_of b) is) before after x (ap (λ l. is_one_of l (name_of x)) (append_assoc s (name_of b ∷ []) (map name_of before)) ∙ again) num at)
 
-  -- what is found stands behind one of its name
+  -- what is found follows one of its name
   record IsBehind (s : List Spelling) (items : List A) (n : ℕ) (p : Place) : Type 0 where
     pub before : List A
     pub after : List A
@@ -143,7 +143,7 @@ module _ {A : Type 0} (name_of : A → Spelling) (place_of : A → Place) (numbe
   nothing_seen : IsSet {X = Unit {0}} [] empty
   nothing_seen q = ap is_some (get-empty q)
 
-  -- an item that stands again
+  -- an item that is again
   pub again_found : (items : List A) (x : A) (n : ℕ) (p : Place) → IsAgain name_of items x → n ≡ number → p ≡ place_of x → AgainFrom name_of place_of number empty items n p
   again_found items x n p a num at = subst (λ l. AgainFrom name_of place_of number empty l n p) (sym a.2) (found_from [] empty n p nothing_seen a.0 a.1 x (in_one_of (map name_of a.0) (name_of x) a.3) num at)
 

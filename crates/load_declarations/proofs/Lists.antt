@@ -38,7 +38,7 @@ in_none xs q never = go (is_one_of xs q) refl
     go true is = absurd (never (one_of_in xs q is))
     go false is = refl
 
--- a name behind others
+-- a name after others
 pub one_of-last : (names : List Spelling) (n q : Spelling) → is_one_of (names ++ n ∷ []) q ≡ (bytes_eq n q || is_one_of names q)
 one_of-last [] n q = refl
 one_of-last (m ∷ names) n q = ap (λ b. bytes_eq m q || b) (one_of-last names n q) ∙ swap (bytes_eq m q) (bytes_eq n q) (is_one_of names q)

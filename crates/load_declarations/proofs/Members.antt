@@ -12,7 +12,7 @@ pub one_in : {A : Type 0} (x y : A) → Contains (x ∷ []) y → x ≡ y
 one_in x y (zero, low, e) = e
 one_in x y (suc k, low, e) = absurd (omega arith)
 
--- one behind others
+-- one after others
 pub in_rest : {A : Type 0} (y : A) (xs : List A) (x : A) → Contains xs x → Contains (y ∷ xs) x
 in_rest y xs x (k, low, e) = (suc k, omega arith, e)
 

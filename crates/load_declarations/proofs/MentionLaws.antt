@@ -26,7 +26,7 @@ scalar_type_is config (OfScalar s) = refl
 scalar_type_is config (OfArray b e) = refl
 scalar_type_is config (OfBlock n) = refl
 
--- where a scalar variable stands
+-- where a scalar variable is
 pub scalar_is : (config : Config) (m : Option Meaning) → scalar_of (option_map (type_of config) (option_map (λ v. v.form) (meant_variable m))) ≡ scalar_numbers m
 scalar_is config (Some (MeansVariable v)) = scalar_type_is config v.form
 scalar_is config (Some (MeansUnit u)) = refl
@@ -50,7 +50,7 @@ called_type_is config (OfScalar s) = refl
 called_type_is config (OfArray b e) = refl
 called_type_is config (OfBlock n) = refl
 
--- behind CAL
+-- after CAL
 pub called_is : (config : Config) (m : Option Meaning) → called_of (option_map (binding_of config) m) ≡ called_numbers m
 called_is config (Some (MeansVariable v)) = called_type_is config v.form
 called_is config (Some (MeansUnit u)) = refl

@@ -14,7 +14,7 @@ module _ {A : Type 0} (rule : A → ℕ → Place → Type 0) where
   first_one unit None least = inl (least.none refl, refl)
   first_one unit (Some f) least = inr (record { number = f.number; place = f.place }, [], refl, record { broken = least.holds f refl; first = least.first f refl }, refl)
 
-  -- one unit behind others
+  -- one unit after others
   first_last : (units : List A) (unit : A) (faults : List UnitFault) (found : Option NumberedFault) → AreFirst rule units faults → IsLeast found (rule unit) → AreFirst rule (units ++ unit ∷ []) (faults ++ listed found)
   first_last [] unit faults found none least = subst (λ fs. AreFirst rule (unit ∷ []) (fs ++ listed found)) (sym none) (first_one unit found least)
   first_last (u ∷ units) unit faults found (inl (well, rest)) least = inl (well, first_last units unit faults found rest least)

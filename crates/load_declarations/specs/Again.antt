@@ -1,4 +1,4 @@
--- Names that stand again, one list after another.
+-- Names that are again, one list after another.
 use Rattle.std.specs.Prelude.{◌⊎◌, ℕ, IsTrue, List, [], ◌∷◌, map, is_some}
 use Rattle.il_syntax.specs.declared.tree.Named.{Named}
 use Rattle.il_syntax.specs.declared.tree.Place.{Place}
@@ -15,7 +15,7 @@ abbrev pub with_names : Seen → List Spelling → Seen
 with_names seen [] = seen
 with_names seen (n ∷ ns) = with_names (insert seen n tt) ns
 
--- the items whose name was seen, or stands before in the list
+-- the items whose name was seen, or comes before in the list
 abbrev pub AgainFrom : {A : Type 0} → (A → Spelling) → (A → Place) → ℕ → Seen → List A → ℕ → Place → Type 0
 AgainFrom name_of place_of number seen [] other_number other_place = ⊥
 AgainFrom name_of place_of number seen (x ∷ xs) other_number other_place =

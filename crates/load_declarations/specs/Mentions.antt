@@ -17,13 +17,13 @@ abbrev pub shown_access : Access → rule.Access
 shown_access Reads = rule.Reads
 shown_access Stores = rule.Stores
 
--- a variable of this type where a scalar one stands
+-- a variable of this type where a scalar one is
 abbrev pub scalar_type_numbers : VariableType → List ℕ
 scalar_type_numbers (Scalar scalar) = []
 scalar_type_numbers (Array bounds element) = 25 ∷ []
 scalar_type_numbers (Instance block) = 21 ∷ []
 
--- a name where a scalar variable stands
+-- a name where a scalar variable is
 abbrev pub scalar_of : Option VariableType → List ℕ
 scalar_of (Some declared) = scalar_type_numbers declared
 scalar_of None = 21 ∷ []
@@ -41,13 +41,13 @@ array_of (Some UnitName) = 25 ∷ []
 array_of (Some Standard) = 25 ∷ []
 array_of None = 21 ∷ []
 
--- a variable of this type behind CAL
+-- a variable of this type after CAL
 abbrev pub called_type_numbers : VariableType → List ℕ
 called_type_numbers (Scalar scalar) = 25 ∷ []
 called_type_numbers (Array bounds element) = 25 ∷ []
 called_type_numbers (Instance block) = []
 
--- a name behind CAL
+-- a name after CAL
 abbrev pub called_of : Option Binding → List ℕ
 called_of (Some (Variable v)) = called_type_numbers v.declared
 called_of (Some UnitName) = 25 ∷ []

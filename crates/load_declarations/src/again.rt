@@ -22,7 +22,7 @@ fn see(alloc: Global, seen: &mut Table<()>, name: &str) -> Result<bool, AllocErr
     Ok(again)
 }
 
-// The first name that was seen or stands before in the list.
+// The first name that was seen or comes before in the list.
 #[inline(always)]
 fn again_named(
     alloc: Global,
@@ -40,7 +40,7 @@ fn again_named(
     Ok(found)
 }
 
-// The same of the names of declarations.
+// The first name of declarations that was seen or comes earlier in the list.
 fn again_declared(
     alloc: Global,
     declarations: &[Declaration],
@@ -58,7 +58,7 @@ fn again_declared(
     Ok(found)
 }
 
-// The same of the labels of instructions.
+// The first label that was seen or comes earlier in the list.
 fn again_labels(
     alloc: Global,
     steps: &[Step],

@@ -39,7 +39,7 @@ pub fn declare(alloc: Global, written: Written) -> Result<Declared, Refusal>
     declare_scoped(alloc, scoped)
 }
 
-/// The same of a configuration of which it is known what its names mean.
+/// Checks the declarations of a configuration whose names have their meanings already.
 pub fn declare_scoped(alloc: Global, scoped: Scoped) -> Result<Declared, Refusal>
     ensures same { IfOk result (λ d. d ≡ scoped) }
     ensures accepted { IfOk result (λ _. HasNoFault (BreaksDeclarations scoped)) }

@@ -214,7 +214,7 @@ fn index_fault(here: &UnitScope, index: &Index, place: Place) -> Option<Found<De
     }
 }
 
-// What a name where a scalar variable stands breaks.
+// What a name where a scalar variable is breaks.
 fn scalar_name_fault(here: &UnitScope, name: &str, place: Place) -> Option<Found<DeclareFault>>
     ensures { result ≡ lowest_at (scalar_numbers (meaning here.now.config here.now.unit name.now))
         place }
@@ -222,7 +222,7 @@ fn scalar_name_fault(here: &UnitScope, name: &str, place: Place) -> Option<Found
     scalar_fault(here.declared_type(name), place)
 }
 
-// The same, by the type of the variable, if it means one.
+// What breaks, where a scalar variable is wanted, by the type of the variable that the name means, if it means one.
 #[inline(always)]
 fn scalar_fault(declared: Option<VariableType>, place: Place) -> Option<Found<DeclareFault>>
     ensures { result ≡ lowest_at (scalar_of declared) place }
@@ -233,7 +233,7 @@ fn scalar_fault(declared: Option<VariableType>, place: Place) -> Option<Found<De
     }
 }
 
-// The same of a variable, by its type.
+// What a variable of this type breaks, where a scalar one is wanted.
 #[inline(always)]
 fn scalar_type_fault(declared: VariableType, place: Place) -> Option<Found<DeclareFault>>
     ensures { result ≡ lowest_at (scalar_type_numbers declared) place }
@@ -253,7 +253,7 @@ fn array_name_fault(here: &UnitScope, name: &str, place: Place) -> Option<Found<
     array_fault(here.meaning(name), place)
 }
 
-// The same, by what the name means.
+// What a name before an index breaks, by what it means.
 fn array_fault(binding: Option<Binding>, place: Place) -> Option<Found<DeclareFault>>
     ensures { result ≡ lowest_at (array_of binding) place }
 {
@@ -264,7 +264,7 @@ fn array_fault(binding: Option<Binding>, place: Place) -> Option<Found<DeclareFa
     }
 }
 
-// The same of a variable, by its type.
+// What a variable of this type breaks before an index.
 fn array_type_fault(declared: VariableType, place: Place) -> Option<Found<DeclareFault>>
     ensures { result ≡ lowest_at (array_type_numbers declared) place }
 {
@@ -274,7 +274,7 @@ fn array_type_fault(declared: VariableType, place: Place) -> Option<Found<Declar
     }
 }
 
-// What a name behind CAL breaks.
+// What a name after CAL breaks.
 fn called_name_fault(here: &UnitScope, name: &str, place: Place) -> Option<Found<DeclareFault>>
     ensures { result ≡ lowest_at (called_numbers (meaning here.now.config here.now.unit name.now))
         place }
@@ -282,7 +282,7 @@ fn called_name_fault(here: &UnitScope, name: &str, place: Place) -> Option<Found
     called_fault(here.meaning(name), place)
 }
 
-// The same, by what the name means.
+// What a name after CAL breaks, by what it means.
 fn called_fault(binding: Option<Binding>, place: Place) -> Option<Found<DeclareFault>>
     ensures { result ≡ lowest_at (called_of binding) place }
 {
@@ -293,7 +293,7 @@ fn called_fault(binding: Option<Binding>, place: Place) -> Option<Found<DeclareF
     }
 }
 
-// The same of a variable, by its type.
+// What a variable of this type breaks after CAL.
 fn called_type_fault(declared: VariableType, place: Place) -> Option<Found<DeclareFault>>
     ensures { result ≡ lowest_at (called_type_numbers declared) place }
 {
@@ -317,7 +317,7 @@ fn member_name_fault(
     member_fault(here.names(), access, word, here.meaning(name), place)
 }
 
-// The same, by what the name means: an instance with such a word.
+// What a name before a dot breaks, by what it means: an instance with such a word.
 fn member_fault(
     names: &Scoped,
     access: Access,
@@ -336,7 +336,7 @@ fn member_fault(
     }
 }
 
-// The same of a variable, by its type.
+// What a variable of this type breaks before a dot.
 #[tactic(auto, using(crate::proofs::Lowest::at_unless))]
 fn member_type_fault(
     names: &Scoped,

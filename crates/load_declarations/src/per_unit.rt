@@ -39,7 +39,7 @@ pub fn unit_faults(alloc: Global, names: &Scoped) -> Result<Vec<UnitFault>, Allo
     Ok(faults)
 }
 
-/// Puts a fault behind others, if one was found.
+/// Puts a fault after others, if one was found.
 pub fn put_found<F: PhaseFault>(
     found: Option<Found<F>>,
     faults: &mut Vec<UnitFault>,

@@ -46,7 +46,7 @@ use Rattle.load_lines.proofs.Chain.{Lacks, lift, past, past_part, valued}
 pub range_one : IsDeterministic SpellsRange
 range_one = through (λ s. (s.lower, s.upper)) (λ a b e i. record { lower = (e i).0; upper = (e i).1 }) (chain loose number_one (behind loose (sign_sure Range) number_one))
 
--- and stand in alike tokens
+-- and are in alike tokens
 pub range_local : IsLocal tight (λ text. SpellsRange)
 range_local = record { one = λ text. range_one; carries = λ s. follows loose_gap tight_gap (number_carries s.lower) (follows loose_gap tight_gap (sign_carries Range) (number_carries s.upper)) }
 
@@ -121,7 +121,7 @@ module _ (text : List ℕ) where
       go (reference.Element n i) r w = other (name_lead text n ts w.0 w.1)
       go (reference.Member n m) r w = other (name_lead text n ts w.0 w.1)
 
-  -- a bracket stands behind a name
+  -- a bracket follows a name
   bracket_refused_lacks : (gap : Gap) (ts k : List Token) → TheSign OpenBracket ts k → Lacks (SpellsElement text gap) (gap k) → Lacks (SpellsSelector text gap) ts
   bracket_refused_lacks gap ts k there bad = go
     where
@@ -146,7 +146,7 @@ module _ (text : List ℕ) where
           let same = (sign_sure Dot).only ts w.0 k w.1 there in
           bad m r (subst (λ (x : List Token). AWord text m (gap x) r) same w.2)
 
-  -- no name stands there
+  -- no name is there
   no_name_lacks : (gap : Gap) (ts : List Token) → lead_at text ts ≡ lead.Name → Lacks (AName text) ts → Lacks (SpellsReference text gap) ts
   no_name_lacks gap ts l bad = go
     where
@@ -156,7 +156,7 @@ module _ (text : List ℕ) where
       go (reference.Element n i) r w = bad n w.0 w.1
       go (reference.Member n m) r w = bad n w.0 w.1
 
-  -- a name stands there, and nothing that may follow it
+  -- a name is there, and nothing that may follow it
   selector_refused_lacks : (gap : Gap) (ts m : List Token) (n : List ℕ) → Reads (AName text) ts n m → Lacks (SpellsSelector text gap) (gap m) → Lacks (SpellsReference text gap) ts
   selector_refused_lacks gap ts m n here bad = go
     where
@@ -169,7 +169,7 @@ module _ (text : List ℕ) where
       go (reference.Element a i) r w = bad (selector.Element i) r (moved (selector.Element i) a w.0 r w.1 w.2)
       go (reference.Member a b) r w = bad (selector.Member b) r (moved (selector.Member b) a w.0 r w.1 w.2)
 
-  -- a name, and what stands behind it
+  -- a name, and what follows it
   pub selected_read : (gap : Gap) (ts m r : List Token) (n : List ℕ) (s : Selector) → Reads (AName text) ts n m → Reads (SpellsSelector text gap) (gap m) s r → Reads (SpellsReference text gap) ts (reference_of n s) r
   selected_read gap ts m r n selector.Whole here behind = record { found = (m, here.found, behind.found) }
   selected_read gap ts m r n (selector.Element i) here behind = record { found = (m, here.found, behind.found) }
@@ -192,7 +192,7 @@ module _ (text : List ℕ) where
   no_sign gap (reference.Element n i) s ts r e p = let x = name_lead text n ts p.0 p.1 in cc
   no_sign gap (reference.Member n m) s ts r e p = let x = name_lead text n ts p.0 p.1 in cc
 
-  -- a parenthesis that opens behind an operator
+  -- a parenthesis that opens after an operator
   opened_refused_lacks : (room : Bool) (op : Operator) (ts m : List Token) → TheSign OpenParenthesis ts m → Lacks (SpellsFirst text) m → Lacks (SpellsWork text room op) ts
   opened_refused_lacks room op ts m there bad = go
     where
@@ -237,7 +237,7 @@ module _ (text : List ℕ) where
       go (argument.Input n o) r w = bad n w.0 w.1
       go (argument.Output n t) r w = bad n w.0 w.1
 
-  -- behind `:=` an operand stands
+  -- after `:=` an operand is
   input_refused_lacks : (ts k : List Token) → TheSign Assign ts k → Lacks (SpellsOperand text loose) (skip_line_ends k) → Lacks (SpellsPassed text) ts
   input_refused_lacks ts k there bad = go
     where
@@ -250,7 +250,7 @@ module _ (text : List ℕ) where
           let y = sign_lead text Assign ts k there in
           cc
 
-  -- where no `:=` stands, it is an output
+  -- where no `:=` is, it is an output
   output_refused_lacks : (ts : List Token) → ((k : List Token) → TheSign Assign ts k → ⊥) → Lacks (λ (t : Named). TheSign Arrow ⋯ TheName text t) ts → Lacks (SpellsPassed text) ts
   output_refused_lacks ts none bad = go
     where
@@ -258,7 +258,7 @@ module _ (text : List ℕ) where
       go (passed.Input o) r w = none w.0 w.1
       go (passed.Output t) r w = bad t r w
 
-  -- a word stands there, and passes nothing
+  -- a word is there, and passes nothing
   passed_refused_lacks : (ts m : List Token) (n : Named) → Reads (AnyNamed text) ts n m → Lacks (SpellsPassed text) (skip_line_ends m) → Lacks (SpellsArgument text) ts
   passed_refused_lacks ts m n here bad = go
     where
@@ -323,7 +323,7 @@ module _ (text : List ℕ) where
   pub literal_reference : {gap : Gap} (ts : List Token) (e : Stop) → (lead_at text ts ≡ lead.Name → ⊥) → Refuses ALiteral text ts e → Refuses (λ text. SpellsReference text gap) text ts e
   literal_reference {gap = gap} ts e none bad = past tight_gap (λ other us back a gone. literal_reference_lacks other gap us (λ l. none (sym (lead_alike text other back ts us a) ∙ l)) gone) bad
 
-  -- a bracket stands behind a name
+  -- a bracket follows a name
   pub bracket_refused : {gap : Gap} (is : IsGap gap) (ts k : List Token) (e : Stop) → TheSign OpenBracket ts k → Refuses (λ text. SpellsElement text gap) text (gap k) e → Refuses (λ text. SpellsSelector text gap) text ts e
   bracket_refused {gap = gap} is ts k e there bad =
       past_part is (valued (sign_local OpenBracket)) there (λ other us back n a here gone. bracket_refused_lacks other gap us n here gone) bad
@@ -334,17 +334,17 @@ module _ (text : List ℕ) where
       past_part is (valued (sign_local Dot)) there (λ other us back n a here gone.
       dot_refused_lacks other gap us n (λ m w. (sign_told OpenBracket).still text other back ts us a none m w) here gone) bad
 
-  -- no name stands there
+  -- no name is there
   pub no_name : {gap : Gap} (ts : List Token) (e : Stop) → lead_at text ts ≡ lead.Name → Refuses AName text ts e → Refuses (λ text. SpellsReference text gap) text ts e
   no_name {gap = gap} ts e l bad = past tight_gap (λ other us back a gone. no_name_lacks other gap us (lead_alike text other back ts us a ∙ l) gone) bad
 
-  -- a name stands there, and nothing that may follow it
+  -- a name is there, and nothing that may follow it
   pub selector_refused : {gap : Gap} (is : IsGap gap) (ts m : List Token) (n : List ℕ) (e : Stop) → Reads (AName text) ts n m → Refuses (λ text. SpellsSelector text gap) text (gap m) e
       → Refuses (λ text. SpellsReference text gap) text ts e
   selector_refused {gap = gap} is ts m n e here bad =
       past_part is name_local here.found (λ other us back k a there gone. selector_refused_lacks other gap us k n (record { found = there }) gone) bad
 
-  -- a parenthesis that opens behind an operator
+  -- a parenthesis that opens after an operator
   pub opened_refused : (room : Bool) (op : Operator) (ts m : List Token) (e : Stop) → TheSign OpenParenthesis ts m → Refuses SpellsFirst text m e → Refuses (λ text. SpellsWork text room op) text ts e
   opened_refused room op ts m e there bad =
       past_part tight_gap (valued (sign_local OpenParenthesis)) there (λ other us back n a here gone. opened_refused_lacks other room op us n here gone) bad
@@ -366,14 +366,14 @@ module _ (text : List ℕ) where
   pub word_refused : (ts : List Token) (e : Stop) → Refuses AnyNamed text ts e → Refuses SpellsArgument text ts e
   word_refused ts e bad = past tight_gap (λ other us back a gone. word_refused_lacks other us gone) bad
 
-  -- behind `:=` an operand stands
+  -- after `:=` an operand is
   pub input_refused : (ts k : List Token) (e : Stop) → TheSign Assign ts k → Refuses (λ text. SpellsOperand text loose) text (skip_line_ends k) e → Refuses SpellsPassed text ts e
   input_refused ts k e there bad = past_part loose_gap (valued (sign_local Assign)) there (λ other us back n a here gone. input_refused_lacks other us n here gone) bad
 
-  -- where no `:=` stands, it is an output
+  -- where no `:=` is, it is an output
   pub output_refused : (ts : List Token) (e : Stop) → ((k : List Token) → TheSign Assign ts k → ⊥) → Refuses (λ text (t : Named). TheSign Arrow ⋯ TheName text t) text ts e → Refuses SpellsPassed text ts e
   output_refused ts e none bad = past tight_gap (λ other us back a gone. output_refused_lacks other us (λ m w. (sign_told Assign).still text other back ts us a none m w) gone) bad
 
-  -- a word stands there, and passes nothing
+  -- a word is there, and passes nothing
   pub passed_refused : (ts m : List Token) (n : Named) (e : Stop) → Reads (AnyNamed text) ts n m → Refuses SpellsPassed text (skip_line_ends m) e → Refuses SpellsArgument text ts e
   passed_refused ts m n e here bad = past_part loose_gap any_named_local here.found (λ other us back k a there gone. passed_refused_lacks other us k n (record { found = there }) gone) bad

@@ -45,7 +45,7 @@ pub placed_breaks : {A : Type 0} {P : List ℕ → A → Front} {test : Test} {l
 placed_breaks fill bad = as_breaks (λ at b. begins_at (λ x. (fill.one x).takes) b) bad
 
 module _ {A B : Type 0} {P : List ℕ → A → Front} {Q : List ℕ → B → Front} {zs : List Sample} {second : Test} where
-  -- samples of a rule, and of one behind it
+  -- samples of a rule, and of one after it
   pub s_loose : {ss : List Sample} → IsSampled always P ss → IsSampled second Q zs → is_solid zs ≡ true → IsSampled second (λ text (x : A × B). P text x.0 ⋯ Q text x.1) (ss ++ zs)
   s_loose p q solid = then_sampled loose p q passes_always (stays_loose solid)
 
@@ -72,7 +72,7 @@ module _ {A B : Type 0} {P : List ℕ → A → Front} {Q : List ℕ → B → F
     pub first_operand : IsSampled second Q zs → is_still zs ≡ true → BreaksOff calm P text ts e → BreaksOff second (λ text (x : A × B). P text x.0 ⨾ Q text x.1) text ts e
     first_operand q still bad = as_breaks (λ at b. begins_first tight q (passes_calm still) stays_tight b) bad
 
-    -- a rule stands there, and what follows breaks off
+    -- a rule is there, and what follows breaks off
     module _ {m : List Token} {x : A} where
       pub later_loose : IsFilling tight always P → Reads (P text) ts x m → IsSampled second Q zs → is_solid zs ≡ true → BreaksOff second Q text (skip_line_ends m) e
           → BreaksOff second (λ text (x : A × B). P text x.0 ⋯ Q text x.1) text ts e

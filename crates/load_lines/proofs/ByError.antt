@@ -25,6 +25,6 @@ pub up_by : {X A : Type 0} (P : SyntaxError → List ℕ → A → Front) {text 
 up_by P {text = text} {ts = ts} (Err y) same bad = subst (λ (z : Stop). RefusesBy P text ts z) (sym same) bad
 up_by P (Ok x) same bad = tt
 
--- a parenthesis that opens behind an operator has no room
+-- a parenthesis that opens after an operator has no room
 pub deeper : (text : List ℕ) (room : Bool) (op : Operator) (ts m : List Token) (e : Stop) → TheSign OpenParenthesis ts m → room ≡ false → e ≡ fault_at TooDeep ts → RefusesBy (SpellsWorkBy room op) text ts e
 deeper text room op ts m e there none here = too_deep text (room_by (error_of e) room) op ts m e there (ap (λ error. room_by error room) (error_is TooDeep ts e here) ∙ none) here

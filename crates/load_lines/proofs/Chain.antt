@@ -1,4 +1,4 @@
--- Readers one behind another, and repeated.
+-- Readers one after another, and repeated.
 use Rattle.std.proofs.Common.{◌≡◌, ℕ, ◌≤◌, length, length-append, arith, Bool, true, false, Option, Some, None, List, [], ◌∷◌, ◌++◌, append-nil, refl, sym, ◌∙◌, subst, ap}
 use Rattle.std.specs.Prelude.{Result, Ok, Err, IfErr, IsErrAnd}
 use Rattle.il_syntax.specs.declared.token.Token.{Token}
@@ -27,11 +27,11 @@ pub lift : {A B : Type 0} {P : List ℕ → A → Front} {Q : List ℕ → B →
     → ((back : List Token) → GoesOnNoMore P text ts back → GoesOnNoMore Q text us back) → Refuses P text ts e → Refuses Q text us e
 lift {text = text} {ts = ts} {us = us} end f bad = record { fault = λ is. let b = bad.fault is in (b.0, b.1, b.2, end_of_end b.1 ts us end b.3, f (turn b.0 text b.1) b.4) }
 
--- nothing of the rule stands at the front of these tokens
+-- nothing of the rule is at the front of these tokens
 abbrev pub Lacks : {A : Type 0} → (A → Front) → List Token → Type 0
 Lacks {A = A} P ts = (x : A) (rest : List Token) → P x ts rest → ⊥
 
--- What a rule lacks behind a gap, another lacks before it.
+-- What a rule lacks after a gap, another lacks before it.
 pub past : {A B : Type 0} {P : List ℕ → A → Front} {Q : List ℕ → B → Front} {text : List ℕ} {ts : List Token} {e : Stop} {gap : Gap} (is : IsGap gap)
     → ((other : List ℕ) (us back : List Token) → AreAlike text other back ts us → Lacks (P other) (gap us) → Lacks (Q other) us) → Refuses P text (gap ts) e → Refuses Q text ts e
 past {P = P} {text = text} {ts = ts} {gap = gap} is f bad = lift (is.ends ts) (λ back gone. record {
@@ -39,7 +39,7 @@ past {P = P} {text = text} {ts = ts} {gap = gap} is f bad = lift (is.ends ts) (�
   never = λ other us a. f other us back a (λ x r w. gone.never other (gap us) (is.alike text other back ts us a (end_length back (gap ts) gone.inside)) x r w);
 }) bad
 
--- What a rule lacks behind a part that stands there, another lacks before it.
+-- What a rule lacks after a part that is there, another lacks before it.
 pub past_part : {A B C : Type 0} {F : List ℕ → C → Front} {P : List ℕ → A → Front} {Q : List ℕ → B → Front} {text : List ℕ} {ts m : List Token} {c : C} {e : Stop} {gap : Gap} (is : IsGap gap) → IsLocal tight F → F text c ts m
     → ((other : List ℕ) (us back n : List Token) → AreAlike text other back ts us → F other c us n → Lacks (P other) (gap n) → Lacks (Q other) us) → Refuses P text (gap m) e → Refuses Q text ts e
 past_part {P = P} {text = text} {ts = ts} {m = m} {c = c} {gap = gap} is one here f bad = lift (end_of_end (gap m) m ts ((one.carries c).ends text ts m here) (is.ends m)) (λ back gone.
@@ -63,7 +63,7 @@ at_once {P = P} {text = text} {ts = ts} error same none here = record {
   fault = λ is. (error, ts, here, end_self ts, subst (λ (back : List Token). GoesOnNoMore P text ts back) (sym same) (record { inside = end_self ts; never = none }));
 }
 
--- A fault at the first token, by which it is told that no P stands there.
+-- A fault at the first token, by which it is told that no P is there.
 pub unmet : {A : Type 0} {P : List ℕ → A → Front} {text : List ℕ} {ts : List Token} {e : Stop} (error : SyntaxError) → turn error text ts ≡ ts → ((x : A) → IsTold (λ text. P text x))
     → ((x : A) (r : List Token) → P text x ts r → ⊥) → e ≡ fault_at error ts → Refuses P text ts e
 unmet {text = text} {ts = ts} error same told none here = at_once error same (λ other us a x r w. (told x).still text other ts ts us a (none x) r w) here
@@ -74,7 +74,7 @@ unmet_part {F = F} {text = text} {ts = ts} error same told none here =
     let bad = at_once {P = λ text (u : Unit {0}). F text} error same (λ other us a u r w. told.still text other ts ts us a none r w) here in
     record { fault = bad.fault }
 
--- the first part doesn't stand there
+-- the first part doesn't are there
 pub first : {A B : Type 0} {P : List ℕ → A → Front} {text : List ℕ} {ts : List Token} {e : Stop} (f : B → A) (gap : Gap) (Q : List ℕ → B → Front) → Refuses P text ts e
     → Refuses (λ text b. P text (f b) ⟨ gap ⟩ Q text b) text ts e
 first f gap Q bad = lift (end_self _) (λ back gone. record { inside = gone.inside; never = λ other us a b r w. gone.never other us a (f b) w.0 w.1 }) bad
@@ -92,17 +92,17 @@ later_goes {text = text} {ts = ts} {m = m} {x = x} {gap = gap} back f is Q fits 
       (subst (λ (j : List Token). Q other b (gap j) r) ((one.one other).only (f b) x us w.0 c.0 w.1 c.1).1 w.2);
 }
 
--- the first part stands there, and what has to follow doesn't
+-- the first part is there, and what has to follow doesn't
 pub later : {A B : Type 0} {P : List ℕ → A → Front} {text : List ℕ} {ts m : List Token} {x : A} {e : Stop} {gap : Gap} (f : B → A) (is : IsGap gap) (Q : List ℕ → B → Front) → IsLocal tight P → Reads (P text) ts x m
     → Refuses Q text (gap m) e → Refuses (λ text b. P text (f b) ⟨ gap ⟩ Q text b) text ts e
 later {text = text} {ts = ts} {m = m} {x = x} {gap = gap} f is Q one here bad = lift (end_of_end (gap m) m ts ((one.carries x).ends text ts m here.found) (is.ends m)) (λ back gone. later_goes back f is Q (gap_length is) one here.found gone) bad
 
--- the same, where the first part looks at the first token behind line ends
+-- the same, where the first part looks at the first token after line ends
 pub later_lines : {A B : Type 0} {P : List ℕ → A → Front} {text : List ℕ} {ts m : List Token} {x : A} {e : Stop} (f : B → A) (Q : List ℕ → B → Front) → IsLocal loose P → Reads (P text) ts x m
     → Refuses Q text (skip_line_ends m) e → Refuses (λ text b. P text (f b) ⋯ Q text b) text ts e
 later_lines {text = text} {ts = ts} {m = m} {x = x} f Q one here bad = lift (end_of_end (skip_line_ends m) m ts ((one.carries x).ends text ts m here.found) (loose_gap.ends m)) (λ back gone. later_goes back f loose_gap Q (λ k. omega arith) one here.found gone) bad
 
--- a part without a value doesn't stand there
+-- a part without a value doesn't are there
 pub first_missing : {B : Type 0} {F : List ℕ → Front} {text : List ℕ} {ts : List Token} {e : Stop} (gap : Gap) (Q : List ℕ → B → Front) → Misses F text ts e
     → Refuses (λ text b. F text ⟨ gap ⟩ Q text b) text ts e
 first_missing gap Q bad = lift (end_self _) (λ back gone. record { inside = gone.inside; never = λ other us a b r w. gone.never other us a tt w.0 w.1 }) (as_value bad)
@@ -111,12 +111,12 @@ first_missing gap Q bad = lift (end_self _) (λ back gone. record { inside = gon
 pub valued : {look : Gap} {F : List ℕ → Front} → IsLocalPart look F → IsLocal look (λ text (u : Unit {0}). F text)
 valued one = record { one = λ text. valueless (one.one text); carries = λ u. one.carries }
 
--- a part without a value stands there, and what has to follow doesn't
+-- a part without a value is there, and what has to follow doesn't
 pub behind : {B : Type 0} {F : List ℕ → Front} {text : List ℕ} {ts m : List Token} {e : Stop} {gap : Gap} (is : IsGap gap) (Q : List ℕ → B → Front) → IsLocalPart tight F → Stands (F text) ts m
     → Refuses Q text (gap m) e → Refuses (λ text b. F text ⟨ gap ⟩ Q text b) text ts e
 behind {text = text} {ts = ts} {m = m} {gap = gap} is Q one here bad = lift (end_of_end (gap m) m ts (one.carries.ends text ts m here.found) (is.ends m)) (λ back gone. later_goes back (λ b. tt) is Q (gap_length is) (valued one) here.found gone) bad
 
--- the last part, without a value, doesn't stand there
+-- the last part, without a value, doesn't are there
 pub last_missing : {B : Type 0} {F : List ℕ → Front} {text : List ℕ} {ts : List Token} {e : Stop} → Misses F text ts e → Refuses (λ text (b : B). F text) text ts e
 last_missing bad = lift (end_self _) (λ back gone. record { inside = gone.inside; never = λ other us a b r w. gone.never other us a tt r w }) (as_value bad)
 
@@ -139,7 +139,7 @@ pub regroup : {A : Type 0} (xs : List A) (x : A) (more : List A) → xs ++ (x �
 regroup [] x more = refl
 regroup (y ∷ xs) x more = ap (λ zs. y ∷ zs) (regroup xs x more)
 
--- What a loop has read: these, and what stands at the front is them and then what is left, in alike tokens too.
+-- What a loop has read: these, and what is at the front is them and then what is left, in alike tokens too.
 pub record HasRead {A : Type 0} (P : List ℕ → A → Front) (E : List ℕ → Front) (text : List ℕ) (start : List Token) (xs : List A) (ts : List Token) : Type 0 where
   pub inside : IsEndOf ts start
   pub whole : (more : List A) (r : List Token) → Repeats (P text) more (E text) ts r → Repeats (P text) (xs ++ more) (E text) start r
@@ -153,7 +153,7 @@ module _ {A : Type 0} (P : List ℕ → A → Front) (E : List ℕ → Front) (t
   pub starts : (ts : List Token) → HasRead P E text ts [] ts
   starts ts = record { inside = end_self ts; whole = λ more r w. w; left = λ other back us a l. (us, a, λ ys r w. (ys, refl, w)); gone = gone_starts ts }
 
-  -- where the end doesn't stand, one more has to
+  -- where the end doesn't are, one more has to
   pub one_more : (ts : List Token) → ((r : List Token) → E text ts r → ⊥) → (ys : List A) (r : List Token) → Repeats (P text) ys (E text) ts r
       → (y : A) × (more : List A) × (ys ≡ y ∷ more) × (m : List Token) × P text y ts m × Repeats (P text) more (E text) (skip_line_ends m) r
   one_more ts on [] r w = absurd (on r w)
@@ -197,12 +197,12 @@ module _ {A : Type 0} (P : List ℕ → A → Front) (E : List ℕ → Front) (t
   pub ended : (start : List Token) (xs : List A) (ts m : List Token) → HasRead P E text start xs ts → E text ts m → Reads (λ ys. Repeats (P text) ys (E text)) start xs m
   ended start xs ts m so_far w = record { found = subst (λ (ys : List A). Repeats (P text) ys (E text) start m) (append-nil xs) (so_far.whole [] m w) }
 
--- What a list goes on with behind one of its things: the end, or a comma and others.
+-- What a list goes on with after one of its things: the end, or a comma and others.
 abbrev pub Tail : {A : Type 0} → Gap → (A → Front) → Front → List A → Front
 Tail gap P E [] = E
 Tail gap P E (y ∷ ys) = TheSign Comma ⟨ gap ⟩ Listed gap P (y ∷ ys) E
 
--- What a loop over a list has read, and one more has to stand behind it, in alike tokens too.
+-- What a loop over a list has read, and one more has to follows it, in alike tokens too.
 pub record Wants {A : Type 0} (gap : Gap) (P : List ℕ → A → Front) (E : List ℕ → Front) (text : List ℕ) (start : List Token) (xs : List A) (ts : List Token) : Type 0 where
   pub inside : IsEndOf ts start
   pub whole : (y : A) (more : List A) (r : List Token) → Listed gap (P text) (y ∷ more) (E text) ts r → Listed gap (P text) (xs ++ y ∷ more) (E text) start r
@@ -222,13 +222,13 @@ module _ {A : Type 0} (gap : Gap) (P : A → Front) (E : Front) where
   split_first y [] ts r w = w
   split_first y (z ∷ zs) ts r w = w
 
-  -- behind a comma stand others
+  -- after a comma are others
   past_comma : ((r s : List Token) (ts : List Token) → E ts r → TheSign Comma ts s → ⊥) → (ts m : List Token) → TheSign Comma ts m → (more : List A) (r : List Token) → Tail gap P E more ts r
       → (y : A) × (ys : List A) × (more ≡ y ∷ ys) × (n : List Token) × TheSign Comma ts n × Listed gap P (y ∷ ys) E (gap n) r
   past_comma apart ts m comma [] r w = absurd (apart r m ts w comma)
   past_comma apart ts m comma (y ∷ ys) r w = (y, ys, refl, w.0, w.1, w.2)
 
-  -- no comma stands there
+  -- no comma is there
   no_comma : (ts : List Token) → ((s : List Token) → TheSign Comma ts s → ⊥) → (more : List A) (r : List Token) → Tail gap P E more ts r → E ts r
   no_comma ts none [] r w = w
   no_comma ts none (y ∷ ys) r w = absurd (none w.0 w.1)
@@ -243,7 +243,7 @@ module _ {A : Type 0} {gap : Gap} (is : IsGap gap) (P : List ℕ → A → Front
     gone = wanted_starts ts;
   }
 
-  -- one more, and a comma behind it
+  -- one more, and a comma after it
   pub list_goes_on : {look : Gap} {test : Test} → IsCutGap gap → Reaches gap look → IsFilling look test P → IsLocal tight P → ((other : List ℕ) (r s : List Token) (ts : List Token) → E other ts r → TheSign Comma ts s → ⊥)
       → (start : List Token) (xs : List A) (ts : List Token) (x : A) (m k : List Token)
       → Wants gap P E text start xs ts → Reads (P text) ts x m → TheSign Comma (gap m) k → Wants gap P E text start (xs ++ x ∷ []) (gap k)
@@ -278,7 +278,7 @@ module _ {A : Type 0} {gap : Gap} (is : IsGap gap) (P : List ℕ → A → Front
             );
       }
 
-  -- one that doesn't stand there
+  -- one that doesn't are there
   pub list_item_refused : (start : List Token) (xs : List A) (ts : List Token) (e : Stop) → Wants gap P E text start xs ts → Refuses P text ts e → Refuses (λ text ys. Listed gap (P text) ys (E text)) text start e
   list_item_refused start xs ts e so_far bad = lift so_far.inside (λ back gone. record {
     inside = end_of_end back ts start so_far.inside gone.inside;
@@ -289,7 +289,7 @@ module _ {A : Type 0} {gap : Gap} (is : IsGap gap) (P : List ℕ → A → Front
         gone.never other so.0 so.1 h.0 s.0 s.1;
   }) bad
 
-  -- the last one, and no end behind it
+  -- the last one, and no end after it
   pub list_end_refused : IsLocal tight P → (start : List Token) (xs : List A) (ts : List Token) (x : A) (m : List Token) (e : Stop)
       → Wants gap P E text start xs ts → Reads (P text) ts x m → ((s : List Token) → TheSign Comma (gap m) s → ⊥) → Misses E text (gap m) e → Refuses (λ text ys. Listed gap (P text) ys (E text)) text start e
   list_end_refused one start xs ts x m e so_far here none bad =
@@ -316,17 +316,17 @@ module _ {A : Type 0} {gap : Gap} (is : IsGap gap) (P : List ℕ → A → Front
       → Wants gap P E text start xs ts → Reads (P text) ts x m → Stands (E text) (gap m) r → Reads (λ ys. Listed gap (P text) ys (E text)) start (xs ++ x ∷ []) r
   list_ended start xs ts x m r so_far here end = record { found = so_far.whole x [] r (m, here.found, end.found) }
 
--- what was taken stood there
+-- what was taken was there
 pub was_there : (F : Front) (ts : List Token) (b : Bool) (rest : List Token) → Eats F ts b rest → b ≡ true → F ts rest
 was_there F ts true rest h e = h
 was_there F ts false rest h e = absurd cc
 
--- what wasn't taken didn't stand there
+-- what wasn't taken didn't are there
 pub was_missing : (F : Front) (ts : List Token) (b : Bool) (rest : List Token) → Eats F ts b rest → b ≡ false → (rest ≡ ts) × ((other : List Token) → F ts other → ⊥)
 was_missing F ts true rest h e = absurd cc
 was_missing F ts false rest h e = h
 
--- a thing at its place, which doesn't stand there
+-- a thing at its place, which doesn't are there
 pub at_refused : {A B : Type 0} {P : List ℕ → A → Front} {text : List ℕ} {ts : List Token} {e : Stop} (place : B → Place) (f : B → A) → Refuses P text ts e
     → Refuses (λ text b. At (place b) (P text (f b))) text ts e
 at_refused {P = P} place f bad = lift (end_self _) (λ back gone. record {
@@ -334,13 +334,13 @@ at_refused {P = P} place f bad = lift (end_self _) (λ back gone. record {
   never = λ other us a b r w. gone.never other us a (f b) r (at_holds [] (P other (f b)) (place b) us r w);
 }) bad
 
--- a thing at its place stands there, and what has to follow doesn't
+-- a thing at its place is there, and what has to follow doesn't
 pub at_later : {A B : Type 0} {P : List ℕ → A → Front} {text : List ℕ} {ts m : List Token} {x : A} {e : Stop} {gap : Gap} (place : B → Place) (f : B → A) (is : IsGap gap) (Q : List ℕ → B → Front) → IsLocal tight P
     → Reads (P text) ts x m → Refuses Q text (gap m) e → Refuses (λ text b. At (place b) (P text (f b)) ⟨ gap ⟩ Q text b) text ts e
 at_later {P = P} {x = x} {gap = gap} place f is Q one here bad = past_part is one here.found (λ other us back n a there gone b r w.
     gone b r (subst (λ (j : List Token). Q other b (gap j) r) ((one.one other).only (f b) x us w.0 n (at_holds [] (P other (f b)) (place b) us w.0 w.1) there).1 w.2)) bad
 
--- nothing stands at a place where the text ends
+-- nothing is at a place where the text ends
 pub at_end : {B : Type 0} (P : List ℕ → B → Front) {text : List ℕ} {ts : List Token} {e : Stop} (place : B → Place) → ts ≡ [] → e ≡ fault_at Unexpected ts
     → Refuses (λ text b. At (place b) (P text b)) text ts e
 at_end {B = B} P {text = text} {ts = ts} place none here = at_once Unexpected refl (λ other us a b r w. go ts us other a none b r w) here

@@ -112,7 +112,7 @@ placed_read {A = A} {P = P} {text = text} {ts = ts} {m = m} {x = x} fill here = 
 pub placed_sampled : {A : Type 0} {P : List ℕ → A → Front} {look : Gap} {asked test : Test} {ss : List Sample} → IsFilling look asked P → IsSampled test P ss → IsSampled test (λ text (y : Place × A). At y.0 (P text y.1)) ss
 placed_sampled fill p = at_sampled (λ x. (fill.one x).takes) p
 
--- a rule behind any number of line ends
+-- a rule after any number of line ends
 pub lines_break : {A : Type 0} {P : List ℕ → A → Front} {test : Test} {zs : List Sample} {text : List ℕ} {ts : List Token} {e : Stop} → IsSampled test P zs → is_solid zs ≡ true → BreaksOff test P text (skip_line_ends ts) e
     → BreaksOff test (λ text x. AfterLines (P text x)) text ts e
 lines_break q solid bad = as_breaks (λ at b. begins_lines q solid b) bad
@@ -177,7 +177,7 @@ pub reference_takes : (g : GapKind) (x : Reference) → Takes tight (λ text. Sp
 reference_takes gap.Tight x = (reference_fills x).takes
 reference_takes gap.Loose x = (loose_reference_fills x).takes
 
--- a name, and what stands behind it
+-- a name, and what follows it
 pub selected_is : (g : GapKind) (x : List ℕ × Selector) (other : List ℕ) (us r : List Token) → (AName other x.0 ⟨ gap_of g ⟩ SpellsSelector other (gap_of g) x.1) us r → SpellsSelected other (gap_of g) (reference_of x.0 x.1) us r
 selected_is g (n, selector.Whole) other us r w = (tt, w)
 selected_is g (n, selector.Element i) other us r w = (tt, w)
@@ -191,7 +191,7 @@ argument_is (n, passed.Output t) other us r w = w
 pub any_passed_sampled : {test : Test} → IsSampled test (λ text. SpellsPassed text) (sign_sample Assign ∷ true_sample ∷ [])
 any_passed_sampled = any_sampled (map_sampled passed.Input (λ x other us r w. w) passed_sampled)
 
--- what stands behind an operator, and an instruction
+-- what follows an operator, and an instruction
 pub work_sampled : (room : Bool) (op : Operator) → IsSampled always (λ text. SpellsWorkOf op text room Even) (true_sample ∷ line_end_sample ∷ [])
 work_sampled room op = map_sampled (λ (o : Operand). instruction.Operate op o) (λ x other us r w. (refl, (refl, w))) operand_line_sampled
 
@@ -205,7 +205,7 @@ as_effect effect bad = record { fault = λ is. let b = bad.fault is in (Unexpect
 pub roomy_first : {text : List ℕ} {ts : List Token} {e : Stop} (room : Bool) → NamesFirst ts e → BreaksOffAs SpellsRoomyOf room text ts e
 roomy_first room bad = as_effect Even (at_first (roomy_sampled room) bad)
 
--- what stands behind an operator breaks off at a parenthesis that opens: with it goes on what does not count the parentheses
+-- what follows an operator breaks off at a parenthesis that opens: with it goes on what does not count the parentheses
 pub deep_breaks : {text : List ℕ} {e : Stop} {room : Bool} (op : Operator) (ts m : List Token) → TheSign OpenParenthesis ts m → e ≡ fault_at TooDeep ts → BreaksOffAs (SpellsWorkOf op) room text ts e
 deep_breaks op [] m here same = absurd here
 deep_breaks {text = text} {room = room} op (t ∷ ts) m here same = record { fault = λ is. (TooDeep, t ∷ ts, same, Even, begins_here (work_sampled room op) text (t ∷ ts), (t, ts, refl, (refl, Opening false, behind))) }
@@ -226,7 +226,7 @@ pub up_so : {X : Type 0} (B : Stop → Type 0) {e : Stop} (r : Result X Stop) �
 up_so B (Err y) same bad = subst B (sym same) bad
 up_so B (Ok x) same bad = tt
 
--- an operator stands there, and what follows breaks off
+-- an operator is there, and what follows breaks off
 pub operator_breaks : {text : List ℕ} {ts m : List Token} {e : Stop} (room : Bool) (op : Operator) → SpellsOperator text op ts m → BreaksOffAs (SpellsWorkOf op) room text m e → BreaksOffAs SpellsRoomyOf room text ts e
 operator_breaks {text = text} {ts = ts} {m = m} room op here bad = record {
   fault = λ is.

@@ -10,7 +10,7 @@ pub grouped_more : (test : ℕ → Bool) (inside : Bool) (xs : List ℕ) (i : �
 unfolding is_grouped_after
 grouped_more test inside xs i h = rw (drop_more xs i 0 h) refl
 
--- at the end a group is whole if something stands before
+-- at the end a group is whole if something comes before
 pub grouped_end : (test : ℕ → Bool) (inside : Bool) (xs : List ℕ) (i : ℕ) → length xs < i + 1 → is_grouped_after test inside (drop i xs) ≡ inside
 unfolding is_grouped_after
 grouped_end test inside xs i h = rw (drop_all i xs (omega arith)) refl

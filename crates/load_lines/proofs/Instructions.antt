@@ -52,7 +52,7 @@ plain (first.Typed v) = typed
 plain (first.Sign s) = sign s
 plain first.LineEnd = line_end
 
--- behind one token
+-- after one token
 pub behind_one : (P : Token → Type 0) (ts m : List Token) → One P ts m → m ≡ drop 1 ts
 behind_one P [] m p = absurd p
 behind_one P (t ∷ ts) m p = sym p.1
@@ -75,14 +75,14 @@ module _ (text : List ℕ) where
   pub sorted : (l : Lead) (ts : List Token) → lead_at text ts ≡ l → sort_at (lead text ts) ≡ sort_at (plain l)
   sorted l ts e = ap sort_at (same_lead ts ∙ ap plain e)
 
-  -- what stands behind the first token
+  -- what follows the first token
   moved : (P : Token → Type 0) (Q : Front) (ts r : List Token) → (One P ⨾ Q) ts r → Q (drop 1 ts) r
   moved P Q ts r w = subst (λ (x : List Token). Q x r) (behind_one P ts w.0 w.1) w.2
 
   word_moved : (k : Keyword) (Q : Front) (ts r : List Token) → (TheWord text k ⨾ Q) ts r → Q (drop 1 ts) r
   word_moved k Q ts r w = moved _ Q ts r w
 
-  -- an instruction of this sort, whose part behind its first token doesn't stand there
+  -- an instruction of this sort, whose part after its first token doesn't are there
   sort_refused : {B : Type 0} (room : Bool) (l : Lead) (Q : B → Front) (ts : List Token) → lead_at text ts ≡ l
       → ((i : Instruction) (r : List Token) → sort_of i ≡ sort_at (plain l) → SpellsInstruction text i ts r → (b : B) × Q b (drop 1 ts) r)
       → Lacks Q (drop 1 ts) → Lacks (SpellsRoomy text room) ts
@@ -137,7 +137,7 @@ module _ (text : List ℕ) where
       back instruction.Evaluate r s w = (tt, moved _ TheLineEnd ts r w)
       back i r s w = absurd cc
 
-  -- the operator stands there, and what has to follow doesn't
+  -- the operator is there, and what has to follow doesn't
   work_refused_lacks : (room : Bool) (op : Operator) (ts m : List Token) → SpellsOperator text op ts m → Lacks (SpellsWork text room op) m → Lacks (SpellsRoomy text room) ts
   work_refused_lacks room op ts m here bad = go
     where
@@ -162,7 +162,7 @@ module _ (text : List ℕ) where
       go (instruction.Defer o x) w = (w.1, (m, there o w.0, w.2))
       go i w = absurd w
 
-  -- `&`, and the N behind it
+  -- `&`, and the N after it
   pub ampersand_there : (t : Token) (ts us m : List Token) (b : Bool) → ts ≡ t ∷ us → lead_at text ts ≡ first.Sign Ampersand → Eats (TheLetterN text t.end) (drop 1 ts) b m
       → SpellsOperator text (operator.Logic Conjunction b) ts m
   unfolding lead_at
@@ -174,7 +174,7 @@ module _ (text : List ℕ) where
       let same : u ≡ t = cc in
       inr (sign_is u.kind _ Ampersand l, (sym n.0, subst (λ (x : Token). (other : List Token) → TheLetterN text x.end vs other → ⊥) (sym same) n.1))
 
-  -- a function whose name doesn't stand there
+  -- a function whose name doesn't are there
   function_refused_lacks : (room : Bool) (ts : List Token) → lead_at text ts ≡ first.Name → Lacks (TheName text) ts → Lacks (SpellsRoomy text room) ts
   function_refused_lacks room ts l bad = go
     where
@@ -227,11 +227,11 @@ module _ (text : List ℕ) where
       go [] r (inr p) = missing p.0 p.1
       go (x ∷ xs) r w = missing w.0 w.1
 
-  -- behind the parenthesis that opens
+  -- after the parenthesis that opens
   opened : (Q : Front) (ts m r : List Token) → TheSign OpenParenthesis ts m → (TheSign OpenParenthesis ⋯ Q) ts r → Q (skip_line_ends m) r
   opened Q ts m r there w = subst (λ (k : List Token). Q (skip_line_ends k) r) ((sign_sure OpenParenthesis).only ts w.0 m w.1 there) w.2
 
-  -- a parenthesis opens, and nothing that may follow it stands there
+  -- a parenthesis opens, and nothing that may follow it is there
   opened_refused_lacks : (ts m : List Token) → TheSign OpenParenthesis ts m → Lacks (SpellsOpened text) (skip_line_ends m) → Lacks (SpellsArguments text) ts
   opened_refused_lacks ts m there bad = go
     where
@@ -261,7 +261,7 @@ module _ (text : List ℕ) where
       go [] r w = missing w.0 w.1
       go (x ∷ xs) r w = bad (x ∷ xs) w.0 w.1
 
-  -- arguments stand there, and the line doesn't end
+  -- arguments are there, and the line doesn't end
   unended_refused_lacks : (ts k : List Token) (ys : List Argument) → ((k : List Token) → TheSign CloseParenthesis ts k → ⊥) → Reads (SpellsInside text) ts ys k → Lacks (λ (u : Unit {0}). TheLineEnd) k → Lacks (SpellsOpened text) ts
   unended_refused_lacks ts k ys missing here bad = go
     where
@@ -284,7 +284,7 @@ module _ (text : List ℕ) where
       go (instruction.Load negated operand) s = cc
       go i s = cc
 
--- behind one token
+-- after one token
 pub next_gap : IsGap (λ ts. drop 1 ts)
 next_gap = record { ends = ends; alike = go }
   where
@@ -300,21 +300,21 @@ next_gap = record { ends = ends; alike = go }
         behind (inl e) = let same = ap length e in absurd (omega (arith, same, l))
         behind (inr b) = b
 
--- arguments behind the parenthesis that opens
+-- arguments after the parenthesis that opens
 inside_local : IsLocal tight SpellsInside
 inside_local = record { one = λ text. inside_one text; carries = inside_carries }
 
 module _ (text : List ℕ) where
-  -- what stands behind the first token is refused
+  -- what follows the first token is refused
   behind_word : {A : Type 0} {P : List ℕ → A → Front} (room : Bool) (ts : List Token) (e : Stop) → ((other : List ℕ) (us : List Token) → lead_at other us ≡ lead_at text ts → Lacks (P other) (drop 1 us) → Lacks (SpellsRoomy other room) us)
       → Refuses P text (drop 1 ts) e → Refuses (λ text. SpellsRoomy text room) text ts e
   behind_word room ts e f bad = past next_gap (λ other us back a gone. f other us (lead_alike text other back ts us a) gone) bad
 
-  -- what stands behind the word of an elementary type
+  -- what follows the word of an elementary type
   pub scalar_refused : (ts : List Token) (e : Stop) → Refuses SpellsSubrange text (drop 1 ts) e → Refuses SpellsScalar text ts e
   scalar_refused ts e bad = past next_gap (λ other us back a gone s r w. gone s.subrange r (word_moved other (word.Elementary s.elementary) (SpellsSubrange other s.subrange) us r w)) bad
 
-  -- a parenthesis opens behind any line ends, and what follows are no limits
+  -- a parenthesis opens after any line ends, and what follows are no limits
   pub subrange_refused : (ts k : List Token) (e : Stop) → TheSign OpenParenthesis (skip_line_ends ts) k
       → Refuses (λ text (s : Subrange). TheSign OpenParenthesis ⋯ ANumber s.lower ⋯ TheSign Range ⋯ ANumber s.upper ⋯ TheSign CloseParenthesis) text (skip_line_ends ts) e → Refuses SpellsSubrange text ts e
   subrange_refused ts k e there bad = lift (loose_gap.ends ts) (λ back gone. record {
@@ -351,11 +351,11 @@ module _ (text : List ℕ) where
   pub evaluate_refused : (room : Bool) (ts : List Token) (e : Stop) → lead_at text ts ≡ first.Sign CloseParenthesis → Misses (λ text. TheLineEnd) text (drop 1 ts) e → Refuses (λ text. SpellsRoomy text room) text ts e
   evaluate_refused room ts e l bad = behind_word room ts e (λ other us same gone. evaluate_refused_lacks other room us (same ∙ l) gone) (as_value bad)
 
-  -- the operator stands there, and what has to follow doesn't
+  -- the operator is there, and what has to follow doesn't
   pub work_refused : (room : Bool) (op : Operator) (ts m : List Token) (e : Stop) → SpellsOperator text op ts m → Refuses (λ text. SpellsWork text room op) text m e → Refuses (λ text. SpellsRoomy text room) text ts e
   work_refused room op ts m e here bad = past_part tight_gap operator_local here (λ other us back n a there gone. work_refused_lacks other room op us n there gone) bad
 
-  -- a function whose name doesn't stand there
+  -- a function whose name doesn't are there
   pub function_refused : (room : Bool) (ts : List Token) (e : Stop) → lead_at text ts ≡ first.Name → Refuses TheName text ts e → Refuses (λ text. SpellsRoomy text room) text ts e
   function_refused room ts e l bad = past tight_gap (λ other us back a gone. function_refused_lacks other room us (lead_alike text other back ts us a ∙ l) gone) bad
 
@@ -371,7 +371,7 @@ module _ (text : List ℕ) where
   pub none_opens : (ts : List Token) (e : Stop) → ((m : List Token) → TheSign OpenParenthesis ts m → ⊥) → Misses (λ text. TheLineEnd) text ts e → Refuses SpellsArguments text ts e
   none_opens ts e missing bad = past tight_gap (λ other us back a gone. none_opens_lacks other us (λ m w. (sign_told OpenParenthesis).still text other back ts us a missing m w) gone) (as_value bad)
 
-  -- a parenthesis opens, and nothing that may follow it stands there
+  -- a parenthesis opens, and nothing that may follow it is there
   pub opened_refused : (ts m : List Token) (e : Stop) → TheSign OpenParenthesis ts m → Refuses SpellsOpened text (skip_line_ends m) e → Refuses SpellsArguments text ts e
   opened_refused ts m e there bad = past_part loose_gap (valued (sign_local OpenParenthesis)) there (λ other us back n a here gone. opened_refused_lacks other us n here gone) bad
 
@@ -383,7 +383,7 @@ module _ (text : List ℕ) where
   pub inside_refused : (ts : List Token) (e : Stop) → ((k : List Token) → TheSign CloseParenthesis ts k → ⊥) → Refuses SpellsInside text ts e → Refuses SpellsOpened text ts e
   inside_refused ts e missing bad = past tight_gap (λ other us back a gone. inside_refused_lacks other us (λ m w. (sign_told CloseParenthesis).still text other back ts us a missing m w) gone) bad
 
-  -- arguments stand there, and the line doesn't end
+  -- arguments are there, and the line doesn't end
   pub unended_refused : (ts k : List Token) (ys : List Argument) (e : Stop) → ((k : List Token) → TheSign CloseParenthesis ts k → ⊥) → Reads (SpellsInside text) ts ys k → Misses (λ text. TheLineEnd) text k e → Refuses SpellsOpened text ts e
   unended_refused ts k ys e missing here bad =
       past_part tight_gap inside_local here.found (λ other us back n a there gone.

@@ -171,7 +171,7 @@ module _ (text : List ℕ) where
   named_word n [] r w = w
   named_word n (t ∷ ts) r w = ((w.0.0, w.0.1), w.1)
 
--- no word stands there, and so no name
+-- no word is there, and so no name
 pub name_refused : (text : List ℕ) (ts : List Token) (e : Stop) → Refuses AWord text ts e → Refuses AName text ts e
 name_refused text ts e bad = lift (end_self _) (λ back gone. record { inside = gone.inside; never = λ other us a n r w. gone.never other us a n r (named_word other n us r w) }) bad
 
@@ -181,7 +181,7 @@ unfolding lead_at
 lead_alike text other back [] us a = ap (lead_at other) a.1
 lead_alike text other back (t ∷ ts) us a = ap (lead_at other) a.1 ∙ ap (λ w. lead_of t.kind (keyword_of w)) (sym (same_name text other t a.2))
 
--- A fault at the first token, which says by what it begins with that no P stands there.
+-- A fault at the first token, which says by what it begins with that no P is there.
 pub by_lead : {A : Type 0} {P : List ℕ → A → Front} {text : List ℕ} {ts : List Token} {e : Stop} (error : SyntaxError) → turn error text ts ≡ ts
     → ((other : List ℕ) (us : List Token) → lead_at other us ≡ lead_at text ts → (x : A) (r : List Token) → P other x us r → ⊥) → e ≡ fault_at error ts → Refuses P text ts e
 by_lead {text = text} {ts = ts} error same none here = at_once error same (λ other us a x r w. none other us (lead_alike text other ts ts us a) x r w) here

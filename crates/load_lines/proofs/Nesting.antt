@@ -5,7 +5,7 @@ use Rattle.il_syntax.specs.declared.tree.Step.{Step}
 use Rattle.il_syntax.specs.Grammar.{may_stand, needs_load, depth_after, is_nested, greatest_depth}
 use Rattle.load_lines.proofs.Chain.{regroup}
 
--- What a loop knows behind these instructions: how many parentheses are open, whether a load has to follow, and how many were open at most.
+-- What a loop knows after these instructions: how many parentheses are open, whether a load has to follow, and how many were open at most.
 pub record IsOpen (xs : List Step) (depth : ℕ) (load : Bool) (most : ℕ) : Type 0 where
   pub nested : (more : List Step) → is_nested 0 false (xs ++ more) ≡ is_nested depth load more
   pub deep : (more : List Step) → greatest_depth 0 (xs ++ more) ≡ max most (greatest_depth depth more)
@@ -18,7 +18,7 @@ max_three a b c = omega arith
 pub none_open : IsOpen [] 0 false 0
 none_open = record { nested = λ more. refl; deep = λ more. omega arith }
 
--- an instruction that may stand there
+-- an instruction that may be there
 pub one_open : (xs : List Step) (depth : ℕ) (load : Bool) (most : ℕ) (x : Step) → IsOpen xs depth load most → may_stand depth load x ≡ true
     → IsOpen (xs ++ x ∷ []) (depth_after depth x.instruction) (needs_load x.instruction) (max most depth)
 one_open xs depth load most x here may = record {

@@ -17,7 +17,7 @@ use Rattle.load_lines.specs.declared.operand.Passed.TheVariants as passed
 abbrev pub SpellsElement : List ℕ → Gap → Index → Front
 SpellsElement text gap i = SpellsIndex text i ⟨ gap ⟩ TheSign CloseBracket
 
--- what stands behind the name of a variable
+-- what follows the name of a variable
 abbrev pub SpellsSelector : List ℕ → Gap → Selector → Front
 SpellsSelector text gap selector.Whole = No (TheSign OpenBracket) ⨾ No (TheSign Dot)
 SpellsSelector text gap (selector.Element i) = TheSign OpenBracket ⟨ gap ⟩ SpellsElement text gap i

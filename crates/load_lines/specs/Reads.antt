@@ -52,23 +52,23 @@ fault_at error (t ∷ ts) = stop.Fault error (Some (record { offset = t.start; l
 abbrev pub Shortens : {A E X : Type 0} → List X → List X → Result A E → Type 0
 Shortens old new result = IfOk result (λ _. length new < length old)
 
--- This stands at the front of the tokens, and then the rest.
+-- This is at the front of the tokens, and then the rest.
 pub record Reads {A : Type 0} (P : A → Front) (ts : List Token) (x : A) (rest : List Token) : Type 0 where
   pub found : P x ts rest
 
--- With the first token of `back` no P goes on, nor where `back` is empty with the end: no P stands at the front of these tokens,
+-- With the first token of `back` no P goes on, nor where `back` is empty with the end: no P is at the front of these tokens,
 -- nor of tokens of any text that are alike up to it.
 pub record GoesOnNoMore {A : Type 0} (P : List ℕ → A → Front) (text : List ℕ) (ts back : List Token) : Type 0 where
   pub inside : IsEndOf back ts
   pub never : (other : List ℕ) (us : List Token) → AreAlike text other back ts us → (x : A) (rest : List Token) → P other x us rest → ⊥
 
--- the tokens behind a name
+-- the tokens after a name
 abbrev pub past_name : Lead → List Token → List Token
 past_name lead.Name ts = drop 1 ts
 past_name _ ts = ts
 
 -- The token with which nothing goes on, where a fault names the first of these: that one. Only where an instruction too many
--- begins with a name, it is the one behind: it tells whether the name is a label.
+-- begins with a name, it is the one after: it tells whether the name is a label.
 abbrev pub turn : SyntaxError → List ℕ → List Token → List Token
 turn Unexpected text ts = ts
 turn TooDeep text ts = ts
@@ -78,13 +78,13 @@ turn TooMany text ts = past_name (lead_at text ts) ts
 pub record Refuses {A : Type 0} (P : List ℕ → A → Front) (text : List ℕ) (ts : List Token) (e : Stop) : Type 0 where
   pub fault : IsFault e → (error : SyntaxError) × (at : List Token) × (e ≡ fault_at error at) × IsEndOf at ts × GoesOnNoMore P text ts (turn error text at)
 
--- What holds of the token of a fault and of those behind it, where only a limit forbids it: such a fault has a token, and stands at no end of a text.
+-- What holds of the token of a fault and of those after it, where only a limit forbids it: such a fault has a token, and is at no end of a text.
 abbrev pub Further : (SyntaxError → Token → List Token → Type 0) → SyntaxError → List Token → Type 0
 Further B Unexpected at = ⊤
 Further B TooDeep at = (t : Token) × (back : List Token) × (at ≡ t ∷ back) × B TooDeep t back
 Further B TooMany at = (t : Token) × (back : List Token) × (at ≡ t ∷ back) × B TooMany t back
 
--- A fault, of an unexpected token, stands where the tokens before its place are the beginning of a P, which others complete if what stands behind these
+-- A fault, of an unexpected token, is where the tokens before its place are the beginning of a P, which others complete if what follows these
 -- passes the test.
 pub record BreaksOff {A : Type 0} (test : Test) (P : List ℕ → A → Front) (text : List ℕ) (ts : List Token) (e : Stop) : Type 0 where
   pub fault : IsFault e → (at : List Token) × (e ≡ fault_at Unexpected at) × Begins test P text ts at
@@ -102,7 +102,7 @@ error_of stop.Memory = Unexpected
 abbrev pub RefusesBy : {A : Type 0} → (SyntaxError → List ℕ → A → Front) → List ℕ → List Token → Stop → Type 0
 RefusesBy P text ts e = Refuses (P (error_of e)) text ts e
 
--- A rule without a value stands there.
+-- A rule without a value is there.
 pub record Stands (F : Front) (ts rest : List Token) : Type 0 where
   pub found : F ts rest
 
@@ -110,7 +110,7 @@ pub record Stands (F : Front) (ts rest : List Token) : Type 0 where
 pub record Misses (F : List ℕ → Front) (text : List ℕ) (ts : List Token) (e : Stop) : Type 0 where
   pub fault : IsFault e → (error : SyntaxError) × (at : List Token) × (e ≡ fault_at error at) × IsEndOf at ts × GoesOnNoMore (λ text (u : Unit {0}). F text) text ts (turn error text at)
 
--- Whether this stands at the front: it is taken, or it doesn't stand there and nothing is.
+-- Whether this is at the front: it is taken, or it doesn't are there and nothing is.
 abbrev pub Eats : Front → List Token → Bool → List Token → Type 0
 Eats F ts true rest = F ts rest
 Eats F ts false rest = (rest ≡ ts) × ((other : List Token) → F ts other → ⊥)
@@ -119,7 +119,7 @@ Eats F ts false rest = (rest ≡ ts) × ((other : List Token) → F ts other →
 abbrev pub SpellsRange : Subrange → Front
 SpellsRange s = ANumber s.lower ⋯ TheSign Range ⋯ ANumber s.upper
 
--- what stands behind the bounds of an array: its bracket, OF and the type of its elements
+-- what follows the bounds of an array: its bracket, OF and the type of its elements
 abbrev pub SpellsElementType : List ℕ → Scalar → Front
 SpellsElementType text s = TheSign CloseBracket ⋯ TheWord text word.Of ⋯ SpellsScalar text s
 
@@ -135,7 +135,7 @@ SpellsTyped text x = SpellsType text x.0 ⋯ SpellsInitial text x.1
 abbrev pub SpellsArray : List ℕ → Subrange × Scalar → Front
 SpellsArray text a = SpellsForm text (form.Array a.0 a.1)
 
--- whether this comes next, behind any line ends
+-- whether this comes next, after any line ends
 abbrev pub Comes : Front → List Token → Bool → Type 0
 Comes F ts true = (rest : List Token) × F (skip_line_ends ts) rest
 Comes F ts false = (rest : List Token) → F (skip_line_ends ts) rest → ⊥
@@ -145,7 +145,7 @@ abbrev pub IsPlaceOf : Place → List Token → Type 0
 IsPlaceOf place [] = ⊥
 IsPlaceOf place (t ∷ ts) = (t.start ≡ place.offset) × (t.line ≡ place.line)
 
--- what may stand between two symbols
+-- what may be between two symbols
 abbrev pub gap_of : GapKind → Gap
 gap_of gap.Tight = tight
 gap_of gap.Loose = loose
@@ -159,7 +159,7 @@ test_of gap.Loose = settled
 abbrev pub SpellsLine : List ℕ → Operand → Front
 SpellsLine text o = SpellsOperand text tight o ⨾ TheLineEnd
 
--- what stands behind an operator; a parenthesis opens only where there is room
+-- what follows an operator; a parenthesis opens only where there is room
 abbrev pub SpellsWork : List ℕ → Bool → Operator → Instruction → Front
 SpellsWork text room op (instruction.Operate o operand) ts rest = (o ≡ op) × SpellsLine text operand ts rest
 SpellsWork text room op (instruction.Defer o first) ts rest = (o ≡ op) × IsTrue room × (TheSign OpenParenthesis ⨾ SpellsFirst text first) ts rest
@@ -180,7 +180,7 @@ room_by Unexpected room = true
 room_by TooDeep room = room
 room_by TooMany room = true
 
--- what stands behind an operator, in the room that a fault is about
+-- what follows an operator, in the room that a fault is about
 abbrev pub SpellsWorkBy : Bool → Operator → SyntaxError → List ℕ → Instruction → Front
 SpellsWorkBy room op error text = SpellsWork text (room_by error room) op
 
@@ -200,11 +200,11 @@ SpellsNameLine text n = TheName text n ⨾ TheLineEnd
 abbrev pub SpellsCalled : List ℕ → Named × List Argument → Front
 SpellsCalled text x = TheName text x.0 ⨾ SpellsArguments text x.1
 
--- arguments with commas between them, behind the parenthesis that opens
+-- arguments with commas between them, after the parenthesis that opens
 abbrev pub SpellsInside : List ℕ → List Argument → Front
 SpellsInside text xs = Listed loose (SpellsArgument text) xs (TheSign CloseParenthesis)
 
--- what stands behind the parenthesis that opens: arguments, which may be none, the one that closes, and the end of the line
+-- what follows the parenthesis that opens: arguments, which may be none, the one that closes, and the end of the line
 abbrev pub SpellsOpened : List ℕ → List Argument → Front
 SpellsOpened text [] = TheSign CloseParenthesis ⨾ TheLineEnd
 SpellsOpened text (x ∷ xs) = SpellsInside text (x ∷ xs) ⨾ TheLineEnd
@@ -217,7 +217,7 @@ SpellsListed text xs = Listed tight (SpellsOperand text tight) xs TheLineEnd
 abbrev pub AnyNamed : List ℕ → Named → Front
 AnyNamed text n = At n.place (AWord text n.name)
 
--- what an instruction does to parentheses: nothing, it opens one, behind which a load may have to follow, or it closes one
+-- what an instruction does to parentheses: nothing, it opens one, after which a load may have to follow, or it closes one
 pub data Effect : Type 0 where
   Even : Effect
   Opening : (load : Bool) → Effect
@@ -229,7 +229,7 @@ effect_of (instruction.Defer op (Some first)) = Opening false
 effect_of instruction.Evaluate = Closing
 effect_of _ = Even
 
--- what stands behind an operator, of this effect
+-- what follows an operator, of this effect
 abbrev pub SpellsWorkOf : Operator → List ℕ → Bool → Effect → Instruction → Front
 SpellsWorkOf op text room effect i ts rest = (effect_of i ≡ effect) × SpellsWork text room op i ts rest
 
@@ -237,7 +237,7 @@ SpellsWorkOf op text room effect i ts rest = (effect_of i ≡ effect) × SpellsW
 abbrev pub SpellsRoomyOf : List ℕ → Bool → Effect → Instruction → Front
 SpellsRoomyOf text room effect i ts rest = (effect_of i ≡ effect) × SpellsRoomy text room i ts rest
 
--- A fault stands where the tokens before its place are the beginning of a P of one effect, in the room that there is, whatever completes it. Where only a
+-- A fault is where the tokens before its place are the beginning of a P of one effect, in the room that there is, whatever completes it. Where only a
 -- limit forbids its token, which is a parenthesis too deep, those with it are the beginning of a P of one effect too, where there is room.
 pub record BreaksOffAs {A : Type 0} (P : List ℕ → Bool → Effect → A → Front) (room : Bool) (text : List ℕ) (ts : List Token) (e : Stop) : Type 0 where
   pub fault : IsFault e → (error : SyntaxError) × (at : List Token) × (e ≡ fault_at error at) × (effect : Effect) × Begins always (λ text. P text room effect) text ts at

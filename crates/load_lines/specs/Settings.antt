@@ -27,17 +27,17 @@ PlacedDecimal text s = At s.place (ADecimal text s.value) ⋯ TheSign Semicolon
 abbrev pub SpellsSized : List ℕ → Size → Front
 SpellsSized text s = TheWord text (word.Elementary Int) ⋯ TheSign Assign ⋯ PlacedDecimal text s
 
--- whether a colon stands behind the first token
+-- whether a colon follows the first token
 abbrev pub FollowsColon : List Token → Bool → Type 0
 FollowsColon ts true = (rest : List Token) × TheSign Colon (drop 1 ts) rest
 FollowsColon ts false = (rest : List Token) → TheSign Colon (drop 1 ts) rest → ⊥
 
--- a label that is taken, or none that stands there
+-- a label that is taken, or none that is there
 abbrev pub TakesLabel : List ℕ → List Token → Option Named → List Token → Type 0
 TakesLabel text ts (Some n) rest = SpellsLabel text n ts rest
 TakesLabel text ts None rest = (rest ≡ ts) × ((n : Named) (other : List Token) → SpellsLabel text n ts other → ⊥)
 
--- a reserved word that is taken with its place, or none that stands there
+-- a reserved word that is taken with its place, or none that is there
 abbrev pub TakesWord : List ℕ → Keyword → List Token → Option Place → List Token → Type 0
 TakesWord text keyword ts (Some place) rest = At place (TheWord text keyword) ts rest
 TakesWord text keyword ts None rest = (rest ≡ ts) × ((other : List Token) → TheWord text keyword ts other → ⊥)
@@ -70,7 +70,7 @@ SpellsWith text x = TheWord text word.With ⋯ SpellsBound text x
 abbrev pub PlacedWord : List ℕ → Keyword → Place → Front
 PlacedWord text keyword place = At place (TheWord text keyword)
 
--- whether this stands at the front, where nothing is taken
+-- whether this is at the front, where nothing is taken
 abbrev pub StandsThere : Front → List Token → Bool → Type 0
 StandsThere F ts true = (rest : List Token) × F ts rest
 StandsThere F ts false = (rest : List Token) → F ts rest → ⊥

@@ -66,7 +66,7 @@ impl<'t> Source<'t> {
         }
     }
 
-    // The arguments behind the parenthesis that opens, which may be none, the one that closes, and the end of the line.
+    // The arguments after the parenthesis that opens, which may be none, the one that closes, and the end of the line.
     fn opened(&self, tokens: &mut Tokens) -> Result<Items<Argument>, Stop>
         ensures reads { IfOk result (λ xs. Reads (SpellsOpened self.now) tokens.old xs tokens.new) }
         ensures refused { IfErr result (λ e. Refuses SpellsOpened self.now tokens.old e) }

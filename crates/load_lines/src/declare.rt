@@ -111,7 +111,7 @@ impl<'t> Source<'t> {
         })
     }
 
-    // The bracket behind the bounds of an array, OF and the type of the elements.
+    // The bracket after the bounds of an array, OF and the type of the elements.
     fn element_type(&self, tokens: &mut Tokens) -> Result<Scalar, Stop>
         ensures reads { IfOk result (λ s. Reads (SpellsElementType self.now) tokens.old s
             tokens.new) }

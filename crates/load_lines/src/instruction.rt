@@ -78,7 +78,7 @@ impl<'t> Source<'t> {
         Ok(Some(self.operand_line(tokens)?))
     }
 
-    /// What stands behind an operator: an operand, or a parenthesis that opens where there is room.
+    /// What follows an operator: an operand, or a parenthesis that opens where there is room.
     #[inline(always)]
     pub fn work(
         &self,
@@ -106,7 +106,7 @@ impl<'t> Source<'t> {
         Ok(Instruction::Operate { operator, operand })
     }
 
-    // LD or LDN, where its word stands.
+    // LD or LDN, where its word is.
     #[inline(always)]
     fn load(&self, tokens: &mut Tokens, negated: bool, room: bool) -> Result<Instruction, Stop>
         requires { lead_at self.now tokens.old ≡ lead.Reserved (word.Load negated) }
@@ -122,7 +122,7 @@ impl<'t> Source<'t> {
         Ok(Instruction::Load { negated, operand })
     }
 
-    // ST, STN, S or R, where its word stands.
+    // ST, STN, S or R, where its word is.
     #[inline(always)]
     fn store(&self, tokens: &mut Tokens, store: Store, room: bool) -> Result<Instruction, Stop>
         requires { lead_at self.now tokens.old ≡ lead.Reserved (word.Store store) }
@@ -138,7 +138,7 @@ impl<'t> Source<'t> {
         Ok(Instruction::Store { store, target })
     }
 
-    // NOT, where its word stands.
+    // NOT, where its word is.
     fn negation(&self, tokens: &mut Tokens, room: bool) -> Result<Instruction, Stop>
         requires { lead_at self.now tokens.old ≡ lead.Reserved word.Not }
         ensures reads { IfOk result (λ i. Reads (SpellsRoomy self.now room) tokens.old i
@@ -153,7 +153,7 @@ impl<'t> Source<'t> {
         Ok(Instruction::Not)
     }
 
-    // JMP, JMPC or JMPCN, where its word stands.
+    // JMP, JMPC or JMPCN, where its word is.
     fn jump(
         &self,
         tokens: &mut Tokens,
@@ -173,7 +173,7 @@ impl<'t> Source<'t> {
         Ok(Instruction::Jump { condition, label })
     }
 
-    // RET, RETC or RETCN, where its word stands.
+    // RET, RETC or RETCN, where its word is.
     fn leave(
         &self,
         tokens: &mut Tokens,
@@ -193,7 +193,7 @@ impl<'t> Source<'t> {
         Ok(Instruction::Return { condition })
     }
 
-    // CAL, CALC or CALCN, where its word stands.
+    // CAL, CALC or CALCN, where its word is.
     fn call(
         &self,
         tokens: &mut Tokens,
@@ -237,7 +237,7 @@ impl<'t> Source<'t> {
         self.work(tokens, operator, room)
     }
 
-    // Whether the letter N stands at the front, beginning at this byte. It is taken if it does.
+    // Whether the letter N is at the front, beginning at this byte. It is taken if it does.
     fn eat_n(&self, tokens: &mut Tokens, at: u32) -> bool
         ensures eaten { Eats (TheLetterN self.now at) tokens.old result tokens.new }
         ensures shorter { length tokens.new ≤ length tokens.old }
@@ -255,7 +255,7 @@ impl<'t> Source<'t> {
         true
     }
 
-    // `&` or `&N`, where the sign stands.
+    // `&` or `&N`, where the sign is.
     fn shortly(&self, tokens: &mut Tokens, room: bool) -> Result<Instruction, Stop>
         requires { lead_at self.now tokens.old ≡ lead.Sign Ampersand }
         ensures reads { IfOk result (λ i. Reads (SpellsRoomy self.now room) tokens.old i
@@ -277,7 +277,7 @@ impl<'t> Source<'t> {
         self.work(tokens, operator, room)
     }
 
-    // `)`, where it stands.
+    // `)`, where it is.
     fn evaluation(&self, tokens: &mut Tokens, room: bool) -> Result<Instruction, Stop>
         requires { lead_at self.now tokens.old ≡ lead.Sign CloseParenthesis }
         ensures reads { IfOk result (λ i. Reads (SpellsRoomy self.now room) tokens.old i
@@ -292,7 +292,7 @@ impl<'t> Source<'t> {
         Ok(Instruction::Evaluate)
     }
 
-    // A function by its name, where a name stands.
+    // A function by its name, where a name is.
     fn invocation(&self, tokens: &mut Tokens, room: bool) -> Result<Instruction, Stop>
         requires { lead_at self.now tokens.old ≡ lead.Name }
         ensures reads { IfOk result (λ i. Reads (SpellsRoomy self.now room) tokens.old i
@@ -307,7 +307,7 @@ impl<'t> Source<'t> {
         Ok(Instruction::Invoke { function, operands })
     }
 
-    // An instruction by its word, where the word stands.
+    // An instruction by its word, where the word is.
     #[inline(always)]
     fn worded(&self, tokens: &mut Tokens, keyword: Keyword, room: bool) -> Result<Instruction, Stop>
         requires { lead_at self.now tokens.old ≡ lead.Reserved keyword }
@@ -330,7 +330,7 @@ impl<'t> Source<'t> {
         }
     }
 
-    // An instruction by its sign, where the sign stands.
+    // An instruction by its sign, where the sign is.
     fn signed(&self, tokens: &mut Tokens, sign: Sign, room: bool) -> Result<Instruction, Stop>
         requires { lead_at self.now tokens.old ≡ lead.Sign sign }
         ensures reads { IfOk result (λ i. Reads (SpellsRoomy self.now room) tokens.old i

@@ -16,7 +16,7 @@ use il_syntax::name::Name;
 use il_syntax::token::Sign;
 use il_syntax::tree::{Argument, Index, Named, Operand, Reference};
 
-/// What stands behind the name of a variable: nothing, an index or a member.
+/// What follows the name of a variable: nothing, an index or a member.
 #[derive(Drop)]
 pub enum Selector {
     Whole,
@@ -64,7 +64,7 @@ impl<'t> Source<'t> {
         self.closed(tokens, Sign::CloseBracket, index)
     }
 
-    // What stands behind the name of a variable.
+    // What follows the name of a variable.
     #[inline(always)]
     fn selector(&self, tokens: &mut Tokens, gap: Gap) -> Result<Selector, Stop>
         ensures reads { IfOk result (λ s. Reads (SpellsSelector self.now (gap_of gap)) tokens.old
@@ -86,7 +86,7 @@ impl<'t> Source<'t> {
         Ok(Selector::Whole)
     }
 
-    /// A variable, an element or a member, where a name stands.
+    /// A variable, an element or a member, where a name is.
     #[inline(always)]
     pub fn selected(&self, tokens: &mut Tokens, gap: Gap) -> Result<Reference, Stop>
         requires { lead_at self.now tokens.old ≡ lead.Name }

@@ -46,7 +46,7 @@ impl<'t> Source<'t> {
         Ok(Some(Named { place, name }))
     }
 
-    // Whether a colon stands behind the first token.
+    // Whether a colon follows the first token.
     fn colon_follows(&self, tokens: &Tokens) -> bool
         ensures follows { FollowsColon tokens.now result }
     {
@@ -253,7 +253,7 @@ impl<'t> Source<'t> {
         Ok(place)
     }
 
-    /// Whether the reserved word stands at the front.
+    /// Whether the reserved word is at the front.
     pub fn word_stands(&self, tokens: &Tokens, keyword: Keyword) -> bool
         ensures stands { StandsThere (TheWord self.now keyword) tokens.now result }
     {

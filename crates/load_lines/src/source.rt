@@ -99,7 +99,7 @@ impl<'t> Source<'t> {
         }
     }
 
-    /// Whether this word stands at the front. It is taken if it does.
+    /// Whether this word is at the front. It is taken if it does.
     pub fn eat_word(&self, tokens: &mut Tokens, keyword: Keyword) -> bool
         ensures eaten { Eats (TheWord self.now keyword) tokens.old result tokens.new }
         ensures shorter { length tokens.new ≤ length tokens.old }
@@ -108,7 +108,7 @@ impl<'t> Source<'t> {
         self.take_word(tokens, lead, keyword)
     }
 
-    /// The same, where the tokens begin so.
+    /// Takes this word where the tokens begin with it, and says whether they do.
     pub fn take_word(&self, tokens: &mut Tokens, lead: Lead, keyword: Keyword) -> bool
         requires { lead ≡ lead_at self.now tokens.old }
         ensures eaten { Eats (TheWord self.now keyword) tokens.old result tokens.new }
@@ -139,7 +139,7 @@ impl<'t> Source<'t> {
         }
     }
 
-    /// Whether this sign stands at the front. It is taken if it does.
+    /// Whether this sign is at the front. It is taken if it does.
     pub fn eat_sign(&self, tokens: &mut Tokens, sign: Sign) -> bool
         ensures eaten { Eats (TheSign sign) tokens.old result tokens.new }
         ensures shorter { length tokens.new ≤ length tokens.old }
@@ -186,7 +186,7 @@ impl<'t> Source<'t> {
         Ok(value)
     }
 
-    /// Whether the sign comes next, behind any line ends.
+    /// Whether the sign comes next, after any line ends.
     pub fn sign_comes(&self, tokens: &Tokens, sign: Sign) -> bool
         ensures comes { Comes (TheSign sign) tokens.now result }
     {
@@ -211,7 +211,7 @@ impl<'t> Source<'t> {
         Ok(())
     }
 
-    /// A value that was read, where the line ends behind it.
+    /// A value that was read, where the line ends after it.
     #[inline(always)]
     pub(crate) fn ended<T: Drop>(&self, tokens: &mut Tokens, value: T) -> Result<T, Stop>
         ensures value { IfOk result (λ v. v ≡ value) }
@@ -224,7 +224,7 @@ impl<'t> Source<'t> {
         Ok(value)
     }
 
-    /// A value that was read, where this sign stands behind it.
+    /// A value that was read, where this sign follows it.
     pub(crate) fn closed<T: Drop>(
         &self,
         tokens: &mut Tokens,
@@ -275,7 +275,7 @@ impl<'t> Source<'t> {
         self.standing_name(tokens)
     }
 
-    // A name, where one stands.
+    // A name, where one is.
     #[inline(always)]
     pub(crate) fn standing_name(&self, tokens: &mut Tokens) -> Result<Name, Stop>
         requires { lead_at self.now tokens.old ≡ lead.Name }

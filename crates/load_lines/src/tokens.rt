@@ -11,7 +11,7 @@ use il_syntax::token::{Kind, Token};
 use il_syntax::tree::Place;
 use std::marker::Model;
 
-/// What may stand between two symbols: nothing, or any number of line ends.
+/// What may be between two symbols: nothing, or any number of line ends.
 #[derive(Clone, Copy)]
 pub enum Gap {
     Tight,
@@ -72,7 +72,7 @@ impl<'a> Tokens<'a> {
         }
     }
 
-    /// Goes behind the first token.
+    /// Goes after the first token.
     pub fn advance(&mut self)
         ensures rest { self.new ≡ drop 1 self.old }
         ensures shorter { length self.new ≤ length self.old }
@@ -82,7 +82,7 @@ impl<'a> Tokens<'a> {
         }
     }
 
-    /// Goes behind the line ends at the front.
+    /// Goes after the line ends at the front.
     pub fn skip_lines(&mut self)
         ensures rest { self.new ≡ skip_line_ends self.old }
         ensures shorter { length self.new ≤ length self.old }
@@ -90,7 +90,7 @@ impl<'a> Tokens<'a> {
         self.left = skip_lines(self.left);
     }
 
-    /// Goes behind what may stand between two symbols.
+    /// Goes after what may be between two symbols.
     pub fn pass(&mut self, gap: Gap)
         ensures rest { self.new ≡ gap_of gap self.old }
         ensures shorter { length self.new ≤ length self.old }
@@ -125,7 +125,7 @@ impl<'a> Tokens<'a> {
     }
 }
 
-// The tokens behind the line ends at the front.
+// The tokens after the line ends at the front.
 fn skip_lines(tokens: &[Token]) -> &[Token]
     ensures rest { result.now ≡ skip_line_ends tokens.now }
     ensures shorter { length result.now ≤ length tokens.now }

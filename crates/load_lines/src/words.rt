@@ -34,7 +34,7 @@ fn two_letter_word(word: &str) -> Option<Keyword>
     }
 }
 
-// The same of all of them.
+// A reserved word of two letters, of all of them.
 #[tactic(auto, unfolding(il_syntax::specs::Text::entry_of))]
 fn any_two_letter_word(word: &str) -> Option<Keyword>
     ensures { result ≡ entry_of two_letter_words word.now }
@@ -139,7 +139,7 @@ fn five_letter_word(word: &str) -> Option<Keyword>
     }
 }
 
-// A reserved word of more than five letters. It stands by itself, so that the others pay nothing for its calls.
+// A reserved word of more than five letters. It is by itself, so that the others pay nothing for its calls.
 #[inline(never)]
 #[tactic(auto, unfolding(il_syntax::specs::Text::entry_of))]
 fn longer_word(word: &str) -> Option<Keyword>

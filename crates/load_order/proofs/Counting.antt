@@ -87,7 +87,7 @@ declared_is c depth forms (d ∷ ds) total t is =
         ∙ ap (λ x. capped (capped t + x)) (capped_times (length d.names) (form_slots (λ n. block_slots c depth n) d.declared.form))
         ∙ capped_sum t (length d.names * form_slots (λ n. block_slots c depth n) d.declared.form)
 
--- variables behind others
+-- variables after others
 variables_on : (depth : ℕ) (counted : List ℕ) (total : ℕ) (xs ys : List Variables) → with_variables depth counted total (xs ++ ys) ≡ with_variables depth counted (with_variables depth counted total xs) ys
 variables_on depth counted total [] ys = refl
 variables_on depth counted total (x ∷ xs) ys = variables_on depth counted (capped (total + capped (x.count * type_count depth counted x.declared))) xs ys

@@ -18,7 +18,7 @@ abbrev pub are_among : List ℕ → List ℕ → Bool
 are_among [] way = true
 are_among (n ∷ ns) way = is_among way n && are_among ns way
 
--- the numbers of one list, and behind them those of another that are not among them
+-- the numbers of one list, and after them those of another that are not among them
 abbrev pub merged : List ℕ → List ℕ → List ℕ
 merged first [] = first
 merged first (n ∷ ns) = merged (if is_among first n then first else first ++ n ∷ []) ns

@@ -1,7 +1,7 @@
 // How many uses can lead on from a unit at most.
 //
 // A cover names units so that of each use the user or the used one is named for that. On a chain each unit is at most once a user and
-// at most once used, so no chain has more uses than the cover has names that are not behind it.
+// at most once used, so no chain has more uses than the cover has names that are not after it.
 
 ghost use Rattle.std.specs.Prelude.{◌≡◌, ◌+◌, ◌<◌, ◌||◌, nat_lt, IfOk, IfSome, false, length};
 ghost use Rattle.load_order.specs.Related.{tabulate, closed};

@@ -63,7 +63,7 @@ get-with_new {X = X} m k v q = by_old (get m k) refl
 pub take_next : {A : Type 0} (xs : List A) (i : ℕ) (x : A) → i < length xs → x ≡ get_or xs i x → take (i + 1) xs ≡ take i xs ++ x ∷ []
 take_next xs i x low there = take_more xs i x low ∙ ap (λ y. take i xs ++ y ∷ []) (sym there)
 
--- an element that is there, whatever stands for others
+-- an element that is there, whatever means others
 same_default : {A : Type 0} (xs : List A) (i : ℕ) (d e : A) → i < length xs → get_or xs i d ≡ get_or xs i e
 same_default [] i d e low = absurd (omega arith)
 same_default (x ∷ xs) zero d e low = refl
@@ -78,7 +78,7 @@ take_all (x ∷ xs) (suc i) low = ap (λ l. x ∷ l) (take_all xs i (omega arith
 
 -- UNITS
 
--- the number of a name behind others
+-- the number of a name after others
 place_of-last : (names : List Spelling) (n q : Spelling) → place_of (names ++ n ∷ []) q ≡ or_else (place_of names q) (if bytes_eq n q then Some (length names) else None)
 place_of-last [] n q = by_name (bytes_eq n q)
   where
@@ -115,7 +115,7 @@ unit_next units i u mid new key low there named is before q =
 
 -- NAMES OF ONE DECLARATION
 
--- a name behind others
+-- a name after others
 one_of-last : (names : List Spelling) (n q : Spelling) → is_one_of (names ++ n ∷ []) q ≡ (is_one_of names q || bytes_eq n q)
 one_of-last [] n q = by_name (bytes_eq n q)
   where
@@ -163,7 +163,7 @@ forms-last (e ∷ ds) d = ap (λ l. map (λ (n : Named). (n.name, e.declared.for
     append_three [] ys zs = refl
     append_three (x ∷ xs) ys zs = ap (λ l. x ∷ l) (append_three xs ys zs)
 
--- an entry of two tables one behind another
+-- an entry of two tables one after another
 pub entry-append : {A : Type 0} (xs ys : List (Spelling × A)) (q : Spelling) → entry_of (xs ++ ys) q ≡ or_else (entry_of xs q) (entry_of ys q)
 entry-append [] ys q = refl
 entry-append {A = A} (x ∷ xs) ys q = go (bytes_eq x.0 q) (entry-append xs ys q)

@@ -56,7 +56,7 @@ drop_at (x ∷ steps) zero s e = ap (λ y. y ∷ steps) (same x s e)
     same a b e = cc
 drop_at (x ∷ steps) (suc n) s e = drop_at steps n s e
 
--- behind all instructions
+-- after all instructions
 from_end : (first new : NameMap ℕ) (steps : List Step) (names last : List Named) (n : ℕ) → first ≡ empty → names ≡ last → n ≡ length steps → AreWith first names n new → AreFrom new n (drop n steps) (map (λ l. l.name) last)
 from_end first new steps names last n fresh same e w q =
     w q ∙ ap (λ ns. if is_one_of (map (λ l. l.name) ns) q then Some n else get first q) same ∙ ap (λ o. if is_one_of (map (λ l. l.name) last) q then Some n else o) (ap (λ m. get m q) fresh ∙ get-empty q) ∙ ap (λ ss. label_from n ss (map (λ l. l.name) last) q) (sym (drop_end steps n e))

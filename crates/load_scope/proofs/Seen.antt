@@ -70,7 +70,7 @@ by_result config (Function scalar place) own q = go (bytes_eq own q)
 by_result config FunctionBlock own q = refl
 by_result config Program own q = refl
 
--- four lists behind a result
+-- four lists after a result
 find-five : (p : rule.Variable → Bool) (a b c d e : List rule.Variable) → find p (a ++ b ++ c ++ d ++ e) ≡ or_else (find p a) (or_else (find p b) (or_else (find p c) (or_else (find p d) (find p e))))
 find-five p a b c d e =
     find-both p (a ++ b ++ c ++ d) e ∙ ap (λ o. or_else o (find p e)) (find-both p (a ++ b ++ c) d ∙ ap (λ o. or_else o (find p d)) (find-both p (a ++ b) c ∙ ap (λ o. or_else o (find p c)) (find-both p a b)))
@@ -128,7 +128,7 @@ image_is_meant config unit i =
     go true = refl
     go false = refl
 
--- the image names behind the variables of a unit
+-- the image names after the variables of a unit
 pub own_seen_is : (config : Config) (unit : ProgramUnit) (variables own : NameMap (Option Variable)) (rows : List ImageRow) (role : Option Role) → HasVariables config unit variables → role ≡ role_of config unit → map (named config) rows ≡ image_entries config → HasImages config unit.kind role rows variables own → HasOwn config unit own
 own_seen_is config unit variables own rows role first roles are second q =
     second q ∙ ap (λ o. or_else o (shown role (option_map (image_in config) (row_among rows q)))) (first q)

@@ -53,7 +53,7 @@ pub names_all : {A : Type 0} (f : A → List Spelling) (xs : List A) (i : ℕ) (
     → (q : Spelling) → is_some (get new q) ≡ (is_some (get first q) || is_one_of (flat_map f xs) q)
 names_all f xs i first new low was q = was q ∙ ap (λ l. is_some (get first q) || is_one_of (flat_map f l) q) (take_all xs i low)
 
--- behind none
+-- after none
 pub from_none : (m : NameMap Bool) (b : Bool) (q : Spelling) → is_some (get m q) ≡ (is_some (get {X = Bool} empty q) || b) → is_some (get m q) ≡ b
 from_none m b q is = is ∙ ap (λ o. is_some o || b) (get-empty q)
 

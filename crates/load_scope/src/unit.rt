@@ -127,7 +127,7 @@ impl<'n> UnitScope<'n> {
         self.names.meaning(self.at, name)
     }
 
-    // The variable that a name means, where its entry stands.
+    // The variable that a name means, where its entry is.
     #[inline(always)]
     fn entry(&self, name: &str) -> Option<&'n Variable>
         ensures { option_copied result ≡ option_map (variable_of self.now.config)

@@ -195,7 +195,7 @@ same_sizes first second r is same = (bytes_eq-Decides first second).0 (sym is �
 
 -- OFFSETS
 
--- how far the variable of a name stands from the first, as far as that can be counted
+-- how far the variable of a name is from the first, as far as that can be counted
 abbrev pub offset_found : (Form → ℕ) → List Entity → Text → Option ℕ
 offset_found wide es name = option_map (λ f. capped (offset_in wide es name)) (form_in es name)
 
@@ -282,7 +282,7 @@ sizes_found c lists ss is made = made ∙ ap (sizes_to 16) is
 
 -- THE WORDS OF STANDARD BLOCKS
 
--- where a name stands among some, counted from a place on
+-- where a name is among some, counted from a place on
 place_shifted : (k : ℕ) (vs : List Variable) (q : Text) → place_from k vs q ≡ option_map (λ n. k + n) (place_from 0 vs q)
 place_shifted k [] q = refl
 place_shifted k (v ∷ vs) q = by_name (is_name v.name q) (place_shifted (k + 1) vs q) (place_shifted 1 vs q)
@@ -296,7 +296,7 @@ place_shifted k (v ∷ vs) q = by_name (is_name v.name q) (place_shifted (k + 1)
     by_name true rest one = ap Some (let e : k ≡ k + 0 = omega arith in e)
     by_name false rest one = rest ∙ moved (place_from 0 vs q) ∙ ap (option_map (λ n. k + n)) (sym one)
 
--- and behind others
+-- and after others
 place_behind : (xs ys : List (Text × Elementary)) (q : Text)
     → place_from 0 (map word_variable (xs ++ ys)) q ≡ or_else (place_from 0 (map word_variable xs) q) (option_map (λ n. length xs + n) (place_from 0 (map word_variable ys) q))
 place_behind [] ys q = kept (place_from 0 (map word_variable ys) q)

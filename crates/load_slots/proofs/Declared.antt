@@ -255,7 +255,7 @@ no_global (Some u) n b f is = cc
 no_global None n true f is = cc
 no_global None n false f is = cc
 
--- of lists whose names stand once, what any part has is had by all
+-- of lists whose names are once, what any part has is had by all
 module _ (o r e i : List Entity) (named : AreNamed (o ++ (r ++ (e ++ i)))) (name : Text) (f : Form) where
   in_own : form_in o name ≡ Some f → form_in (o ++ (r ++ (e ++ i))) name ≡ Some f
   in_own is = front_form o (r ++ (e ++ i)) name f is
@@ -304,7 +304,7 @@ none_seen c u other [] = refl
 none_seen c u other (i ∷ is) =
     ap (λ b. if b && is_seen_by (program_role c u.name.name c.programs) i.audience then entity i.variable.name i.variable.form None ∷ seen_among c u is else seen_among c u is) other ∙ none_seen c u other is
 
--- so it has nothing behind its own variables and its result
+-- so it has nothing after its own variables and its result
 pub no_others : (c : Config) (u : ProgramUnit) → is_program u ≡ false → u.externals ≡ [] → entities u.externals ++ seen_image c u ≡ []
 no_others c u other none =
     let all : List ImageName = image_of c.cars.value c.floors.value c.slots.value in

@@ -1,4 +1,4 @@
--- That names are plain and stand once, from the rules of declarations (20, 22, 23).
+-- That names are plain and are once, from the rules of declarations (20, 22, 23).
 use Rattle.std.proofs.Common.{◌≡◌, ◌≢◌, ℕ, zero, suc, ℤ, pos, negsuc, neg_ℤ, ◌+ℤ◌, ◌-ℤ◌, ◌≤ℤ◌, ◌^◌, Bool, true, false, ◌&&◌, not, List, [], ◌∷◌, ◌++◌, map, refl, sym, ap, ◌∙◌, None, subst, arith, ◌⊎◌, inl, inr, append_assoc}
 use Rattle.std.proofs.lemmas.Int.{ints}
 use Rattle.std.proofs.lemmas.List.Elements.{Contains-append_left, Contains-append_right, Contains-append_cases}
@@ -150,7 +150,7 @@ module _ (c : Config) (unbroken : HasNoFault (Broken Declaring c)) where
   pub globals_short : (d : Declaration) → Contains c.globals d → HasShort d.declared.form
   globals_short d has = short_type ScalarsAndArrays d.declared (Contains-append_right (flat_map unit_types c.units) (types_in ScalarsAndArrays c.globals) _ (in_map (λ (d : Declaration). (ScalarsAndArrays, d.declared)) c.globals d has))
 
-  -- the names that a unit declares stand once (20), and are words
+  -- the names that a unit declares are once (20), and are words
   unit_named_once : IsWritten c → (u : ProgramUnit) → Contains c.units u → AreNamed (entities (unit_declarations u))
   unit_named_once written u among = named_by (entities (unit_declarations u)) each apart
     where
@@ -292,7 +292,7 @@ module _ (c : Config) (unbroken : HasNoFault (Broken Declaring c)) (u : ProgramU
   pub image_apart : seen_among c u (ordered c.cars.value c.floors.value c.slots.value) ≡ seen_image c u
   image_apart = seen-append c u (filter is_common (image_of c.cars.value c.floors.value c.slots.value)) (filter (λ i. not (is_common i)) (image_of c.cars.value c.floors.value c.slots.value))
 
-  -- the names of the image stand once (own rule)
+  -- the names of the image are once (own rule)
   pub image_named : AreNamed (seen_image c u)
   image_named =
       subst AreNamed image_apart (seen_named c u (ordered c.cars.value c.floors.value c.slots.value)
@@ -325,7 +325,7 @@ module _ (c : Config) (unbroken : HasNoFault (Broken Declaring c)) (u : ProgramU
       by_side (inl a) same = no_unit c unbroken u v among has_v y.name y.form (entity_listed c unbroken u y a) (sym same)
       by_side (inr b) same = unbroken 20 v.place (duplicate refl (predeclared_unit v has_v (subst (λ name. is_predeclared c name ≡ true) same (image_predeclared y b)) refl))
 
-  -- so all that it declares and sees stands once
+  -- so all that it declares and sees is once
   pub unit_entities_named : IsWritten c → Contains c.units u → AreNamed (unit_entities c u)
   unit_entities_named written among = by_kind u.kind refl
     where
@@ -355,7 +355,7 @@ pub each_of : (P : ProgramUnit → Type 0) (us : List ProgramUnit) → ((u : Pro
 each_of P [] all = tt
 each_of P (u ∷ us) all = (all u (at_head u us), each_of P us (λ v h. all v (in_tail u us v h)))
 
--- the names of a block's declarations stand once
+-- the names of a block's declarations are once
 pub blocks_named : (c : Config) → HasNoFault (Broken Declaring c) → IsWritten c → (block : Text) → AreNamed (block_entities c block)
 blocks_named c unbroken written =
     of_blocks c AreNamed tt (λ b. named_is (standard_entities (standard_variables b)) (plain_words b)) (each_of (λ u. AreNamed (own_entities u)) c.units (own_named c unbroken written))

@@ -1,4 +1,4 @@
--- The frames of a task's functions: which they are, where they stand, and that no two of their slots have one path.
+-- The frames of a task's functions: which they are, where they are, and that no two of their slots have one path.
 use Rattle.std.proofs.Common.{◌≡◌, ◌≢◌, ℕ, zero, suc, ◌+◌, ◌≤◌, inl, inr, Bool, true, false, List, [], ◌∷◌, ◌++◌, map, length, slice_get, refl, sym, ap, ap₂, ◌∙◌, cond, Some, subst, arith, append_assoc, length-append}
 use Rattle.std.specs.Prelude.{Contains, bytes_eq, if◌then◌else◌, ◌&&◌, ◌||◌, filter}
 use Rattle.std.proofs.lemmas.Slice.Eq.{bytes_eq-Decides}
@@ -71,7 +71,7 @@ module _ (c : Config) where
   function_size : (v : ProgramUnit) → length (function_cells c v) ≡ width_of v
   function_size v = entities_size (instance_cells deepest c) (block_width deepest c) (sizes_to deepest c) v.name.name (function_entities v)
 
-  -- one of them stands at its base, and there is room for it
+  -- one of them is at its base, and there is room for it
   pub frame_stands : (cells : List Cell) (fs : List ProgramUnit) (start : ℕ) → ((w v : ProgramUnit) → Contains fs w → Contains fs v → w.name.name ≡ v.name.name → w ≡ v)
       → Stands cells start (functions_cells c fs) → (v : ProgramUnit) → Contains fs v → Stands cells (start + base_in c fs v.name.name) (function_cells c v)
   frame_stands cells [] start alone all v has = absurd (in_nothing v has)
@@ -120,7 +120,7 @@ module _ (c : Config) where
       by_test false is (suc k, low, same) more =
           second (length (function_cells c w)) (width_of w) (length (functions_cells c fs)) (base_in c fs v.name.name) (width_of v) (function_size w) (more (k, omega arith, same))
 
-  -- what is behind them begins where they end
+  -- what follows them begins where they end
   pub base_end : (fs : List ProgramUnit) (name : Text) → ((w : ProgramUnit) → Contains fs w → w.name.name ≢ name) → base_in c fs name ≡ length (functions_cells c fs)
   base_end [] name other = refl
   base_end (w ∷ fs) name other = by_test (bytes_eq w.name.name name) refl (base_end fs name (λ v h. other v (in_tail w fs v h)))
@@ -138,7 +138,7 @@ AreElsewhere name ys = (k : ℕ) (y : Cell) → slice_get ys k ≡ Some y → (a
 elsewhere_both : (name : Text) (xs ys : List Cell) → AreElsewhere name xs → AreElsewhere name ys → AreElsewhere name (xs ++ ys)
 elsewhere_both name xs ys a b k y is = elim (either xs ys k y is) [ inl h ↦ a k y h | inr w ↦ b w.0 y w.1 ]
 
--- a name as one that stands in front of a path
+-- a name as one that is in front of a path
 some_name : (name : Text) → (name ≡ [] → ⊥) → (d : ℕ) × (p : Text) × (name ≡ d ∷ p)
 some_name [] some = absurd (some refl)
 some_name (d ∷ p) some = (d, p, refl)
@@ -174,7 +174,7 @@ module _ (c : Config) (named : (block : Text) → AreNamed (block_entities c blo
       elsewhere_both name (function_cells c v) (functions_cells c fs) (λ k y is. (v.name.name, plain v (at_head v fs), other v (at_head v fs), function_under v (some v (at_head v fs)) k y is))
       (others_elsewhere name fs (λ w h. plain w (in_tail v fs w h)) (λ w h. some w (in_tail v fs w h)) (λ w h. other w (in_tail v fs w h)))
 
-  -- no two slots of the functions, and of what stands behind them, have one path
+  -- no two slots of the functions, and of what follows them, have one path
   pub frames_once : (fs : List ProgramUnit) (rest : List Cell) → IsFramed fs rest → AreApart fs → AreOnce rest → AreOnce (functions_cells c fs ++ rest)
   frames_once [] rest framed alone once = once
   frames_once (v ∷ fs) rest framed alone once =

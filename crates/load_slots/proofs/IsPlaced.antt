@@ -1,4 +1,4 @@
--- That the variables of a unit stand where its names lead.
+-- That the variables of a unit are where its names lead.
 use Rattle.std.proofs.Common.{◌≡◌, ℕ, zero, suc, ◌+◌, ◌<◌, ◌≤◌, ◌⊎◌, inl, inr, Bool, true, false, List, [], ◌∷◌, ◌++◌, length, slice_get, ◌-◌, refl, sym, ap, ap₂, ◌∙◌, Option, Some, None, subst, ℤ, pos, negsuc, ◌+ℤ◌, ◌-ℤ◌, ◌≤ℤ◌, ◌^◌, arith, length-append}
 use Rattle.std.specs.Prelude.{bytes_eq, if◌then◌else◌, nat_abs, int_le, ◌&&◌}
 use Rattle.std.proofs.lemmas.Int.{ints}
@@ -127,7 +127,7 @@ index_below bounds z is =
 no_width : (inner : Text → ℕ) (f : Form) → 0 ≤ form_width inner f
 no_width inner f = omega arith
 
--- what stands before a name and its own slots are no more than all
+-- what comes before a name and its own slots are no more than all
 pub offset_below : (wide : Text → ℕ) (es : List Entity) (name : Text) (f : Form) → form_in es name ≡ Some f → offset_in (form_width wide) es name + form_width wide f ≤ entities_width wide es
 offset_below wide [] name f is = cc
 offset_below wide (e ∷ es) name f is = by_test (bytes_eq e.name name) is (offset_below wide es name f)
@@ -198,7 +198,7 @@ module _ (c : Config) (inner : Text → Text → List Cell) (wide : Text → ℕ
     abbrev es : List Entity
     es = declared u.name.name
 
-    -- names lead as far as their variables stand
+    -- names lead as far as their variables are
     pub offset_is : (name : Text) (f : Form) → form_in es name ≡ Some f → n.offset name ≡ offset_in (form_width wide) es name
     offset_is name f found = uncapped (offset_in (form_width wide) es name) (form_width wide f) (entities_width wide es) (offset_below wide es name f found) small
 
@@ -282,7 +282,7 @@ module _ (c : Config) (inner : Text → Text → List Cell) (wide : Text → ℕ
     operand_at (Element name (ByVariable v)) = indexed_at name v (form_named c u name) (forms name)
     operand_at (Member instance word) = member_at instance word (form_named c u instance) (forms instance)
 
-    -- what the names of a unit lead to stands there
+    -- what the names of a unit lead to is there
     pub has_cells : base + entities_width wide es ≤ length cells → HasCells c n cells u path base
     has_cells room = record {
       within = omega (arith, room);

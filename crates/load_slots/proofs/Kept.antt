@@ -72,7 +72,7 @@ swapped : (a b : Bool) (v w : Value) (o : Option Value) → (a ≡ true → b �
 swapped true b v w o apart = ap (λ x. cond x (Some w) (Some v)) (apart refl)
 swapped false b v w o apart = refl
 
--- an insertion into what stands below an entry of another path
+-- an insertion into what is below an entry of another path
 below : (m n : Values) (d p : Text) (w v : Value) → eq_by_cmp order p d ≡ false → n ≡ insert m p v → insert n d w ≡ insert (insert m d w) p v
 below m n d p w v apart is = same_map _ _ (λ q.
     get-insert n d w q ∙ ap (λ x. cond (eq_by_cmp order q d) (Some w) (get x q)) is ∙ ap (λ o. cond (eq_by_cmp order q d) (Some w) o) (get-insert m p v q)

@@ -23,7 +23,7 @@ same_test a b = by_tests (eq_by_cmp order a b) refl (bytes_eq b a) refl
     by_tests true one false two = sym ((bytes_eq-Decides b a).1 (sym (same_text a b one))) ∙ two
     by_tests false one true two = sym one ∙ ap (λ t. eq_by_cmp order a t) ((bytes_eq-Decides b a).0 two) ∙ itself a
 
--- a cell that stands somewhere has that slot
+-- a cell that is somewhere has that slot
 pub stands_slot : (xs : List Cell) → AreOnce xs → (k : ℕ) (x : Cell) → slice_get xs k ≡ Some x → slot_at xs x.path ≡ Some k
 stands_slot [] once k x is = cc
 stands_slot (y ∷ xs) once zero x is = ap (λ b. if b then Some 0 else option_map suc (slot_at xs x.path)) ((bytes_eq-Decides y.path x.path).1 (ap (λ (c : Cell). c.path) (same_Some y x is)))

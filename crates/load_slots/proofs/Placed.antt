@@ -1,4 +1,4 @@
--- Where variables stand, and that no two slots have one path.
+-- Where variables are, and that no two slots have one path.
 use Rattle.std.proofs.Common.{◌≡◌, ℕ, zero, suc, ◌+◌, ◌<◌, ◌⊎◌, inl, inr, Bool, true, false, List, [], ◌∷◌, ◌++◌, length, slice_get, refl, sym, ap, ◌∙◌, Some, subst, ℤ, pos, negsuc, neg_ℤ, ◌+ℤ◌, ◌≤ℤ◌, ◌^◌, codes, arith, append_assoc, append-nil}
 use Rattle.std.specs.Prelude.{bytes_eq, if◌then◌else◌}
 use Rattle.std.specs.Ordering.{eq_by_cmp}
@@ -20,7 +20,7 @@ use Rattle.load_slots.specs.Cells.{element_cells, cells_at, entity_cells, instan
 
 -- PLACES
 
--- what stands in a list of two parts
+-- what is in a list of two parts
 pub either : (xs ys : List Cell) (k : ℕ) (x : Cell) → slice_get (xs ++ ys) k ≡ Some x → (slice_get xs k ≡ Some x) ⊎ ((j : ℕ) × (slice_get ys j ≡ Some x))
 either [] ys k x is = inr (k, is)
 either (y ∷ xs) ys zero x is = inl is
@@ -35,7 +35,7 @@ behind : (xs ys : List Cell) (k : ℕ) → slice_get (xs ++ ys) (length xs + k) 
 behind [] ys k = ap (slice_get ys) (let e : 0 + k ≡ k = omega arith in e)
 behind (y ∷ xs) ys k = ap (slice_get (y ∷ xs ++ ys)) (let e : suc (length xs) + k ≡ suc (length xs + k) = omega arith in e) ∙ behind xs ys k
 
--- the first part of what stands somewhere stands there, and the second behind it
+-- the first part of what is somewhere is there, and the second after it
 pub stands_first : (cells : List Cell) (base : ℕ) (xs ys : List Cell) → Stands cells base (xs ++ ys) → Stands cells base xs
 stands_first cells base xs ys all k x is = all k x (in_front xs ys k x is)
 
@@ -44,7 +44,7 @@ stands_second cells base xs ys all k x is =
     let moved : base + length xs + k ≡ base + (length xs + k) = omega arith in
     ap (slice_get cells) moved ∙ all (length xs + k) x (behind xs ys k ∙ is)
 
--- the variable of a name stands as far from the base as the variables before it take
+-- the variable of a name is as far from the base as the variables before it take
 pub stands_at : (inner : Text → Text → List Cell) (wide : Form → ℕ) → ((path : Text) (f : Form) → length (cells_at inner path f) ≡ wide f)
     → (cells : List Cell) (path : Text) (es : List Entity) (base : ℕ) → Stands cells base (entity_cells inner path es)
     → (name : Text) (f : Form) → form_in es name ≡ Some f → (q : Text) × (Stands cells (base + offset_in wide es name) (cells_at inner (under path q) f)) × (bytes_eq q name ≡ true)

@@ -66,7 +66,7 @@ scalars_same one other path (e ∷ es) each =
     let here = each e (at_head e es) in
     ap₂ ◌++◌ (ap (cells_at one (under path e.name)) here.1 ∙ sym (ap (cells_at other (under path e.name)) here.1)) (scalars_same one other path es (λ d has. each d (in_tail e es d has)))
 
--- what is put into slots that stand somewhere
+-- what is put into slots that are somewhere
 fresh_all : (cells : List Cell) (base k : ℕ) (xs : List Cell) (vs : List (Text × Value)) → AreOf xs vs → ((j : ℕ) (x : Cell) → slice_get xs j ≡ Some x → slice_get cells (base + (k + j)) ≡ Some x) → AreFresh cells base (fresh_from k xs vs) vs
 fresh_all cells base k [] [] all stand = tt
 fresh_all cells base k [] (v ∷ vs) all stand = absurd all
@@ -83,13 +83,13 @@ fresh_all cells base k (x ∷ xs) (v ∷ vs) all stand = (
   fresh_all cells base (suc k) xs vs all.2 (λ j y is. ap (slice_get cells) (let e : base + (suc k + j) ≡ base + (k + suc j) = omega arith in e) ∙ stand (suc j) y is),
 )
 
--- what stands in a list of codes is that of a unit
+-- what is in a list of codes is that of a unit
 mapped : {A : Type 0} (g : ProgramUnit → A) (us : List ProgramUnit) (i : ℕ) (code : A) → slice_get (map g us) i ≡ Some code → (u : ProgramUnit) × (slice_get us i ≡ Some u) × (g u ≡ code)
 mapped g [] i code is = cc
 mapped g (u ∷ us) zero code is = (u, refl, same_Some (g u) code is)
 mapped g (u ∷ us) (suc i) code is = mapped g us i code is
 
--- the first unit of a name stands at its number
+-- the first unit of a name is at its number
 numbered : {A : Type 0} (g : ProgramUnit → A) (us : List ProgramUnit) (name : Text) (v : ProgramUnit) → find (λ u. bytes_eq u.name.name name) us ≡ Some v → slice_get (map g us) (number_in us name) ≡ Some (g v)
 numbered g [] name v is = cc
 numbered g (u ∷ us) name v is = by_test (bytes_eq u.name.name name) is (numbered g us name v)
@@ -391,7 +391,7 @@ module _ (c : Config) (p : ProgramUnit) (accepted : IsAccepted c p) where
       let uses = call_is_use u v place function operands among call named in
       placed_from fits n v (u ∷ us) (uses, stack) deeper v.name.name (base_of c p function.name) (function_at function.name v named (called_in_task u v us (uses, stack) (function_is_unit c function.name v named).1)))
 
-  -- the program's variables, those of its instances, and of the functions that are called, stand where names lead
+  -- the program's variables, those of its instances, and of the functions that are called, are where names lead
   pub program_is_placed : length (program_cells c p) < 2 ^ 63 → IsPlaced c (program_names c) (base_of c p) (program_cells c p) p [] (base_of c p p.name.name)
   program_is_placed fits = placed_from fits 16 p [] refl (omega arith) [] (base_of c p p.name.name) (program_stands, program_room)
 

@@ -32,7 +32,7 @@ among c u (j ∷ is) name i found seen = by_test (bytes_eq j.variable.name name)
     by_test false test true sees_it found more = ap (λ b. if b then Some j.variable.form else form_in (seen_among c u is) name) test ∙ more found
     by_test false test false sees_it found more = more found
 
--- an image name that is found stands among those that a test keeps
+-- an image name that is found is among those that a test keeps
 kept : (p : ImageName → Bool) (is : List ImageName) (name : Text) (i : ImageName) → find (λ i. bytes_eq i.variable.name name) is ≡ Some i → p i ≡ true → find (λ i. bytes_eq i.variable.name name) (filter p is) ≡ Some i
 kept p [] name i found holds = cc
 kept p (j ∷ is) name i found holds = by_test (bytes_eq j.variable.name name) refl (p j) refl found (λ more. kept p is name i more holds)
@@ -188,6 +188,6 @@ each_at P [] all i u is = cc
 each_at P (w ∷ us) all zero u is = subst P (let same : w ≡ u = cc in same) all.0
 each_at P (w ∷ us) all (suc i) u is = each_at P us all.1 i u is
 
--- slots stand among themselves
+-- slots are among themselves
 pub stand_here : (cells : List Cell) → Stands cells 0 cells
 stand_here cells k x is = ap (slice_get cells) (let e : 0 + k ≡ k = omega arith in e) ∙ is

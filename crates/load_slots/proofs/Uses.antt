@@ -189,7 +189,7 @@ module _ (c : Config) (unbroken : HasNoFault (Broken Declaring c)) (ordered : Is
   pub heights : IsHeight c (inner 18)
   heights = is_height c 17 tall
 
-  -- the blocks of a unit's own instances stand no deeper than 16
+  -- the blocks of a unit's own instances are no deeper than 16
   pub own_below : (u : ProgramUnit) → Contains c.units u → AreBelow (inner 18) 17 (own_entities u)
   own_below u among = forms_below (inner 18) 17 (own_entities u) (plain (highest any_block (inner 18) (own_entities u)) (deep u among 18 u [] refl))
     where

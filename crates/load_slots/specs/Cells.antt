@@ -30,7 +30,7 @@ abbrev pub instance_cells : ℕ → Config → Text → Text → List Cell
 instance_cells zero c path block = []
 instance_cells (suc n) c path block = entity_cells (instance_cells n c) path (block_entities c block)
 
--- how many slots stand before a name, where a form takes so many
+-- how many slots come before a name, where a form takes so many
 abbrev pub offset_in : (Form → ℕ) → List Entity → Text → ℕ
 offset_in wide [] name = 0
 offset_in wide (e ∷ es) name = if bytes_eq e.name name then 0 else wide e.form + offset_in wide es name
@@ -40,7 +40,7 @@ abbrev pub form_in : List Entity → Text → Option Form
 form_in [] name = None
 form_in (e ∷ es) name = if bytes_eq e.name name then Some e.form else form_in es name
 
--- the cells stand among others from a place on
+-- the cells are among others from a place on
 abbrev pub Stands : List Cell → ℕ → List Cell → Type 0
 Stands cells base xs = (k : ℕ) (x : Cell) → slice_get xs k ≡ Some x → slice_get cells (base + k) ≡ Some x
 

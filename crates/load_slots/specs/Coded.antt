@@ -31,7 +31,7 @@ pub record IsUnit (c : Config) (names : Text → Names) (code : UnitCode) (u : P
   pub means : code.code ≡ flat_code (names u.name.name) c u u.body.steps
   pub function : code.function ≡ function_by (names u.name.name) c u u.kind
 
--- the code of a unit stands at its number, and so does the base of its frame
+-- the code of a unit is at its number, and so does the base of its frame
 pub record IsNumbered (p : Code) (bases : Text → ℕ) (number : ℕ) (name : Text) : Type 0 where
   pub code : UnitCode
   pub stands : slice_get p.units number ≡ Some code

@@ -122,7 +122,7 @@ sizes_to (suc n) lists = map (λ vs. list_size true (sizes_to n lists) 0 vs) lis
 
 -- OFFSETS
 
--- the variables of a unit, or the words of a block, by their names: how far each stands from the first
+-- the variables of a unit, or the words of a block, by their names: how far each is from the first
 abbrev pub with_offset : Offsets → Text → ℕ → Offsets
 with_offset o name size = record { table = if is_some (get o.table name) then o.table else insert o.table name o.total; total = capped (o.total + size) }
 
@@ -149,12 +149,12 @@ unit_offsets c u = offsets_of (sizes_of c) (map (shown c) (unit_entities c u))
 abbrev pub all_offsets : Config → List (NameMap ℕ)
 all_offsets c = map (unit_offsets c) c.units
 
--- where the first variable of a name stands, where each takes one slot
+-- where the first variable of a name is, where each takes one slot
 abbrev pub place_from : ℕ → List Variable → Text → Option ℕ
 place_from place [] name = None
 place_from place (v ∷ vs) name = if is_name v.name name then Some place else place_from (place + 1) vs name
 
--- how far a word of a standard block stands from the first (2.5.2.3)
+-- how far a word of a standard block is from the first (2.5.2.3)
 abbrev pub standard_offset : StandardBlock → Text → Option ℕ
 standard_offset block word = option_map capped (place_from 0 (standard_list block) word)
 

@@ -74,7 +74,7 @@ entities_if c (Some u) = unit_entities c u
 abbrev pub declared_in : Config → Text → List Entity
 declared_in c name = entities_if c (unit_named c name)
 
--- so deep may instances stand in one another: 16 own blocks, and a standard one
+-- so deep may instances are in one another: 16 own blocks, and a standard one
 abbrev pub deepest : ℕ
 deepest = 17
 

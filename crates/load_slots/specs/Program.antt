@@ -28,7 +28,7 @@ task_functions c p = filter (λ v. is_function v && is_used c p v) c.units
 abbrev pub function_cells : Config → ProgramUnit → List Cell
 function_cells c v = entity_cells (instance_cells deepest c) v.name.name (function_entities v)
 
--- and of those of several, one behind another
+-- and of those of several, one after another
 abbrev pub functions_cells : Config → List ProgramUnit → List Cell
 functions_cells c [] = []
 functions_cells c (v ∷ vs) = function_cells c v ++ functions_cells c vs
@@ -52,7 +52,7 @@ variable_cells c p = entity_cells (instance_cells deepest c) [] (own_entities p)
 abbrev pub own_cells : Config → ProgramUnit → List Cell
 own_cells c p = functions_cells c (task_functions c p) ++ variable_cells c p
 
--- behind them those of what it sees beside, and a scan is given: its externals, and the image
+-- after them those of what it sees beside, and a scan is given: its externals, and the image
 abbrev pub seen_cells : Config → ProgramUnit → List Cell
 seen_cells c p = entity_cells (instance_cells deepest c) [] (entities p.externals ++ seen_image c p)
 

@@ -61,7 +61,7 @@ abbrev pub has_short : Form → Bool
 has_short (ArrayForm bounds element) = int_le (neg_ℤ (pos (2 ^ 62))) bounds.lower && int_le (bounds.lower +ℤ pos (width bounds)) (pos (2 ^ 62))
 has_short _ = true
 
--- whether names are plain, not empty, and stand once
+-- whether names are plain, not empty, and are once
 abbrev pub are_named : List Entity → Bool
 are_named [] = true
 are_named (e ∷ es) = is_plain e.name && not (bytes_eq e.name []) && has_none es e.name && has_short e.form && are_named es

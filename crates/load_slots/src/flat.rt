@@ -39,14 +39,14 @@ pub enum Operand {
     Outside,
 }
 
-/// An input of a call: where it stands, and what it is given.
+/// An input of a call: where it is, and what it is given.
 #[derive(Clone, Copy)]
 pub struct Assignment {
     pub to: Slot,
     pub from: Operand,
 }
 
-/// An output of a call: where it stands, and where it is copied to.
+/// An output of a call: where it is, and where it is copied to.
 #[derive(Clone, Copy)]
 pub struct Copied {
     pub from: Slot,
@@ -92,7 +92,7 @@ pub enum Flat {
         outputs: Items<Copied>,
     },
     /// A call of a standard block (IEC 61131-3:2003, 2.5.2.3), with the base of its instance from that
-    /// of the frame. Its variables stand there in the order of its inputs, outputs and inner variables.
+    /// of the frame. Its variables are there in the order of its inputs, outputs and inner variables.
     CallStandard {
         condition: Condition,
         block: StandardBlock,
@@ -100,13 +100,13 @@ pub enum Flat {
         inputs: Items<Assignment>,
         outputs: Items<Copied>,
     },
-    /// A call of a standard function (2.5.1.5), with the operands behind the current result.
+    /// A call of a standard function (2.5.1.5), with the operands after the current result.
     Apply {
         function: StandardFunction,
         operands: Items<Operand>,
     },
-    /// A call of an own function (2.5.1): its unit, and its inputs behind the first, which is given the
-    /// current result. They stand in the function's frame, their operands in the frame that calls.
+    /// A call of an own function (2.5.1): its unit, and its inputs after the first, which is given the
+    /// current result. They are in the function's frame, their operands in the frame that calls.
     Invoke {
         unit: usize,
         inputs: Items<Assignment>,

@@ -1,4 +1,4 @@
-// How far the variables of units and the words of blocks stand from the first.
+// How far the variables of units and the words of blocks are from the first.
 
 ghost use Rattle.std.specs.Prelude.{◌≡◌, ◌++◌, IfOk, OnOk};
 ghost use Rattle.load_slots.specs.Making.{no_offsets, with_offset, with_offsets, offsets_of};
@@ -58,7 +58,7 @@ fn add_offsets(
     Ok(())
 }
 
-/// The offsets of the variables of two lists, one behind the other.
+/// The offsets of the variables of two lists, one after the other.
 #[tactic(auto, using(crate::proofs::Counted::offsets_twice))]
 pub fn offsets_of(
     alloc: Global,

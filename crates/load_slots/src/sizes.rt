@@ -125,7 +125,7 @@ fn are_same(first: &[usize], second: &[usize]) -> bool
     first == second
 }
 
-/// How many slots each own block takes: instances stand no deeper than 17 in one another.
+/// How many slots each own block takes: instances are no deeper than 17 in one another.
 pub(crate) fn block_sizes(
     alloc: Global,
     lists: &[Items<Variable>],

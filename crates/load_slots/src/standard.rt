@@ -18,7 +18,7 @@ fn is_word(name: &str, word: &str) -> bool
     name.len() == word.len() && name == word
 }
 
-// How far a word stands from the first of its block, where so many stand before these.
+// How far a word is from the first of its block, where so many come before these.
 fn place_behind(before: usize, words: &[BlockWord], name: &str) -> Option<usize>
     ensures { result ≡ option_map (λ k. capped (before + k))
         (place_from 0 (map (λ w. word_variable (word w)) words.now) name.now) }
@@ -31,7 +31,7 @@ fn place_behind(before: usize, words: &[BlockWord], name: &str) -> Option<usize>
     None
 }
 
-/// How far a word of a standard block stands from the first.
+/// How far a word of a standard block is from the first.
 pub fn standard_offset(block: StandardBlock, word: &str) -> Option<usize>
     ensures { result ≡ standard_offset block word.now }
 {

@@ -289,7 +289,7 @@ pub fn global_variables(alloc: Global, names: &Scoped) -> Result<Items<Variable>
     Ok(list)
 }
 
-/// A function's variables, its result behind them.
+/// A function's variables, its result after them.
 #[tactic(auto, using(crate::proofs::Seen::function_added))]
 pub fn function_variables(
     alloc: Global,

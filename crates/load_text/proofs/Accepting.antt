@@ -44,7 +44,7 @@ breaks {X} Breaks e (Err (Fault number place)) same h refused none = at (subst (
     at first = none number place first.broken
 breaks {X} Breaks e (Err Memory) same h refused none = absurd h
 
--- the same of an answer as it stands
+-- the same of an answer as it is
 pub breaks_here : {X : Type 0} (Breaks : ℕ → Place → Type 0) (r : Result X Refusal) → IsFault r → IfErr r (IsRefusedBy Breaks) → HasNoFault Breaks → ⊥
 breaks_here Breaks (Ok x) h refused none = absurd h
 breaks_here Breaks (Err (Fault number place)) h first none = none number place first.broken

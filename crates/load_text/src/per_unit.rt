@@ -27,7 +27,7 @@ pub fn unit_faults(alloc: Global, text: &[u8]) -> Result<Vec<UnitFault>, AllocEr
     }
 }
 
-// The same of the configuration that a text spells.
+// The faults of each unit of the configuration that a text spells.
 fn faults_of(alloc: Global, config: Written) -> Result<Vec<UnitFault>, AllocError>
     ensures { IfOk result (λ faults. AreUnitFaults config faults.items) }
 {

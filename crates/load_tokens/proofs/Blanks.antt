@@ -1,4 +1,4 @@
--- Blanks: where they stand, that no two begin at one place, and that no token begins where a blank does.
+-- Blanks: where they are, that no two begin at one place, and that no token begins where a blank does.
 use Rattle.std.proofs.Common.{◌≡◌, ℕ, ◌+◌, ◌-◌, ◌<◌, ◌≤◌, Bool, true, List, length, arith, sym, ap, refl, ◌∙◌, inl, inr, None}
 use Rattle.std.specs.Prelude.{◌==◌, ◌||◌, ◌&&◌, not}
 use Rattle.std.proofs.str.Laws.{order}
@@ -55,7 +55,7 @@ pub no_lexeme_at_blank : (text : List ℕ) (i k : ℕ) → IsBlank text i k → 
 no_lexeme_at_blank text i k (inl h) kind j l = no_lexeme_at_space text i h.1 kind j l
 no_lexeme_at_blank text i k (inr h) kind j l = no_lexeme_at_comment text i h.opening kind j l
 
--- a blank is not empty, and stands within the text
+-- a blank is not empty, and is within the text
 pub blank_within : (text : List ℕ) (i j : ℕ) → IsBlank text i j → (i < j) × (j ≤ length text)
 blank_within text i j (inl h) =
     let inside : i < length text = elim (order i (length text)) as (λ _. i < length text) [

@@ -72,7 +72,7 @@ module _ (unit : List ℕ) (milliseconds : ℕ) (units : List (List ℕ × ℕ))
   same_letters : l ≡ prefix_len is_ascii_alphabetic (upper_case behind)
   same_letters = letters ∙ sym (run_stays is_ascii_alphabetic letter_stays behind)
 
-  -- the part of a unit that stands at the front, in whatever letter case
+  -- the part of a unit that is at the front, in whatever letter case
   pub upper_stands : 0 < d → l ≤ length behind → bytes_eq (upper_case (take l behind)) unit ≡ true
       → parts_value ((unit, milliseconds) ∷ units) (upper_case bytes) ≡ option_map (λ n. digits_value 10 (take d bytes) * milliseconds + n) (parts_value units (upper_case (drop l behind)))
   upper_stands some fits same =
@@ -81,7 +81,7 @@ module _ (unit : List ℕ) (milliseconds : ℕ) (units : List (List ℕ × ℕ))
       part_stands unit milliseconds units (upper_case bytes) (upper_case behind) d l same_digits some same_after same_letters (omega (arith, fits, length-map behind to_ascii_uppercase)) taken
       ∙ ap₂ (λ xs ys. option_map (λ n. digits_value 10 xs * milliseconds + n) (parts_value units ys)) kept (drop-map to_ascii_uppercase l behind)
 
-  -- where another part stands, or none
+  -- where another part is, or none
   pub upper_missing : (0 < d → bytes_eq (upper_case (take l behind)) unit ≡ false)
       → parts_value ((unit, milliseconds) ∷ units) (upper_case bytes) ≡ option_map (λ n. 0 * milliseconds + n) (parts_value units (upper_case bytes))
   upper_missing other =

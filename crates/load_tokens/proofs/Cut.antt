@@ -22,7 +22,7 @@ starts_unique text at t u h g =
     (λ k b. no_lexeme_at_blank text t.start k b t.kind t.end h.lexeme)
     (λ k b. no_lexeme_at_blank text u.start k b u.kind u.end g.lexeme)
 
--- where nothing but blanks stands up to the end, there is no token
+-- where nothing but blanks is up to the end, there is no token
 no_token : (text : List ℕ) (at : ℕ) (t : Token) → AreBlank text at (length text) → IsToken text at t → ⊥
 no_token text at t h g =
     let same : length text ≡ t.start = gap_unique text h.0 g.gap.0 at (length text) t.start h.1 g.gap.1

@@ -33,7 +33,7 @@ part_is unit milliseconds units bytes d stands is test =
     let long : length (take (prefix_len is_ascii_digit bytes) bytes) ≡ d = length-prefix_len is_ascii_digit bytes ∙ sym is in
     rw (long, sym is, test) refl
 
--- the part of a unit that stands at the front
+-- the part of a unit that is at the front
 pub part_stands : (unit : List ℕ) (milliseconds : ℕ) (units : List (List ℕ × ℕ)) (bytes behind : List ℕ) (d l : ℕ) → d ≡ prefix_len is_ascii_digit bytes → 0 < d
     → behind ≡ drop d bytes → l ≡ prefix_len is_ascii_alphabetic behind → l ≤ length behind → bytes_eq (take l behind) unit ≡ true
     → parts_value ((unit, milliseconds) ∷ units) bytes ≡ option_map (λ n. digits_value 10 (take d bytes) * milliseconds + n) (parts_value units (drop l behind))
@@ -44,7 +44,7 @@ part_stands unit milliseconds units bytes behind d l is some after letters fits 
     let long : l ≡ length unit = sym (length-take-le l behind fits) ∙ ap length ((bytes_eq-Decides (take l behind) unit).0 same) in
     part_is unit milliseconds units bytes d true is test ∙ rw (sym long, sym after) refl
 
--- where another part stands, or none
+-- where another part is, or none
 pub part_missing : (unit : List ℕ) (milliseconds : ℕ) (units : List (List ℕ × ℕ)) (bytes behind : List ℕ) (d l : ℕ) → d ≡ prefix_len is_ascii_digit bytes
     → behind ≡ drop d bytes → l ≡ prefix_len is_ascii_alphabetic behind → (0 < d → bytes_eq (take l behind) unit ≡ false)
     → parts_value ((unit, milliseconds) ∷ units) bytes ≡ option_map (λ n. 0 * milliseconds + n) (parts_value units bytes)
@@ -73,13 +73,13 @@ module _ (a b c d e f : List ℕ) (v w x y z : ℕ)
   five_parts =
       days _ ∙ ap (option_map (λ n. v * 86400000 + n)) (hours _ ∙ ap (option_map (λ n. w * 3600000 + n)) (minutes _ ∙ ap (option_map (λ n. x * 60000 + n)) (seconds _ ∙ ap (option_map (λ n. y * 1000 + n)) (rest _))))
 
-  -- the whole of five parts with nothing behind them
+  -- the whole of five parts with nothing after them
   pub whole : (length f == 0) ≡ true → parts_value duration_units a ≡ Some (v * 86400000 + (w * 3600000 + (x * 60000 + (y * 1000 + (z * 1 + 0)))))
   unfolding parts_value
   whole h =
       five_parts ∙ ap (λ t. option_map (λ n. v * 86400000 + n) (option_map (λ n. w * 3600000 + n) (option_map (λ n. x * 60000 + n) (option_map (λ n. y * 1000 + n) (option_map (λ n. z * 1 + n) (if t then Some 0 else None)))))) h
 
-  -- with something behind them
+  -- with something after them
   pub no_whole : (length f == 0) ≡ false → parts_value duration_units a ≡ None
   unfolding parts_value
   no_whole h =
@@ -106,7 +106,7 @@ uncapped x unit a one is fits = elim (order x 2147483648) [
       absurd (omega (arith, p, q))
 ]
 
--- a part is at most what it stands for
+-- a part is at most what it means
 at_most : (x unit a : ℕ) → a ≡ min x 2147483648 * unit → a ≤ x * unit
 at_most x unit a is =
     let p : min x 2147483648 * unit ≤ x * unit = mul-le-mul_right unit (min-le_left x 2147483648) in

@@ -19,14 +19,14 @@ pub typed_duration : (word bytes : List ℕ) → entry_of duration_words word �
 typed_duration word bytes h =
     ap (λ o. error_behind o (entry_of duration_words word) bytes) (no_type word h) ∙ ap (λ o. error_behind None o bytes) h
 
--- `#` behind a word
+-- `#` after a word
 pub literal_error : (text : List ℕ) (i k j : ℕ) → begins_word (byte_at text i) ≡ true → k ≡ run_end is_word_byte text i → byte_at text k ≡ 35
     → j ≡ run_end is_literal_byte text (after_minus text (k + 1)) → typed_error (upper_case (slice_range text i k)) (slice_range text (k + 1) j) ≡ lexeme_error text i
 literal_error text i k j begins run hashed end =
     let test : (byte_at text (run_end is_word_byte text i) == hash) ≡ true = ap (λ x. byte_at text x == hash) (sym run) ∙ ap (λ b. b == hash) hashed in
     rw (begins, test, end, run) refl
 
--- where a comment opens and none stands, nothing begins
+-- where a comment opens and none is, nothing begins
 pub no_piece_at_comment : (text : List ℕ) (i : ℕ) → opens_comment text i ≡ true → ((end : ℕ) → IsComment text i end → ⊥) → HasNoPiece text i
 no_piece_at_comment text i o none Blank j (inl h) = space_is_no_comment text i h.1 o
 no_piece_at_comment text i o none Blank j (inr h) = none j h

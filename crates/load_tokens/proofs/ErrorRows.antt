@@ -89,7 +89,7 @@ thirty_three = refl
 
 -- COMMENTS
 
--- whether no `*)` stands at any of n places from i on
+-- whether no `*)` is at any of n places from i on
 is_open : List ℕ → ℕ → ℕ → Bool
 is_open text i zero = true
 is_open text i (suc n) = not (closes_comment text i) && is_open text (i + 1) n
@@ -111,7 +111,7 @@ never_closed text i (suc n) enough h k low = elim (cases_order k i) as (λ _. cl
   | inr (inr more) ↦ never_closed text (i + 1) n (omega (arith, enough)) (right (closes_comment text i) (is_open text (i + 1) n) h) k (omega (arith, more))
 ]
 
--- whether n places from i on stand in a comment
+-- whether n places from i on are in a comment
 is_inside_for : List ℕ → ℕ → ℕ → Bool
 is_inside_for text i zero = true
 is_inside_for text i (suc n) = not (not (is_inside_comment text i)) && is_inside_for text (i + 1) n
@@ -156,7 +156,7 @@ nested_comment : IsCommentError (codes "(* (* *)") 0 OpenComment 3
 unfolding is_inside_for
 nested_comment = inr (refl, inside_end (codes "(* (* *)") 2 1 refl refl, (6, omega arith, refl))
 
--- a bad byte in a comment that is closed: 1, where it stands
+-- a bad byte in a comment that is closed: 1, where it is
 bad_byte_in_comment : IsCommentError (40 ∷ 42 ∷ 32 ∷ 7 ∷ 42 ∷ 41 ∷ []) 0 BadByte 3
 unfolding is_inside_for
 bad_byte_in_comment = inr (refl, inside_end (40 ∷ 42 ∷ 32 ∷ 7 ∷ 42 ∷ 41 ∷ []) 2 1 refl refl, (4, omega arith, refl))
@@ -196,7 +196,7 @@ first_byte = record {
   is_line = refl;
 }
 
--- `LD @`: behind a token and a blank, in the same line
+-- `LD @`: after a token and a blank, in the same line
 behind_a_word : IsFirstError (codes "LD @") 1 (at 3 1)
 unfolding run_end is_identifier is_grouped_after
 behind_a_word = record {

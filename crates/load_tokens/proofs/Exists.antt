@@ -109,7 +109,7 @@ ends_there text i stop e end h =
       | inr (inr more) ↦ let bad : true ≡ false = sym (h.inside stop end.0 (omega arith)) ∙ end.2 in absurd cc
     ]
 
--- a comment that opens: it stands there, or it is wrong
+-- a comment that opens: it is there, or it is wrong
 comment_or_error : (text : List ℕ) (i : ℕ) → opens_comment text i ≡ true → ((e : ℕ) × IsComment text i e) ⊎ (((e : ℕ) → IsComment text i e → ⊥) × ((error : LexicalError) × ((place : ℕ) × IsCommentError text i error place)))
 comment_or_error text i o = decide (closes_comment text stop.0) refl
   where
@@ -156,7 +156,7 @@ MayBegin text i = ((s : Sign) × ((j : ℕ) × IsLexeme text (Signed s) i j)) �
 no_sign : (text : List ℕ) (i : ℕ) → sign_from (byte_at text i) (byte_at text (i + 1)) ≡ None → MayBegin text i
 no_sign text i none = inr (λ s j h. let e : None ≡ Some s = sym none ∙ sign_is text s i j h in cc)
 
--- whether a sign stands there
+-- whether a sign is there
 sign_or : (text : List ℕ) (i : ℕ) → MayBegin text i
 sign_or text i = elim (cases_eq (byte_at text i) 58) [
   | inl is ↦ elim (cases_eq (byte_at text (i + 1)) 61) [
@@ -253,7 +253,7 @@ duration_word word x h = first (bytes_eq word (codes "T")) (bytes_eq word (codes
     first false true h = cc
     first false false h = absurd cc
 
--- whether `#` behind a word writes a literal
+-- whether `#` after a word writes a literal
 typed_or : (word bytes : List ℕ) → ((l : Literal) × IsTyped word bytes l) ⊎ ((l : Literal) → IsTyped word bytes l → ⊥)
 typed_or word bytes = whole (entry_of whole_type_words word) refl (entry_of duration_words word) refl
   where
@@ -294,7 +294,7 @@ nothing text i no_comment no_space none (Token kind) j h = none kind j h
 abbrev AToken : List ℕ → ℕ → Type 0
 AToken text i = ((kind : Kind) × ((j : ℕ) × IsLexeme text kind i j)) ⊎ HasNoLexeme text i
 
--- whether a word or a typed literal stands where one begins
+-- whether a word or a typed literal is where one begins
 word_or : (text : List ℕ) (i : ℕ) → begins_word (byte_at text i) ≡ true → AToken text i
 word_or text i begins = go (cases_Bool (byte_at text (run_end is_word_byte text i) == hash))
   where
@@ -324,7 +324,7 @@ word_or text i begins = go (cases_Bool (byte_at text (run_end is_word_byte text 
     go (inl yes_hash) = typed_there (is_hash _ yes_hash) (typed_or _ _)
     go (inr no_hash) = plain no_hash
 
--- whether a token stands there
+-- whether a token is there
 lexeme_or : (text : List ℕ) (i : ℕ) → AToken text i
 lexeme_or text i = elim (cases_Bool (begins_word (byte_at text i))) [
   | inl word ↦ word_or text i word
@@ -343,7 +343,7 @@ lexeme_or text i = elim (cases_Bool (begins_word (byte_at text i))) [
   ]
 ]
 
--- whether a piece stands there, and else what is wrong
+-- whether a piece is there, and else what is wrong
 piece_or : (text : List ℕ) (i : ℕ) → ((piece : Piece) × ((j : ℕ) × IsPiece text piece i j)) ⊎ (HasNoPiece text i × ((error : LexicalError) × ((place : ℕ) × IsErrorAt text i error place)))
 piece_or text i = elim (cases_Bool (opens_comment text i)) [
   | inl opens ↦ elim (comment_or_error text i opens) [

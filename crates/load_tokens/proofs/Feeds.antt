@@ -15,7 +15,7 @@ use Rattle.load_tokens.proofs.Blanks.{opened, closed}
 use Rattle.load_tokens.proofs.Lexemes.{lexeme_within}
 use Rattle.load_tokens.proofs.Places.{in_text, slice_one, slice_two}
 
--- no line feed stands from i up to j
+-- no line feed is from i up to j
 abbrev HasNoFeed : List ℕ → ℕ → ℕ → Type 0
 HasNoFeed text i j = (k : ℕ) → i ≤ k → k < j → (byte_at text k == 10) ≡ false
 

@@ -17,7 +17,7 @@ use Rattle.load_tokens.proofs.Blanks.{no_lexeme_at_blank, no_blank_at_end}
 use Rattle.load_tokens.specs.Pieces.{HasNoPiece}
 use Rattle.load_tokens.specs.LexicalErrors.{AreTokensTo, IsInsideEnd, IsNeverClosed, IsCommentError, IsErrorAt, IsFirstError, IsFaultOfText, number_of_error, place_at}
 
--- a blank more behind blanks
+-- a blank more after blanks
 blanks_on : (text es : List ℕ) (i j k : ℕ) → AreBlanks text es i j → IsBlank text j k → AreBlanks text (es ++ k ∷ []) i k
 blanks_on text [] i j k h b = (subst (λ x. IsBlank text x k) (sym h) b, refl)
 blanks_on text (e ∷ es) i j k h b = (h.0, blanks_on text es e j k h.1 b)
@@ -30,11 +30,11 @@ to_token : (text : List ℕ) (at : ℕ) (t : Tok) (ts : List Tok) → AreTokensT
 to_token text at t [] h l e = (record { gap = h; lexeme = l; line = e }, ([], refl))
 to_token text at t (u ∷ ts) h l e = (h.0, to_token text u.end t ts h.1 l e)
 
--- behind a blank
+-- after a blank
 pub done_blank : (text : List ℕ) (at k : ℕ) (out : List Tok) → IsBlank text at k → AreTokensTo text 0 out at → AreTokensTo text 0 out k
 done_blank text at k out b h = to_blank text 0 at k out h b
 
--- behind a token
+-- after a token
 pub done_token : (text : List ℕ) (t : Tok) (out : List Tok) → IsLexeme text t.kind t.start t.end → t.line ≡ line_at text t.start → AreTokensTo text 0 out t.start → AreTokensTo text 0 (out ++ t ∷ []) t.end
 done_token text t out l e h = to_token text 0 t out h l e
 

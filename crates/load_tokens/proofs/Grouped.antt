@@ -17,7 +17,7 @@ is_underscore b e = grind (arith, nat_tests)
 pub is_no_underscore : (b : ℕ) → b ≢ 95 → (b == 95) ≡ false
 is_no_underscore b e = grind (arith, nat_tests)
 
--- behind an underscore that stands behind a byte that passes
+-- after an underscore that follows a byte that passes
 pub grouped_gap : (test : ℕ → Bool) (bs : List ℕ) (i : ℕ) → i < length bs → get_or bs i 0 ≡ 95
     → is_grouped_after test true (drop i bs) ≡ is_grouped_after test false (drop (i + 1) bs)
 grouped_gap test bs i h e = grouped_more test true bs i h ∙ rw (is_underscore (get_or bs i 0) e) refl
@@ -27,7 +27,7 @@ pub grouped_bad_gap : (test : ℕ → Bool) (bs : List ℕ) (i : ℕ) → i < le
     → is_grouped_after test false (drop i bs) ≡ false
 grouped_bad_gap test bs i h e = grouped_more test false bs i h ∙ rw (is_underscore (get_or bs i 0) e) refl
 
--- behind a byte that passes
+-- after a byte that passes
 pub grouped_pass : (test : ℕ → Bool) (inside : Bool) (bs : List ℕ) (i : ℕ) → i < length bs → get_or bs i 0 ≢ 95 → test (get_or bs i 0) ≡ true
     → is_grouped_after test inside (drop i bs) ≡ is_grouped_after test true (drop (i + 1) bs)
 grouped_pass test inside bs i h e p = grouped_more test inside bs i h ∙ rw (is_no_underscore (get_or bs i 0) e, p) refl

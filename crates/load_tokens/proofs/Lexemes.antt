@@ -1,4 +1,4 @@
--- Tokens by themselves: where they stand, and that no two begin at one place.
+-- Tokens by themselves: where they are, and that no two begin at one place.
 use Rattle.std.proofs.Common.{◌≡◌, ℕ, ℤ, ◌+◌, ◌<◌, ◌≤◌, Bool, true, false, List, length, arith, sym, ap, refl, subst, ◌∙◌, ◌⊎◌, inl, inr, Some, None}
 use Rattle.std.specs.Prelude.{◌==◌, slice_range}
 use Rattle.std.specs.Char.{is_ascii_digit}
@@ -53,7 +53,7 @@ lexeme_rank text (Signed sign) i j h = sign_rank text sign i j h
 lexeme_rank text LineEnd i j (inl h) = ap rank h.1
 lexeme_rank text LineEnd i j (inr h) = ap rank h.1
 
--- a token is not empty, and stands within the text
+-- a token is not empty, and is within the text
 pub lexeme_within : (text : List ℕ) (kind : Kind) (i j : ℕ) → IsLexeme text kind i j → (i < j) × (j ≤ length text)
 lexeme_within text Word i j h =
     let inside : i < length text = passes_in_text begins_word text i refl h.0 in
@@ -178,7 +178,7 @@ same_rank text LineEnd (Signed t) i j m r h g = absurd (omega (arith, r))
 pub lexeme_unique : (text : List ℕ) (k l : Kind) (i j m : ℕ) → IsLexeme text k i j → IsLexeme text l i m → (k ≡ l) × (j ≡ m)
 lexeme_unique text k l i j m h g = same_rank text k l i j m (ranks text k l i j m h g) h g
 
--- where a word byte stands, no token begins but a word or a typed literal
+-- where a word byte is, no token begins but a word or a typed literal
 pub only_words : (text : List ℕ) (i : ℕ) → begins_word (byte_at text i) ≡ true → ((j : ℕ) → IsLexeme text Word i j → ⊥) → ((l : Literal) (j : ℕ) → IsLexeme text (Typed l) i j → ⊥)
     → (kind : Kind) (j : ℕ) → IsLexeme text kind i j → ⊥
 only_words text i b no_word no_literal Word j h = no_word j h

@@ -60,7 +60,7 @@ no_duration word bytes begins none (Time v) h = none v h.1 h.2
 no_duration word bytes begins none (Truth v) h = h
 no_duration word bytes begins none (Bare v) h = h
 
--- where no typed literal can be read, none stands
+-- where no typed literal can be read, none is
 pub no_typed_lexeme : (text : List ℕ) (i k j : ℕ) → k ≡ run_end is_word_byte text i → j ≡ run_end is_literal_byte text (after_minus text (k + 1))
     → ((l : Literal) → IsTyped (upper_case (slice_range text i k)) (slice_range text (k + 1) j) l → ⊥) → (l : Literal) (m : ℕ) → IsLexeme text (Typed l) i m → ⊥
 no_typed_lexeme text i k j run end none l m h =

@@ -67,7 +67,7 @@ is_minus b h = grind (arith, nat_tests)
 is_no_minus : (b : ℕ) → b ≢ 45 → (b == minus) ≡ false
 is_no_minus b h = grind (arith, nat_tests)
 
--- a number behind a minus
+-- a number after a minus
 pub negative : (bytes : List ℕ) → byte_at bytes 0 ≡ 45 → number_value bytes ≡ option_map (λ n. neg_ℤ (pos n)) (based_value 10 (drop 1 bytes))
 unfolding number_value
 negative bytes h = ap (λ t. if t then option_map (λ n. neg_ℤ (pos n)) (based_value 10 (drop 1 bytes)) else option_map pos (magnitude bytes)) (is_minus (byte_at bytes 0) h)
@@ -77,7 +77,7 @@ pub positive : (bytes : List ℕ) → byte_at bytes 0 ≢ 45 → number_value by
 unfolding number_value
 positive bytes h = ap (λ t. if t then option_map (λ n. neg_ℤ (pos n)) (based_value 10 (drop 1 bytes)) else option_map pos (magnitude bytes)) (is_no_minus (byte_at bytes 0) h)
 
--- a number behind a minus that is too large
+-- a number after a minus that is too large
 pub negative_large : (bytes : List ℕ) → byte_at bytes 0 ≡ 45 → ((n : ℕ) → based_value 10 (drop 1 bytes) ≡ Some n → 4294967295 < n)
     → (v : ℤ) → number_value bytes ≡ Some v → 4294967295 < nat_abs v
 negative_large bytes h large v is =

@@ -1,4 +1,4 @@
--- Places of a text, and the bytes that stand there.
+-- Places of a text, and the bytes that are there.
 use Rattle.std.proofs.Common.{◌≡◌, ◌≢◌, ℕ, suc, ◌+◌, ◌-◌, ◌<◌, ◌≤◌, Bool, true, false, List, [], ◌∷◌, length, get_or, take, drop, arith, sym, ap, ◌∙◌, ◌⊎◌, inl, inr, cond, length-take, length-drop, get_or-take, get_or-drop, drop-cons}
 use Rattle.std.specs.Prelude.{◌==◌, slice_range, count_by}
 use Rattle.std.proofs.str.Laws.{order}
@@ -8,7 +8,7 @@ use Rattle.std.proofs.lemmas.List.Sums.{prefix_len-le-length, sum_by-append}
 use Rattle.il_syntax.proofs.TextLemmas.{run_end-goes}
 use Rattle.il_syntax.specs.Text.{byte_at, run_end, after_minus, line_at, minus}
 
--- where a byte other than 0 stands, the text has not ended
+-- where a byte other than 0 is, the text has not ended
 pub in_text : (text : List ℕ) (i b : ℕ) → byte_at text i ≡ b → b ≢ 0 → i < length text
 in_text text i b is some = elim (order i (length text)) as (λ _. i < length text) [
   | inl up ↦ omega arith
@@ -38,11 +38,11 @@ run_within test text i h = omega (arith, prefix_len-le-length test (drop i text)
 pub run_some : (test : ℕ → Bool) (text : List ℕ) (i : ℕ) → i < length text → test (byte_at text i) ≡ true → i < run_end test text i
 run_some test text i h passes = omega (arith, run_end-goes test text i h passes, run_from test text (i + 1))
 
--- behind a minus, or at the place itself
+-- after a minus, or at the place itself
 pub minus_from : (text : List ℕ) (i : ℕ) → i ≤ after_minus text i
 minus_from text i = grind arith
 
--- a minus stands within the text
+-- a minus is within the text
 pub minus_within : (text : List ℕ) (i : ℕ) → i ≤ length text → after_minus text i ≤ length text
 minus_within text i h = elim (order i (length text)) [
   | inl up ↦ grind arith

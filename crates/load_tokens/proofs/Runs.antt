@@ -13,16 +13,16 @@ use Rattle.il_syntax.specs.Text.{byte_at, is_word_byte, run_end, is_grouped_afte
 use Rattle.load_tokens.specs.Lanes.{AllPassBetween, is_plain}
 use Rattle.load_tokens.proofs.Grouped.{is_no_underscore}
 
--- one run behind another
+-- one run after another
 pub pass_on : (test : ℕ → Bool) (text : List ℕ) (i j m : ℕ) → AllPassBetween test text i j → AllPassBetween test text j m → AllPassBetween test text i m
 pass_on test text i j m front back k from to = elim (cases_lt k j) [ inl early ↦ front k from early | inr late ↦ back k late to ]
 
--- a plain byte stands inside of a comment
+-- a plain byte is inside of a comment
 pub plain_inside : (text : List ℕ) (k : ℕ) → is_plain (byte_at text k) ≡ true
     → (is_text_byte text k && (not (opens_comment text k) && not (closes_comment text k))) ≡ true
 plain_inside text k h = grind (arith, nat_tests)
 
--- a run ends where it ends behind some of its bytes
+-- a run ends where it ends after some of its bytes
 pub run_on : (test : ℕ → Bool) (text : List ℕ) (i n : ℕ) → i + n ≤ length text → AllPassBetween test text i (i + n) → run_end test text i ≡ run_end test text (i + n)
 run_on test text i zero fits pass = ap (run_end test text) (omega arith)
 run_on test text i (suc n) fits pass =
@@ -43,7 +43,7 @@ words_pass text i j pass k from to = ap (λ b. b || byte_at text k == 95) (pass 
 no_underscore : (b : ℕ) → is_ascii_alphanumeric b ≡ true → b ≢ 95
 no_underscore b h e = let bad : false ≡ true = ap is_ascii_alphanumeric (sym e) ∙ h in cc
 
--- letters and digits stand alone, with no underscore between them
+-- letters and digits are alone, with no underscore between them
 abbrev IsPlainWord : List ℕ → Type 0
 IsPlainWord bs = (k : ℕ) → k < length bs → is_ascii_alphanumeric (get_or bs k 0) ≡ true
 

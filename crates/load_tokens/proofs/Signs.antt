@@ -84,7 +84,7 @@ sign_length Arrow = omega arith
 sign_length Range = omega arith
 sign_length _ = omega arith
 
--- a sign stands within the text
+-- a sign is within the text
 pub sign_within : (text : List ℕ) (s : Sign) (i j : ℕ) → IsLexeme text (Signed s) i j → (i < j) × (j ≤ length text)
 sign_within text s i j h =
     let n : ℕ = length (sign_bytes s) in

@@ -27,12 +27,12 @@ before_blank : (text : List ℕ) (at k : ℕ) (ts : List Token) → IsBlank text
 before_blank text at k [] blank h = (k ∷ h.0, (blank, h.1))
 before_blank text at k (t ∷ ts) blank h = (record { gap = (k ∷ h.0.gap.0, (blank, h.0.gap.1)); lexeme = h.0.lexeme; line = h.0.line }, h.1)
 
--- the blanks behind the first
+-- the blanks after the first
 after_first : (text : List ℕ) (at k j : ℕ) (es : List ℕ) → IsBlank text at k → AreBlanks text es at j → at ≢ j → AreBlank text k j
 after_first text at k j [] blank h other = absurd (other h)
 after_first text at k j (e ∷ es) blank h other = (es, subst (λ x. AreBlanks text es x j) (blank_unique text at e k h.0 blank) h.1)
 
--- tokens from behind a blank on
+-- tokens from after a blank on
 after_blank : (text : List ℕ) (at k : ℕ) (ts : List Token) → IsBlank text at k → AreTokens text at ts → AreTokens text k ts
 after_blank text at k [] blank h =
     after_first text at k (length text) h.0 blank h.1 (λ e. let within = blank_within text at k blank in omega (arith, e, within.0, within.1))
@@ -45,12 +45,12 @@ after_blank text at k (t ∷ ts) blank h = (
   h.1,
 )
 
--- no blank stands where a token begins
+-- no blank is where a token begins
 no_gap : (text : List ℕ) (kind : Kind) (at end j : ℕ) (es : List ℕ) → IsLexeme text kind at end → AreBlanks text es at j → at ≡ j
 no_gap text kind at end j [] l h = h
 no_gap text kind at end j (e ∷ es) l h = absurd (no_lexeme_at_blank text at e h.0 kind end l)
 
--- tokens from behind a token on
+-- tokens from after a token on
 after_token : (text : List ℕ) (kind : Kind) (at end : ℕ) (ts : List Token) → IsLexeme text kind at end → AreTokens text at ts → (us : List Token) × AreTokens text end us
 after_token text kind at end [] l h =
     let e : at ≡ length text = no_gap text kind at end (length text) h.0 l h.1 in
@@ -61,14 +61,14 @@ after_token text kind at end (t ∷ ts) l h =
     let same = lexeme_unique text kind t.kind t.start end t.end (subst (λ x. IsLexeme text kind x end) e l) h.0.lexeme in
     (ts, subst (λ x. AreTokens text x ts) (sym same.1) h.1)
 
--- behind a blank
+-- after a blank
 pub read_blank : (text : List ℕ) (at k : ℕ) (out : List Token) → IsBlank text at k → Read text at out → Read text k out
 read_blank text at k out blank r = record {
   more = λ ts h. r.more ts (before_blank text at k ts blank h);
   rest = λ all h. let found = r.rest all h in (found.0, after_blank text at k found.0 blank found.1);
 }
 
--- behind a token
+-- after a token
 pub read_token : (text : List ℕ) (t : Token) (out : List Token) → IsLexeme text t.kind t.start t.end → t.line ≡ line_at text t.start → Read text t.start out → Read text t.end (out ++ t ∷ [])
 read_token text t out lexeme line r = record {
   more = λ ts h. rw append_assoc (r.more (t ∷ ts) (record { gap = ([], refl); lexeme = lexeme; line = line }, h));
@@ -79,7 +79,7 @@ read_token text t out lexeme line r = record {
 pub read_all : (text : List ℕ) (at : ℕ) (out : List Token) → at ≡ length text → Read text at out → AreTokens text 0 out
 read_all text at out end r = rw (← append-nil out) (r.more [] ([], end))
 
--- where no blank begins, none stands
+-- where no blank begins, none is
 no_blank_here : (text : List ℕ) (at j : ℕ) (es : List ℕ) → HasNoPiece text at → AreBlanks text es at j → at ≡ j
 no_blank_here text at j [] none h = h
 no_blank_here text at j (e ∷ es) none h = absurd (none Blank e h.0)
@@ -99,7 +99,7 @@ stuck text at out below none r all h = let found = r.rest all h in no_rest text 
 pub line_small : (text : List ℕ) (i : ℕ) → line_at text i ≤ length text + 1
 line_small text i = omega (arith, count_by-le-length (λ b. b == 10) (take i text), length-take i text)
 
--- a token is not empty, and stands within the text
+-- a token is not empty, and is within the text
 pub token_within : (text : List ℕ) (at : ℕ) (t : Token) → IsToken text at t → (t.start < t.end) × (t.end ≤ length text)
 token_within text at t h = lexeme_within text t.kind t.start t.end h.lexeme
 

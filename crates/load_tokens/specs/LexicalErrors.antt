@@ -3,10 +3,10 @@
 -- From the front a text is read as tokens with blanks between them. Where it has no tokens, this comes to a place
 -- before its end at which neither a token nor a blank begins. What begins there instead says the fault's number:
 --   1 a byte that begins nothing, or that no text has, in a comment;
---   2 `(*` that no `*)` follows, or that stands in a comment;
+--   2 `(*` that no `*)` follows, or that is in a comment;
 --   3 a number or a typed literal that is not well formed; 4 one whose value is too large;
 --   5 a word that is no identifier or has more than 32 characters.
--- The fault is named at that place; but where a comment has a `*)`, at the first byte in it that may not stand there.
+-- The fault is named at that place; but where a comment has a `*)`, at the first byte in it that may not be there.
 use Rattle.std.specs.Prelude.{◌≡◌, ℕ, ◌+◌, ◌<◌, ◌≤◌, not, ◌&&◌, Bool, ◌⊎◌, ◌==◌, if◌then◌else◌, IsTrue, IsFalse, List, [], ◌∷◌, length, slice_range, Option, Some, None}
 use Rattle.std.specs.Char.{is_ascii_digit}
 use Rattle.il_syntax.specs.declared.token.Token.{Token}
@@ -32,7 +32,7 @@ abbrev pub form_or_size : {A : Type 0} → Option A → LexicalError
 form_or_size None = BadNumber
 form_or_size (Some value) = NumberTooLarge
 
--- what is wrong with bytes behind the `#` of a whole type, of a duration, or of neither
+-- what is wrong with bytes after the `#` of a whole type, of a duration, or of neither
 abbrev pub error_behind : Option Elementary → Option Elementary → List ℕ → LexicalError
 error_behind (Some whole) duration bytes = form_or_size (number_value bytes)
 error_behind None (Some duration) bytes = form_or_size (duration_value bytes)
@@ -52,19 +52,19 @@ lexeme_error text i =
     else if is_ascii_digit (byte_at text (after_minus text i)) then form_or_size (number_value (slice_range text i (run_end is_literal_byte text (after_minus text i))))
     else BadByte
 
--- whether a byte may stand in a comment, and neither `(*` nor `*)` begins with it
+-- whether a byte may be in a comment, and neither `(*` nor `*)` begins with it
 abbrev pub is_inside_comment : List ℕ → ℕ → Bool
 is_inside_comment text k = is_text_byte text k && (not (opens_comment text k) && not (closes_comment text k))
 
--- no `*)` stands from i on
+-- no `*)` is from i on
 abbrev pub IsNeverClosed : List ℕ → ℕ → Type 0
 IsNeverClosed text i = (k : ℕ) → i ≤ k → IsFalse (closes_comment text k)
 
--- the first place from i on at which something else stands than the inside of a comment
+-- the first place from i on at which something else is than the inside of a comment
 abbrev pub IsInsideEnd : List ℕ → ℕ → ℕ → Type 0
 IsInsideEnd text i stop = (i ≤ stop) × ((k : ℕ) → i ≤ k → k < stop → IsTrue (is_inside_comment text k)) × IsFalse (is_inside_comment text stop)
 
--- what is wrong, and where, with a comment that opens at i: it is never closed, or else a byte in it may not stand there
+-- what is wrong, and where, with a comment that opens at i: it is never closed, or else a byte in it may not be there
 abbrev pub IsCommentError : List ℕ → ℕ → LexicalError → ℕ → Type 0
 IsCommentError text i error place =
     ((error ≡ OpenComment) × (place ≡ i) × IsNeverClosed text (i + 2))
@@ -75,7 +75,7 @@ abbrev pub IsErrorAt : List ℕ → ℕ → LexicalError → ℕ → Type 0
 IsErrorAt text i error place =
     (IsTrue (opens_comment text i) × IsCommentError text i error place) ⊎ (IsFalse (opens_comment text i) × (error ≡ lexeme_error text i) × (place ≡ i))
 
--- from a place on, the text is these tokens, with blanks between them and behind them, up to the end
+-- from a place on, the text is these tokens, with blanks between them and after them, up to the end
 abbrev pub AreTokensTo : List ℕ → ℕ → List Token → ℕ → Type 0
 AreTokensTo text at [] end = AreBlank text at end
 AreTokensTo text at (t ∷ ts) end = IsToken text at t × AreTokensTo text t.end ts end
@@ -100,7 +100,7 @@ the_start = record { offset = 0; line = 1 }
 abbrev pub place_at : List ℕ → ℕ → Place
 place_at text i = record { offset = i; line = line_at text i }
 
--- The fault of the bytes of a text: 6 at its start where it is too long, whatever stands in it, else the first lexical error.
+-- The fault of the bytes of a text: 6 at its start where it is too long, whatever is in it, else the first lexical error.
 abbrev pub IsFaultOfText : List ℕ → Refusal → Type 0
 IsFaultOfText text (Fault number place) = ((262144 < length text) × (number ≡ 6) × (place ≡ the_start)) ⊎ ((length text ≤ 262144) × IsFirstError text number place)
 IsFaultOfText text Memory = ⊥

@@ -7,7 +7,7 @@ use Rattle.load_tokens.specs.declared.piece.Piece.{Piece}
 use Rattle.load_tokens.specs.declared.piece.Piece.TheVariants.{Blank, Token}
 use Rattle.il_syntax.specs.Text.{IsBlank, IsLexeme, sign_bytes, goes_on, line_feed}
 
--- a piece stands from i up to j
+-- a piece is from i up to j
 abbrev pub IsPiece : List ℕ → Piece → ℕ → ℕ → Type 0
 IsPiece text Blank i j = IsBlank text i j
 IsPiece text (Token kind) i j = IsLexeme text kind i j
@@ -16,7 +16,7 @@ IsPiece text (Token kind) i j = IsLexeme text kind i j
 abbrev pub count_feeds : List ℕ → ℕ
 count_feeds bytes = count_by (λ b. b == line_feed) bytes
 
--- how many line feeds stand in a token
+-- how many line feeds are in a token
 abbrev pub feeds_of : Kind → ℕ
 feeds_of LineEnd = 1
 feeds_of _ = 0
@@ -35,6 +35,6 @@ AreSignBytes [] first second sign = ⊥
 AreSignBytes (a ∷ []) first second sign = (first ≡ a) × IsFalse (goes_on sign second)
 AreSignBytes (a ∷ b ∷ rest) first second sign = (first ≡ a) × (second ≡ b)
 
--- a sign stands where these two bytes do
+-- a sign is where these two bytes do
 abbrev pub StandsAt : ℕ → ℕ → Sign → Type 0
 StandsAt first second sign = AreSignBytes (sign_bytes sign) first second sign

@@ -8,7 +8,7 @@ ghost use Rattle.load_tokens.specs.Pieces.{count_feeds};
 
 use crate::lanes::{LANES, alphanumeric_run, feeds};
 
-/// The byte at a place, and 0 behind the text.
+/// The byte at a place, and 0 after the text.
 #[inline(always)]
 pub(crate) fn byte_at(text: &[u8], at: usize) -> u8
     ensures { result ≡ byte_at text.now at }
@@ -57,7 +57,7 @@ fn is_literal_byte(byte: u8) -> bool
     is_word_byte(byte) || byte == b'#'
 }
 
-/// A place up to which letters and digits alone stand from `at` on, seen at once.
+/// A place up to which letters and digits alone are from `at` on, seen at once.
 #[inline(always)]
 pub(crate) fn seen_end(text: &[u8], at: usize) -> usize
     requires { at ≤ length text.now }
@@ -71,7 +71,7 @@ pub(crate) fn seen_end(text: &[u8], at: usize) -> usize
     }
 }
 
-/// Where the run of word bytes from `at` on ends. Letters and digits alone stand up to `seen`.
+/// Where the run of word bytes from `at` on ends. Letters and digits alone are up to `seen`.
 #[inline(always)]
 #[tactic(auto, unfolding(il_syntax::specs::Text::run_end))]
 pub(crate) fn word_end(text: &[u8], at: usize, seen: usize) -> usize
@@ -103,7 +103,7 @@ pub(crate) fn literal_end(text: &[u8], at: usize) -> usize
     end
 }
 
-/// The place behind a minus, if one stands at `at`.
+/// The place after a minus, if one is at `at`.
 #[inline(always)]
 pub(crate) fn after_minus(text: &[u8], at: usize) -> usize
     requires { at ≤ length text.now }

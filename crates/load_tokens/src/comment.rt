@@ -10,7 +10,7 @@ use crate::bytes::{byte_at, line_feeds};
 use crate::error::{LexicalError, Misread};
 use crate::lanes::{COMMENT_LANES, plain_run};
 
-/// Whether `(*` stands at a place.
+/// Whether `(*` is at a place.
 #[inline(always)]
 pub(crate) fn opens_comment(text: &[u8], at: usize) -> bool
     requires { at ≤ length text.now }
@@ -19,7 +19,7 @@ pub(crate) fn opens_comment(text: &[u8], at: usize) -> bool
     byte_at(text, at) == b'(' && byte_at(text, at + 1) == b'*'
 }
 
-// Whether `*)` stands at a place.
+// Whether `*)` is at a place.
 #[inline(always)]
 fn closes_comment(text: &[u8], at: usize) -> bool
     requires { at ≤ length text.now }
@@ -28,7 +28,7 @@ fn closes_comment(text: &[u8], at: usize) -> bool
     byte_at(text, at) == b'*' && byte_at(text, at + 1) == b')'
 }
 
-// Whether a byte may stand in a comment, and neither `(*` nor `*)` begins with it.
+// Whether a byte may be in a comment, and neither `(*` nor `*)` begins with it.
 #[inline(always)]
 fn is_inside(text: &[u8], at: usize) -> bool
     requires { at < length text.now }
@@ -69,7 +69,7 @@ fn closing_from(text: &[u8], from: usize) -> Option<usize>
     None
 }
 
-// A place from `from` on up to which bytes stand that may stand anywhere in a comment.
+// A place from `from` on up to which bytes are that may be anywhere in a comment.
 fn plain_end(text: &[u8], from: usize) -> usize
     requires { from ≤ length text.now }
     ensures within { from ≤ result × result ≤ length text.now }
@@ -86,7 +86,7 @@ fn plain_end(text: &[u8], from: usize) -> usize
     at
 }
 
-// The place from `from` on at which something else stands than the inside of a comment. Plain bytes stand up to `plain`.
+// The place from `from` on at which something else is than the inside of a comment. Plain bytes are up to `plain`.
 fn inside_end(text: &[u8], from: usize, plain: usize) -> usize
     requires within { from ≤ plain × plain ≤ length text.now }
     requires plain { AllPassBetween is_plain text.now from plain }
@@ -105,7 +105,7 @@ fn inside_end(text: &[u8], from: usize, plain: usize) -> usize
     at
 }
 
-// What is wrong with a comment that opens at `at`, where something else than its inside or its end stands at `stop`.
+// What is wrong with a comment that opens at `at`, where something else than its inside or its end is at `stop`.
 fn misread_at(text: &[u8], at: usize, stop: usize) -> Misread
     requires within { at ≤ stop × stop ≤ length text.now }
     requires stop { IsInsideEnd text.now (at + 2) stop }
@@ -127,7 +127,7 @@ fn misread_at(text: &[u8], at: usize, stop: usize) -> Misread
     Misread { error, at: stop }
 }
 
-/// Where the comment that opens at `at` ends, and how many line feeds stand in it.
+/// Where the comment that opens at `at` ends, and how many line feeds are in it.
 pub(crate) fn comment_at(text: &[u8], at: usize) -> Result<(usize, usize), Misread>
     requires inside { at < length text.now }
     requires opening { IsTrue (opens_comment text.now at) }

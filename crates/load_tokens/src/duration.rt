@@ -16,14 +16,14 @@ use crate::error::LexicalError;
 // The longest duration, in milliseconds (own rule).
 const LONGEST_DURATION: u64 = 2_147_483_647;
 
-// What a unit adds to a duration, and the bytes behind it.
+// What a unit adds to a duration, and the bytes after it.
 #[derive(Clone, Copy)]
 struct Part<'a> {
     milliseconds: u64,
     rest: &'a [u8],
 }
 
-// How many digits stand at the front.
+// How many digits are at the front.
 fn digits_len(bytes: &[u8]) -> usize
     ensures within { result ≤ length bytes.now }
     ensures longest { result ≡ prefix_len is_ascii_digit bytes.now }
@@ -35,7 +35,7 @@ fn digits_len(bytes: &[u8]) -> usize
     len
 }
 
-// How many letters stand at the front.
+// How many letters are at the front.
 fn letters_len(bytes: &[u8]) -> usize
     ensures within { result ≤ length bytes.now }
     ensures longest { result ≡ prefix_len is_ascii_alphabetic bytes.now }
@@ -60,7 +60,7 @@ fn capped_count(digits: &[u8]) -> u64
     count
 }
 
-// The part of this unit, which is given in upper case, at the front: nothing, where another unit stands there.
+// The part of this unit, which is given in upper case, at the front: nothing, where another unit is there.
 fn part_of<'a>(bytes: &'a [u8], unit: &[u8], milliseconds: u64) -> Part<'a>
     requires { milliseconds ≤ 86400000 }
     ensures { IsPartOf bytes.now unit.now milliseconds result }

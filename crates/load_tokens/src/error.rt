@@ -14,7 +14,7 @@ pub(crate) enum LexicalError {
     /// A byte that begins no token, or one in a comment that no text has.
     #[error("a byte that has no place in a text")]
     BadByte,
-    /// `(*` that no `*)` closes, or that stands in a comment.
+    /// `(*` that no `*)` closes, or that is in a comment.
     #[error("a comment that is open")]
     OpenComment,
     /// A number or a typed literal that is not well formed.

@@ -26,7 +26,7 @@ fn first_set(mask: u64, lanes: usize) -> usize
     }
 }
 
-/// How many of the bytes from `at` on may stand anywhere in a comment, and neither `(*` nor `*)` begins with them.
+/// How many of the bytes from `at` on may be anywhere in a comment, and neither `(*` nor `*)` begins with them.
 #[inline(always)]
 pub(crate) fn plain_run(text: &[u8], at: usize) -> usize
     requires { at + 32 ≤ length text.now }

@@ -53,7 +53,7 @@ fn is_identifier(word: &[u8]) -> bool
     }
 }
 
-// Whether an identifier stands from `at` up to `end`, where letters and digits alone stand up to `seen`.
+// Whether an identifier is from `at` up to `end`, where letters and digits alone are up to `seen`.
 #[inline(always)]
 fn is_identifier_at(text: &[u8], at: usize, seen: usize, end: usize) -> bool
     requires inside { at < end × end ≤ length text.now }

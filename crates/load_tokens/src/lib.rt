@@ -38,7 +38,7 @@ const LONGEST_TEXT: usize = 262_144;
 // How many bytes of a text there are to a token, as a first guess: fewer only where it has no comments.
 const BYTES_OF_TOKEN: usize = 4;
 
-// The refusal for what stands wrong at or behind `at`, a place on this line.
+// The refusal for what is wrong at or after `at`, a place on this line.
 fn refusal(text: &[u8], at: usize, line: u32, misread: Misread) -> Refusal
     requires order { at ≤ misread.at }
     requires within { misread.at ≤ length text.now }
@@ -60,12 +60,12 @@ fn refusal(text: &[u8], at: usize, line: u32, misread: Misread) -> Refusal
 
 /// The tokens of a text, in its order. What is no token is a space, a tab or a comment.
 ///
-/// A text that has none is refused with the first of these from the left, and the place where it stands:
-/// 1 a byte that begins no token, or stands in a comment and in no text; 2 `(*` that no `*)` closes (at its line), or
-/// that stands in a comment; 3 a number or a typed literal that is not well formed (2.2.1, 2.2.3.1); 4 one whose value
+/// A text that has none is refused with the first of these from the left, and the place where it is:
+/// 1 a byte that begins no token, or is in a comment and in no text; 2 `(*` that no `*)` closes (at its line), or
+/// that is in a comment; 3 a number or a typed literal that is not well formed (2.2.1, 2.2.3.1); 4 one whose value
 /// is too large; 5 a word that is no identifier (2.1.2) or has more than 32 characters. A word directly before `#` is
 /// always a typed literal, and form goes before size. A text of more than 262144 bytes is refused with 6 at its start, in line 1,
-/// whatever stands in it (own rule).
+/// whatever is in it (own rule).
 pub fn tokens(alloc: Global, text: &[u8]) -> Result<Vec<Token>, Refusal>
     ensures found { IfOk result (λ v. AreTokens text.now 0 v.items) }
     ensures short { IfOk result (λ v. length text.now ≤ 262144) }
@@ -110,7 +110,7 @@ pub fn one_cut()
         → ts ≡ us }
 {}
 
-/// No token is empty, and each stands within its text.
+/// No token is empty, and each is within its text.
 pub fn tokens_stand_within()
     ensures { (text : List ℕ) (ts : List Token) → AreTokens text 0 ts
         → All (λ t. (t.start < t.end) × (t.end ≤ length text)) ts }

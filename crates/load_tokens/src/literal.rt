@@ -35,7 +35,7 @@ fn whole_type(word: &[u8]) -> Option<Elementary>
     }
 }
 
-// Whether this word stands before a duration.
+// Whether this word comes before a duration.
 #[tactic(auto, unfolding(il_syntax::specs::Text::entry_of))]
 fn begins_duration(word: &[u8]) -> bool
     ensures yes { IsTrue result → entry_of duration_words (upper_case word.now) ≡ Some Time }

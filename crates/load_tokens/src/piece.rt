@@ -18,7 +18,7 @@ pub(crate) enum Piece {
     Token(Kind),
 }
 
-/// A piece that was read: where it ends, and how many line feeds stand in it.
+/// A piece that was read: where it ends, and how many line feeds are in it.
 #[derive(Clone, Copy)]
 pub(crate) struct Stretch {
     pub(crate) piece: Piece,
@@ -26,7 +26,7 @@ pub(crate) struct Stretch {
     pub(crate) feeds: usize,
 }
 
-// How many line feeds stand in a token.
+// How many line feeds are in a token.
 #[inline(always)]
 fn feeds_of(kind: Kind) -> usize
     ensures { result ≡ feeds_of kind }

@@ -1,4 +1,4 @@
--- Readers behind parts that look ahead, and loops whose end is told by more than a token.
+-- Readers after parts that look ahead, and loops whose end is told by more than a token.
 use Rattle.std.proofs.Common.{◌≡◌, ℕ, arith, Bool, true, false, List, [], ◌∷◌, ◌++◌, refl, sym, ◌∙◌, subst, ap, inl, inr}
 use Rattle.std.specs.Prelude.{Result, Ok, Err, IfErr, IsErrAnd, if◌then◌else◌}
 use Rattle.il_syntax.specs.declared.token.Token.{Token}
@@ -19,7 +19,7 @@ use Rattle.load_lines.proofs.Chain.{Lacks, HasRead, regroup, later_goes, valued}
 use Rattle.load_tree.specs.Ahead.{RefusesAhead, RefusesAheadBy}
 use Rattle.load_tree.specs.Bodies.{SpellsStepsBy, SpellsBodyBy}
 
--- behind line ends an end is an end
+-- after line ends an end is an end
 pub skip_end : (m ts : List Token) → IsEndOf m ts → IsEndOf (skip_line_ends m) (skip_line_ends ts)
 skip_end m [] e = subst (λ (x : List Token). IsEndOf (skip_line_ends x) []) (sym e) refl
 skip_end m (t ∷ ts) (inl e) = subst (λ (x : List Token). IsEndOf (skip_line_ends x) (skip_line_ends (t ∷ ts))) (sym e) (end_self (skip_line_ends (t ∷ ts)))
@@ -29,7 +29,7 @@ skip_end m (t ∷ ts) (inr p) = go (is_line_end t.kind) (skip_end m ts p)
     go true f = f
     go false f = inr (end_of_end (skip_line_ends m) (skip_line_ends ts) ts (loose_gap.ends ts) f)
 
--- what is promised of what stands ahead is promised
+-- what is promised of what is ahead is promised
 pub forget : {A : Type 0} {P : List ℕ → A → Front} {text : List ℕ} {ts : List Token} {e : Stop} → RefusesAhead P text ts e → Refuses P text ts e
 forget bad = record { fault = λ is. let b = bad.fault is in (b.0, b.1, b.2, b.3, b.5) }
 
@@ -51,7 +51,7 @@ part_ahead f bad = record {
       (b.0, b.1, b.2, b.3, b.4, record { inside = b.5.inside; never = λ other us a x r w. b.5.never other us a (f x) r w });
 }
 
--- the first part doesn't stand there
+-- the first part doesn't are there
 pub first_ahead : {A B : Type 0} {P : List ℕ → A → Front} {text : List ℕ} {ts : List Token} {e : Stop} (f : B → A) (Q : List ℕ → B → Front) → RefusesAhead P text ts e
     → RefusesAhead (λ text b. P text (f b) ⨾ Q text b) text ts e
 first_ahead f Q bad = record {
@@ -60,7 +60,7 @@ first_ahead f Q bad = record {
       (b.0, b.1, b.2, b.3, b.4, record { inside = b.5.inside; never = λ other us a x r w. b.5.never other us a (f x) w.0 w.1 });
 }
 
--- the first part stands there, and what has to follow directly doesn't
+-- the first part is there, and what has to follow directly doesn't
 pub later_ahead : {A B : Type 0} {P : List ℕ → A → Front} {text : List ℕ} {ts m : List Token} {x : A} {e : Stop} (f : B → A) (Q : List ℕ → B → Front) → IsLocal loose P → Reads (P text) ts x m
     → RefusesAhead Q text m e → RefusesAhead (λ text b. P text (f b) ⨾ Q text b) text ts e
 later_ahead {P = P} {text = text} {ts = ts} {m = m} {x = x} f Q one here bad = record {
@@ -82,7 +82,7 @@ later_ahead {P = P} {text = text} {ts = ts} {m = m} {x = x} f Q one here bad = r
       );
 }
 
--- What a rule lacks behind line ends, another lacks before them.
+-- What a rule lacks after line ends, another lacks before them.
 pub past_lines : {A B : Type 0} {P : List ℕ → A → Front} {Q : List ℕ → B → Front} {text : List ℕ} {ts : List Token} {e : Stop}
     → ((other : List ℕ) (us back : List Token) → AreAlike text other back (skip_line_ends ts) (skip_line_ends us) → Lacks (P other) (skip_line_ends us) → Lacks (Q other) us)
     → Refuses P text (skip_line_ends ts) e → RefusesAhead Q text ts e
@@ -104,7 +104,7 @@ past_lines {text = text} {ts = ts} f bad = record {
       );
 }
 
--- the same of a rule that looks behind line ends
+-- the same of a rule that looks after line ends
 pub ahead_of : {A B : Type 0} {P : List ℕ → A → Front} {Q : List ℕ → B → Front} {text : List ℕ} {ts : List Token} {e : Stop}
     → ((other : List ℕ) (us back : List Token) → AreAlike text other back (skip_line_ends ts) (skip_line_ends us) → Lacks (P other) us → Lacks (Q other) us)
     → RefusesAhead P text ts e → RefusesAhead Q text ts e

@@ -38,7 +38,7 @@ module _ (text : List ℕ) where
   record Covers (i j : ℕ) : Type 0 where
     small : (k : ℕ) → i ≤ k → k < j → get_or text k 0 < 128
 
-  -- one stretch behind another
+  -- one stretch after another
   join : (i j l : ℕ) → Covers i j → Covers j l → Covers i l
   join i j l a b = record { small = λ k low high. elim (cases_lt k j) [ inl lt ↦ a.small k low lt | inr le ↦ b.small k le high ] }
 
@@ -67,7 +67,7 @@ module _ (text : List ℕ) where
   minus_covers true i e = single i (let x = eqb-true _ _ e in omega arith)
   minus_covers false i e = empty i
 
-  -- up to behind a minus, if one stands there
+  -- up to after a minus, if one is there
   behind_minus : (i : ℕ) → Covers i (after_minus text i)
   behind_minus i = minus_covers (eqb (get_or text i 0) 45) i refl
 

@@ -101,7 +101,7 @@ from_sampled last depth load full few other vs rest a =
 empty_sampled : (last : Keyword) (K : List Step → Type 0) → K [] → IsSampled always (Within (λ y. K y.0) (λ text. SpellsFrom text last 0 false)) (word_sample last ∷ [])
 empty_sampled last K none = record { stands = λ other vs rest a t. let e = (ends_sampled last).stands other vs rest a t in (([], e.0), ((refl, e.1), none)) }
 
--- an instruction that may stand in any parentheses
+-- an instruction that may be in any parentheses
 abbrev first_samples : Bool → List Sample
 first_samples true = word_sample (word.Load false) ∷ true_sample ∷ line_end_sample ∷ []
 first_samples false = word_sample word.Not ∷ line_end_sample ∷ []
@@ -162,7 +162,7 @@ placed_here {text = text} {ts = ts} last depth load full few =
 pub placed_first : {text : List ℕ} {ts : List Token} {e : Stop} (last : Keyword) (depth : ℕ) (load full : Bool) → depth ≤ 16 → NamesFirst ts e → BreaksPlaced last depth load full text ts e
 placed_first {ts = ts} last depth load full few bad = record { fault = λ is. (Unexpected, ts, bad is, placed_here last depth load full few, tt) }
 
--- tokens that are cut behind the front begin with the same
+-- tokens that are cut after the front begin with the same
 pub lead_cut : (text other : List ℕ) (at ts us vs : List Token) → IsCut text other at ts us vs → length at < length ts → lead_at other us ≡ lead_at text ts
 unfolding lead_at
 lead_cut text other at [] us vs c l = absurd (omega (arith, l))
@@ -178,7 +178,7 @@ place_cut text other at [] us vs c l = absurd (omega (arith, l))
 place_cut text other at (t ∷ ts) us vs (inl c) l = let same = ap length c.0 in absurd (omega (arith, l, same))
 place_cut text other at (t ∷ ts) us vs (inr c) l = ap place_at c.1
 
--- An instruction that may stand there begins the rest of a body, once a token of it is read.
+-- An instruction that may be there begins the rest of a body, once a token of it is read.
 pub placed_inside : {text : List ℕ} {ts : List Token} {room : Bool} (depth : ℕ) (load : Bool) (last : Keyword) (K : List Token → List Step → Type 0) → may_begin depth load (lead_at text ts) ≡ true
     → (at : List Token) (effect : Effect) → ((vs : List Token) (i : Instruction) (steps : List Step) → HasRoom room i → greatest_depth (depth_after depth i) steps ≤ depth_after depth i → All (λ (s : Step). StandsAmong vs s.place) steps
     → K vs (bare (place_at ts) i ∷ steps))
@@ -217,7 +217,7 @@ stays_within room depth (instruction.Return k) few fits has = few
 stays_within room depth (instruction.Call k n a) few fits has = few
 stays_within room depth (instruction.Invoke f a) few fits has = few
 
--- what is shallow behind an instruction is with it
+-- what is shallow after an instruction is with it
 shallow_with : (depth : ℕ) (p : Place) (i : Instruction) (steps : List Step) → depth ≤ 16 → depth_after depth i ≤ 16 → greatest_depth (depth_after depth i) steps ≤ depth_after depth i → StaysShallow depth (bare p i ∷ steps)
 shallow_with depth p i steps few after most = omega (arith, few, after, most)
 
@@ -237,7 +237,7 @@ placed_begins {text = text} {ts = ts} {room = room} depth load full last few is_
         placed_inside depth load last (KeepsRest depth full) may at effect
         (λ vs i steps has most among. (shallow_with depth (place_at ts) i steps few (stays_within room depth i few fits has) most, (λ f. absurd (not_full full is_not f), among))) b less
 
--- what stands behind the first of the tokens of an end is shorter than all
+-- what follows the first of the tokens of an end is shorter than all
 pub shorter_behind : (at ts back : List Token) (t : Token) → IsEndOf at ts → at ≡ t ∷ back → length back < length ts
 shorter_behind at ts back t end same = let l = end_length at ts end in let k = ap length same in omega (arith, l, k)
 
@@ -293,7 +293,7 @@ labelled_surplus full Unexpected t s steps w = w
 labelled_surplus full TooDeep t s steps w = w
 labelled_surplus full TooMany t s steps w = w
 
--- behind labels
+-- after labels
 pub outer_breaks : {text : List ℕ} {start m : List Token} {ns : List Named} {alone : Bool} {e : Stop} (last : Keyword) (load full : Bool) → HasLabels text start ns alone m → BreaksPlaced last 0 load full text m e
     → BreaksFrom last 0 load full text start e
 outer_breaks {text = text} {start = start} {m = m} {ns = ns} last load full labels bad =
@@ -337,7 +337,7 @@ outer_breaks {text = text} {start = start} {m = m} {ns = ns} last load full labe
     }
     go at b (inr less) = inner (KeepsRest 0 full) (λ vs s steps w. w) at b less
 
--- in parentheses stand no labels
+-- in parentheses are no labels
 pub inner_breaks : {text : List ℕ} {ts : List Token} {e : Stop} (last : Keyword) (depth : ℕ) (load full : Bool) → BreaksPlaced last depth load full text ts e → BreaksFrom last depth load full text ts e
 inner_breaks {text = text} {ts = ts} last depth load full bad = by_breaks (λ at b. as_rest (KeepsRest depth full) at b) (λ error t back end less b. (less, as_rest (λ vs steps. BeginsSurplus full error t steps) back b)) bad
   where
@@ -347,7 +347,7 @@ inner_breaks {text = text} {ts = ts} last depth load full bad = by_breaks (λ at
         begins_as_by {P = λ vs. Within (λ x. K vs (all_steps x)) (λ text. SpellsPlacedFrom text last depth load)} {Q = λ vs. Within (λ y. K vs y.0) (λ text. SpellsFrom text last depth load)} (λ x. (bare x.0.0 x.0.1 ∷ x.1.0, x.1.1))
         (λ x vs other us r w. w) b
 
--- the one behind so many
+-- the one after so many
 pub behind_all : {A : Type 0} (xs : List A) (x : A) (more : List A) (n : ℕ) → length xs ≡ n → slice_get (xs ++ x ∷ more) n ≡ Some x
 behind_all [] x more zero same = refl
 behind_all [] x more (suc n) same = absurd (omega (arith, same))
@@ -360,7 +360,7 @@ surplus_behind full xs is TooDeep t more w = tt
 surplus_behind full xs is TooMany t [] w = absurd w
 surplus_behind full xs is TooMany t (s ∷ more) w = (s, behind_all xs s more 4096 (is w.0), w.1)
 
--- behind the instructions that a loop has read
+-- after the instructions that a loop has read
 pub steps_breaks : {text : List ℕ} {start ts : List Token} {xs : List Step} {most : ℕ} {e : Stop} (last : Keyword) (depth : ℕ) (load full : Bool) → depth ≤ 16 → length xs ≤ 4096 → most ≤ 16 → (IsTrue full → length xs ≡ 4096) → (IsFalse full → length xs ≡ 4096 → ⊥) → IsOpen xs depth load most
     → ((b : List Named × Place) → HasRead SpellsStep (λ text. TheEnds text last b) text start xs ts) → BreaksFrom last depth load full text ts e → BreaksSteps last text start e
 steps_breaks {text = text} {start = start} {ts = ts} {xs = xs} {most = most} last depth load full few short_so_far at_most is_full not_yet opens so_far bad =

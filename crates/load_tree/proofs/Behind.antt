@@ -1,4 +1,4 @@
--- Where the instructions of a body stand.
+-- Where the instructions of a body are.
 use Rattle.std.specs.Prelude.{IsTrue, IsFalse}
 use Rattle.std.specs.List.{All, slice_get}
 use Rattle.std.proofs.Common.{◌≡◌, ℕ, zero, suc, ◌≤◌, Bool, true, false, List, [], ◌∷◌, ◌++◌, length, refl, sym, ap, subst, arith, Some}
@@ -15,7 +15,7 @@ use Rattle.il_syntax_laws.proofs.Open.{label_fills, line_end_fills, step_fills}
 use Rattle.load_tree.specs.Refused.{StandsAmong, IsLateSurplus}
 use Rattle.load_tree.specs.GoesOn.{AreBehind}
 
--- what stands among the tokens of an end does among all
+-- what is among the tokens of an end does among all
 pub among_end : (mid vs : List Token) (p : Place) → IsEndOf mid vs → StandsAmong mid p → StandsAmong vs p
 among_end mid vs p e s = (s.0, s.1, end_of_end (s.0 ∷ s.1) mid vs e s.2, s.3)
 
@@ -23,7 +23,7 @@ pub at_among : (F : Front) (p : Place) (ts r : List Token) → At p F ts r → S
 at_among F p [] r w = absurd w
 at_among F p (t ∷ ts) r w = (t, ts, end_self (t ∷ ts), (sym w.0, sym w.1))
 
--- behind labels too
+-- after labels too
 pub labelled_among : (text : List ℕ) (F : Front) (p : Place) (ns : List Named) (ts r : List Token) → SpellsLabelled text ns (At p F) ts r → StandsAmong ts p
 labelled_among text F p [] ts r w = at_among F p ts r w
 labelled_among text F p (n ∷ []) ts r w =
@@ -33,7 +33,7 @@ labelled_among text F p (n ∷ o ∷ ns) ts r w =
     let behind = end_of_end (skip_line_ends line.0) line.0 w.0 (line_end_fills.opens.ends text w.0 line.0 line.1) (loose_gap.ends line.0) in
     among_end (skip_line_ends line.0) ts p (end_of_end (skip_line_ends line.0) w.0 ts ((label_fills n).opens.ends text ts w.0 w.1) behind) (labelled_among text F p (o ∷ ns) (skip_line_ends line.0) r line.2)
 
--- the instructions that tokens spell stand among them
+-- the instructions that tokens spell are among them
 pub steps_among : (text : List ℕ) (E : Front) (steps : List Step) (vs ts r : List Token) → IsEndOf ts vs → Repeats (SpellsStep text) steps E ts r → All (λ (s : Step). StandsAmong vs s.place) steps
 steps_among text E [] vs ts r e w = All-nil (λ (s : Step). StandsAmong vs s.place)
 steps_among text E (s ∷ steps) vs ts r e w =
@@ -46,14 +46,14 @@ pub all_behind : (full : Bool) (vs : List Token) (steps : List Step) → All (λ
 all_behind full vs [] h = tt
 all_behind full vs (s ∷ steps) h = (λ f. All-head (λ (s : Step). StandsAmong vs s.place) s steps h, All-tail (λ (s : Step). StandsAmong vs s.place) s steps h)
 
--- one that stands at some number
+-- one that is at some number
 pub all_at : (P : Step → Type 0) (steps : List Step) (n : ℕ) (s : Step) → All P steps → slice_get steps n ≡ Some s → P s
 all_at P [] zero s h e = absurd cc
 all_at P [] (suc n) s h e = absurd cc
 all_at P (x ∷ steps) zero s h e = let same : x ≡ s = cc in subst P same (All-head P x steps h)
 all_at P (x ∷ steps) (suc n) s h e = all_at P steps n s (All-tail P x steps h) e
 
--- what stands behind others at some number is one of those behind, the first only where there are as many before
+-- what follows others at some number is one of those after, the first only where there are as many before
 behind_at : (xs more : List Step) (n : ℕ) (s : Step) → length xs ≤ n → slice_get (xs ++ more) n ≡ Some s → (k : ℕ) × (slice_get more k ≡ Some s) × (k ≡ 0 → length xs ≡ n)
 behind_at [] more n s l e = (n, e, λ none. sym none)
 behind_at (x ∷ xs) more zero s l e = absurd (omega (arith, l))
@@ -64,7 +64,7 @@ is_full : (full : Bool) (count : ℕ) → (IsFalse full → count ≡ 4096 → �
 is_full true count not_yet same = refl
 is_full false count not_yet same = absurd (not_yet refl same)
 
--- A 4097th instruction stands among those that are not read.
+-- A 4097th instruction is among those that are not read.
 pub late_surplus : (full : Bool) (vs : List Token) (xs more : List Step) → length xs ≤ 4096 → (IsFalse full → length xs ≡ 4096 → ⊥) → AreBehind full vs more → IsLateSurplus vs (xs ++ more)
 late_surplus full vs xs more few not_yet behind = λ s e. let k = behind_at xs more 4096 s few e in go more behind k.0 s k.1 k.2
   where

@@ -26,7 +26,7 @@ cut_back text other at (t ∷ ts) [] vs (inl c) = (sym c.1, sym c.0)
 cut_back text other at (t ∷ ts) (u ∷ us) vs (inl c) = inl (sym c.1, sym c.0)
 cut_back text other at (t ∷ ts) us vs (inr c) = subst (λ x. IsCut other text vs x (t ∷ ts) at) (sym c.1) (inr (ts, refl, sym c.2, cut_back text other at ts c.0 vs c.3))
 
--- where only line ends stand before the cut, what stands behind line ends stands behind it
+-- where only line ends come before the cut, what follows line ends follows it
 pub past_cut : (text other : List ℕ) (at ts us vs : List Token) → IsCut text other at ts us vs → length (skip_line_ends ts) ≤ length at → IsEndOf (skip_line_ends us) vs
 past_cut text other at [] us vs c l = subst (λ x. IsEndOf (skip_line_ends us) x) c.1 (loose_gap.ends us)
 past_cut text other at (t ∷ ts) us vs (inl c) l = subst (λ x. IsEndOf (skip_line_ends us) x) c.1 (loose_gap.ends us)
@@ -38,7 +38,7 @@ past_cut text other at (t ∷ ts) us vs (inr c) l =
     go true f k = f k
     go false f k = let short = end_length at ts (cut_end text other at ts c.0 vs c.3) in absurd (omega (arith, short, k))
 
--- at the edge of a cut what stands behind a gap stands behind it
+-- at the edge of a cut what follows a gap follows it
 pub record PastCut (gap : Gap) : Type 0 where
   pub past : (text other : List ℕ) (at m n vs : List Token) → IsCut text other at m n vs → at ≡ gap m → IsEndOf (gap n) vs
 

@@ -115,12 +115,12 @@ module _ (text : List ℕ) where
   tells (instruction.Call k n a) ts r p = rw (word_lead text (word.Call k) ts p.0 p.1) (record { closing = refl; leaving = refl; loading = refl })
   tells (instruction.Invoke f a) ts r p = rw (the_name_lead text f ts p.0 p.1) (record { closing = refl; leaving = refl; loading = refl })
 
-  -- the first token tells whether an instruction may stand there
+  -- the first token tells whether an instruction may be there
   pub may_so : (depth : ℕ) (load : Bool) (p : Place) (i : Instruction) (ts r : List Token) → SpellsInstruction text i ts r → may_begin depth load (lead_at text ts) ≡ may_stand depth load (bare p i)
   may_so zero load p i ts r w = ap not (tells i ts r w).closing
   may_so (suc depth) load p i ts r w = let t = tells i ts r w in rw (not_zero depth, t.leaving, t.loading) refl
 
-  -- an instruction that is read, and may stand there
+  -- an instruction that is read, and may be there
   room_enough : (room : Bool) (depth : ℕ) (i : Instruction) → depth ≤ 16 → (IsTrue room → depth < 16) → HasRoom room i → depth_after depth i ≤ 16
   room_enough room depth (instruction.Defer op first) small roomy has = let a = roomy has in omega arith
   room_enough room zero instruction.Evaluate small roomy has = omega arith
@@ -142,7 +142,7 @@ module _ (text : List ℕ) where
     );
   }
 
-  -- the word that ends the body, where it may stand
+  -- the word that ends the body, where it may be
   pub end_taken : (last : Keyword) (alone : Bool) (ts r : List Token) (o : Option Place) → IsTrue alone → TakesWord text last ts o r → TakesEnd text last alone ts o r
   end_taken last alone ts r (Some p) is w = (is, w)
   end_taken last alone ts r None is w = (w.0, λ p q at _. w.1 q (at_holds text (TheWord text last) p ts q at))
@@ -206,7 +206,7 @@ abbrev place_of : Token → Place
 place_of t = record { offset = t.start; line = t.line }
 
 module _ (text : List ℕ) where
-  -- it may not stand there
+  -- it may not be there
   pub stands_not : (depth : ℕ) (load full : Bool) (ts : List Token) (e : Stop) → may_begin depth load (lead_at text ts) ≡ false → e ≡ fault_at Unexpected ts → RefusesPlaced text depth load full ts e
   stands_not depth load full ts e out here = record { fault = λ is. (Unexpected, ts, here, end_self ts, named, record { inside = end_self ts; never = go }) }
     where
@@ -237,7 +237,7 @@ module _ (text : List ℕ) where
   }
   none_stands depth load full (t ∷ ts) e empty here = absurd cc
 
-  -- A name alone on its line calls a function without operands: so it is the token behind a name that nothing goes on with.
+  -- A name alone on its line calls a function without operands: so it is the token after a name that nothing goes on with.
   behind_name : (room : Bool) (back ts : List Token) → GoesOnNoMore (λ text. SpellsRoomy text room) text ts back → lead_at text ts ≡ lead.Name → IsEndOf back (drop 1 ts)
   unfolding lead_at
   behind_name room back [] gone name = absurd cc
@@ -295,14 +295,14 @@ module _ (text : List ℕ) where
           cc
   full_refused depth load full l ts e is_full same (inr here) = placed_refused full depth load full ts e (λ is. absurd cc) (nothing_begins text full l ts e (sym same) here.1 here.0)
 
-  -- a word that ends the body stands in alike tokens where it stands in these
+  -- a word that ends the body is in alike tokens where it is in these
   last_there : (last : Keyword) (other : List ℕ) (back m vs : List Token) (p : Place) (r : List Token) → AreAlike text other back m vs → At p (TheWord other last) vs r → (q : Place) × (k : List Token) × At q (TheWord text last) m k
   last_there last other back [] vs p r a w = absurd (subst (λ (x : List Token). At p (TheWord other last) x r) a.1 w)
   last_there last other back (t ∷ m) vs p r a w =
       let l = sym (lead_alike text other back (t ∷ m) vs a) ∙ word_lead other last vs r (at_holds other (TheWord other last) p vs r w) in
       (place_of t, m, (refl, refl, word_there text last (t ∷ m) l))
 
-  -- behind labels stands no instruction, and no end
+  -- after labels is no instruction, and no end
   pub outer_refused : (last : Keyword) (load full alone : Bool) (start m : List Token) (ns : List Named) (e : Stop) → HasLabels text start ns alone m
       → ((p : Place) (r : List Token) → At p (TheWord text last) m r → IsTrue alone → ⊥) → RefusesPlaced text 0 load full m e → RefusesBy (SpellsNextBy last 0 load full) text start e
   outer_refused last load full alone start m ns e labels out bad = record {
@@ -329,7 +329,7 @@ module _ (text : List ℕ) where
           let there = last_there last other back m read.0 p r read.1 n.1 in
           out there.0 there.1 there.2 n.2
 
-  -- in parentheses stand no labels, and no end
+  -- in parentheses are no labels, and no end
   pub inner_refused : (last : Keyword) (depth : ℕ) (load full : Bool) (ts : List Token) (e : Stop) → (depth ≡ 0 → ⊥) → RefusesPlaced text depth load full ts e → RefusesBy (SpellsNextBy last depth load full) text ts e
   inner_refused last zero load full ts e inside bad = absurd (inside refl)
   inner_refused last (suc depth) load full ts e inside bad = record {

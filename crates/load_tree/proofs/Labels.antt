@@ -34,7 +34,7 @@ fewer P [] r w = absurd w
 fewer P (t ∷ ts) r w = let e = ap length w.1 in omega arith
 
 module _ (text : List ℕ) where
-  -- what stands behind labels
+  -- what follows labels
   abbrev pub ThePlaced : Place → Instruction → Front
   ThePlaced p i = At p (SpellsInstruction text i)
 
@@ -91,7 +91,7 @@ pub record Behind (text : List ℕ) (start : List Token) (ns : List Named) (ts :
   past : (other : List ℕ) (at us vs : List Token) → IsEndOf at ts → IsCut text other at start us vs → (p : Place) (i : Instruction) (ys : List Named) (r : List Token) → SpellsLabelled other ys (ThePlaced other p i) us r
       → (n : List Token) × (more : List Named) × (IsCut text other at ts n vs ⊎ IsEndOf n vs) × SpellsLabelled other more (ThePlaced other p i) n r
 
--- behind a gap of line ends
+-- after a gap of line ends
 gap_cut : (text other : List ℕ) (at m n vs : List Token) → IsCut text other at m n vs → IsEndOf at (skip_line_ends m) → ((length at < length (skip_line_ends m)) ⊎ (skip_line_ends vs ≡ vs))
     → IsCut text other at (skip_line_ends m) (skip_line_ends n) vs
 gap_cut text other at m n vs c e (inl l) = loose_open.cut text other at m n vs c l
@@ -173,7 +173,7 @@ module _ (text : List ℕ) where
           behind_lines other at q vs c (inl edge) = inr (loose_past.past text other at l q vs c edge)
           behind_lines other at q vs c (inr less) = inl (loose_open.cut text other at l q vs c less)
 
-  -- where no label stands, none stands in alike tokens, as the token behind a name tells
+  -- where no label is, none is in alike tokens, as the token after a name tells
   label_still : (other : List ℕ) (back ts vs : List Token) → AreAlike text other back ts vs → (lead_at text ts ≡ lead.Name → length back ≤ length (drop 1 ts))
       → ((n : Named) (r : List Token) → SpellsLabel text n ts r → ⊥) → (n : Named) (r : List Token) → SpellsLabel other n vs r → ⊥
   unfolding lead_at
@@ -193,7 +193,7 @@ module _ (text : List ℕ) where
       let it : Named = record { place = place; name = name_of text t } in
       out it (drop 1 ts) (label_there text t (t ∷ ts) ts (drop 1 ts) it refl name refl refl refl there)
 
-  -- no label more: the last stands alone on its line
+  -- no label more: the last is alone on its line
   pub alone_behind : (start : List Token) (ns : List Named) (ts : List Token) → ((n : Named) (r : List Token) → SpellsLabel text n ts r → ⊥) → Behind text start ns ts → HasLabels text start ns true ts
   alone_behind start ns ts out so_far = record {
     inside = so_far.inside;
@@ -230,7 +230,7 @@ module _ (text : List ℕ) where
       last other vs none k p [] r w = (refl, w)
       last other vs none k p (y ∷ ys) r w = absurd (none y w.1.0 w.1.1)
 
-  -- one more, behind which its line goes on
+  -- one more, after which its line goes on
   pub beside : (start : List Token) (ns : List Named) (ts m : List Token) (n : Named) → SpellsLabel text n ts m → ((l : List Token) → TheLineEnd m l → ⊥) → Behind text start ns ts
       → HasLabels text start (ns ++ n ∷ []) false (skip_line_ends m)
   beside start ns ts m n label out so_far =
@@ -264,7 +264,7 @@ module _ (text : List ℕ) where
             );
       }
     where
-      -- behind the label, on its line or on others
+      -- after the label, on its line or on others
       behind_label : (other : List ℕ) (k d : List Token) → SpellsLabel other n k d → (p : Place) (i : Instruction) (ys : List Named) (r : List Token) → SpellsLabelled other ys (ThePlaced other p i) k r → StandsAmong (skip_line_ends d) p
       behind_label other k d here p i [] r w = absurd (no_placed other n p i k r d here w)
       behind_label other k d here p i (y ∷ []) r w =

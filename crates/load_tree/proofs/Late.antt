@@ -1,4 +1,4 @@
--- What is too many stands behind the tokens before a fault, in every text that has these.
+-- What is too many follows the tokens before a fault, in every text that has these.
 use Rattle.std.proofs.Common.{◌≡◌, ◌<◌, ℕ, Bool, true, false, List, length, refl, sym, ◌∙◌, subst, inl, inr, arith}
 use Rattle.std.specs.Prelude.{◌⊎◌, IsTrue}
 use Rattle.il_syntax.specs.declared.token.Token.{Token}
@@ -53,7 +53,7 @@ own_inside room {full = full} {text = text} {ts = ts} {e = e} open_ bad = record
 pub late_memory : {A : Type 0} {C : List Token → A → Type 0} {P : List ℕ → A → Front} {text : List ℕ} {ts : List Token} {e : Stop} → e ≡ stop.Memory → LeavesLate C P text ts e
 late_memory same = record { fault = λ f. absurd (subst IsFault same f) }
 
--- What stands wholly behind the cut is late.
+-- What is wholly after the cut is late.
 pub record Spreads {B : Type 0} (gap : Gap) (C : List Token → B → Type 0) (Q : List ℕ → B → Front) : Type 0 where
   pub all : (other : List ℕ) (us vs rest : List Token) (x : B) → Q other x us rest → IsEndOf (gap us) vs → C vs x
 
@@ -70,7 +70,7 @@ always_so TooDeep w = tt
 always_so TooMany w = tt
 
 module _ {A B : Type 0} {P : List ℕ → A → Front} {C : List Token → B → Type 0} {text : List ℕ} {ts : List Token} {e : Stop} {first : Test} {look : Gap} where
-  -- a part doesn't stand there
+  -- a part doesn't are there
   pub leaves_first : (f : B → A) (gap behind : Gap) (Q : List ℕ → B → Front) → IsOpenGap look → ((k : List Token) → IsEndOf (behind (gap k)) (look k)) → IsOpening look first P → Spreads behind C Q → Refuses P text ts e
       → LeavesLate C (λ text b. P text (f b) ⟨ gap ⟩ Q text b) text ts e
   leaves_first f gap behind Q open_ far one spreads bad = record { fault = λ is. let b = bad.fault is in (b.0, b.1, b.2, b.3, go b.0 b.1 b.4) }
@@ -94,7 +94,7 @@ module _ {A B : Type 0} {P : List ℕ → A → Front} {C : List Token → B →
                   let back = (one.one (f b)).keeps other text vs us ts at w.0 w.1 (end_of_end vs (look w.0) w.0 (open_.is.ends w.0) end) (cut_back text other at ts us vs c) (inl less) in
                   absurd (gone.never text ts (alike_self text at ts gone.inside) (f b) back.0 back.1)
 
-  -- a part stands there, and what has to follow breaks off
+  -- a part is there, and what has to follow breaks off
   pub leaves_later : {m : List Token} {x : A} (f : B → A) (gap behind : Gap) (Q : List ℕ → B → Front) → IsOpenGap look → IsOpenGap gap → IsGap behind → ((k : List Token) → IsEndOf (behind (gap k)) (look k)) → PastCut gap → IsOpening look first P
       → ((text : List ℕ) → IsDeterministic (P text)) → Spreads behind C Q → P text x ts m → LeavesLate C Q text (gap m) e → LeavesLate C (λ text b. P text (f b) ⟨ gap ⟩ Q text b) text ts e
   leaves_later {m = m} {x = x} f gap behind Q open_ open_gap is_gap far passes one sure spreads here bad = record {
@@ -137,7 +137,7 @@ leaves_in f gap Q bad = record {
   fault = λ is. let b = bad.fault is in (b.0, b.1, b.2, b.3, then_so b.0 (λ k leaves other us vs rest c x w. leaves other us vs w.0 c (f x) w.1) b.4);
 }
 
--- behind a part that is an end, what spreads does
+-- after a part that is an end, what spreads does
 pub spreads_on : {A B : Type 0} {P : List ℕ → A → Front} {C : List Token → B → Type 0} {look : Gap} {first : Test} (f : B → A) (Q : List ℕ → B → Front) → IsOpening look first P → Spreads loose C Q
     → Spreads loose C (λ text b. P text (f b) ⨾ Q text b)
 spreads_on f Q one q = record {

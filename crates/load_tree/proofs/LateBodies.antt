@@ -1,4 +1,4 @@
--- Bodies: what is too many stands behind the tokens before a fault.
+-- Bodies: what is too many follows the tokens before a fault.
 use Rattle.std.proofs.Common.{◌≡◌, ◌<◌, ◌≤◌, ℕ, zero, suc, Bool, true, false, List, [], ◌∷◌, ◌++◌, length, refl, sym, ◌∙◌, ap, subst, inl, inr, arith}
 use Rattle.std.specs.Prelude.{◌⊎◌, IsTrue, IsFalse}
 use Rattle.std.specs.List.{All}
@@ -34,7 +34,7 @@ use Rattle.load_tree.proofs.Cuts.{one_within, cut_back, end_none, alike_whole, l
 use Rattle.load_tree.proofs.Late.{then_so, Spreads, leaves_first, leaves_later, leaves_as}
 use Rattle.load_tree.proofs.Entries.{TheEnds, step_filling, last_none, not_zero, both_left}
 
--- the instructions behind one that doesn't end before the cut
+-- the instructions after one that doesn't end before the cut
 tail_late : (text other : List ℕ) (at start us vs : List Token) (E : Front) (s : Step) (steps : List Step) (r : List Token) → IsCut text other at start us vs → ((n : List Token) → SpellsStep text s start n → IsEndOf at n → ⊥)
     → Repeats (SpellsStep other) (s ∷ steps) E us r → All (λ (s : Step). StandsAmong vs s.place) steps
 tail_late text other at start us vs E s steps r c none w = go (one_within w.0 vs us ((step_fills s).opens.ends other us w.0 w.1) (cut_end other text vs us start at (cut_back text other at start us vs c)))
@@ -45,7 +45,7 @@ tail_late text other at start us vs E s steps r c none w = go (one_within w.0 vs
         let own = (step_fills s).opens.keeps other text vs us start at w.0 w.1 far (cut_back text other at start us vs c) (inr tt) in
         absurd (none own.0 own.1 (cut_end text other at own.0 w.0 vs (cut_back other text vs w.0 own.0 at own.2)))
 
--- behind labels
+-- after labels
 pub outer_late : {text : List ℕ} {start m : List Token} {ns : List Named} {alone : Bool} {e : Stop} (last : Keyword) (load full : Bool) → HasLabels text start ns alone m → EndsNone full text m e → LeavesRest last 0 load full text start e
 outer_late {text = text} {start = start} {m = m} {ns = ns} last load full labels bad = record {
   fault = λ is.
@@ -68,7 +68,7 @@ outer_late {text = text} {start = start} {m = m} {ns = ns} last load full labels
       tail_late text other at start us vs (TheEnds other last y) s steps rest c (none at own s) w,
     )
 
--- in parentheses stand no labels
+-- in parentheses are no labels
 pub inner_late : {text : List ℕ} {ts : List Token} {e : Stop} (last : Keyword) (depth : ℕ) (load full : Bool) → (depth ≡ 0 → ⊥) → EndsNone full text ts e → LeavesRest last depth load full text ts e
 inner_late last zero load full inside bad = absurd (inside refl)
 inner_late {text = text} {ts = ts} last (suc depth) load full inside bad = record {
@@ -92,7 +92,7 @@ inner_late {text = text} {ts = ts} last (suc depth) load full inside bad = recor
 
 -- WHAT A LOOP HAS READ
 
--- What is spelled in a text with the same tokens before a cut begins with what was read, and goes on before the cut or behind it.
+-- What is spelled in a text with the same tokens before a cut begins with what was read, and goes on before the cut or after it.
 pub record HasCut {A : Type 0} (P : List ℕ → A → Front) (E : List ℕ → Front) (text : List ℕ) (start : List Token) (xs : List A) (ts : List Token) : Type 0 where
   pub inside : IsEndOf ts start
   pub split : (other : List ℕ) (at us vs : List Token) → IsEndOf at ts → IsCut text other at start us vs → (ys : List A) (r : List Token) → Repeats (P other) ys (E other) us r
@@ -146,7 +146,7 @@ pub step_cut : {text : List ℕ} {start ts : List Token} {xs : List Step} (x : S
     → (b : List Named × Place) → HasCut SpellsStep (λ text. TheEnds text last b) text start (xs ++ x ∷ []) (skip_line_ends m)
 step_cut x m last is so_far here b = cut_on step_filling (loosely_local step_local) (λ other us r q w v. (step_no_end other last (last_none last is)).never _ b us q r w v) (so_far b) here
 
--- behind the instructions that a loop has read
+-- after the instructions that a loop has read
 pub steps_late : {text : List ℕ} {start ts : List Token} {xs : List Step} {most : ℕ} {e : Stop} (last : Keyword) (depth : ℕ) (load full : Bool) → length xs ≤ 4096 → (IsFalse full → length xs ≡ 4096 → ⊥) → IsOpen xs depth load most
     → ((b : List Named × Place) → HasCut SpellsStep (λ text. TheEnds text last b) text start xs ts) → LeavesRest last depth load full text ts e → LeavesSteps last text start e
 steps_late {text = text} {start = start} {ts = ts} {xs = xs} last depth load full few not_full opens so_far bad = record {
@@ -169,7 +169,7 @@ steps_late {text = text} {start = start} {ts = ts} {xs = xs} last depth load ful
     go other at vs rest leaves n more y (inl c) nested w = leaves other n vs rest c (more, y) (nested, w)
     go other at vs rest leaves n more y (inr edge) nested w = all_behind full vs more (steps_among other (TheEnds other last y) more vs n rest edge.1 w)
 
--- what is wholly behind the cut
+-- what is wholly after the cut
 from_spreads : (last : Keyword) → Spreads tight (λ vs (x : Rest). IsLateSurplus vs x.0) (λ text. SpellsFrom text last 0 false)
 from_spreads last = record {
   all = λ other us vs rest x w end. λ s here. all_at (λ (y : Step). StandsAmong vs y.place) x.0 4096 s (steps_among other (TheEnds other last x.1) x.0 vs us rest end w.1) here;
@@ -193,7 +193,7 @@ body_late last here bad =
     body_so last (leaves_later {P = λ text (u : Unit {0}). TheLineEnd} (λ x. tt) loose tight (λ text. SpellsFrom text last 0 false) tight_open loose_open tight_gap (λ k. loose_gap.ends k) loose_past line_end_opening
     (λ text. valueless line_end_sure) (from_spreads last) here.found bad)
 
--- a body that is wholly behind the cut, or behind line ends
+-- a body that is wholly after the cut, or after line ends
 pub body_spreads : (last : Keyword) → Spreads loose (λ vs (b : Body). IsLateSurplus vs b.steps) (SpellsBodyBy last Unexpected)
 body_spreads last = record {
   all = λ other us vs rest b w end.

@@ -1,4 +1,4 @@
--- Units and configurations: what is too many stands behind the tokens before a fault.
+-- Units and configurations: what is too many follows the tokens before a fault.
 use Rattle.std.proofs.Common.{◌≡◌, ◌<◌, ◌≤◌, ℕ, zero, suc, Bool, true, false, List, [], ◌∷◌, ◌++◌, drop, length, append-nil, refl, sym, ◌∙◌, ap, subst, inl, inr, arith, Some, None}
 use Rattle.std.specs.Prelude.{◌⊎◌, IsTrue, IsFalse, Option}
 use Rattle.std.specs.List.{All, slice_get}
@@ -59,7 +59,7 @@ opens fill = record { one = λ x. (fill.one x).opens }
 -- LISTS BEFORE A BODY
 
 module _ {A B : Type 0} {P : List ℕ → A → Front} {C : List Token → B → Type 0} {text : List ℕ} {ts : List Token} {e : Stop} {first : Test} where
-  -- one doesn't stand there
+  -- one doesn't are there
   pub ahead_first : (f : B → A) (Q : List ℕ → B → Front) → IsOpening loose first P → Spreads loose C Q → RefusesAhead P text ts e → LeavesLate C (λ text b. P text (f b) ⨾ Q text b) text ts e
   ahead_first f Q one spreads bad = leaves_first f tight loose Q loose_open (λ k. end_self (skip_line_ends k)) one spreads (forget bad)
 
@@ -76,7 +76,7 @@ module _ {A B : Type 0} {P : List ℕ → A → Front} {C : List Token → B →
       → LeavesLate C (λ text b. P text (f b) ⨾ Q text b) text ts e
   name_later f Q one here_one spreads here bad = leaves_later f tight loose Q tight_open tight_open loose_gap (λ k. loose_gap.ends k) tight_past one here_one.one spreads here.found bad
 
-  -- a word, and what follows behind line ends
+  -- a word, and what follows after line ends
   pub word_first : (f : B → A) (Q : List ℕ → B → Front) → IsOpening tight first P → Spreads loose C Q → Refuses P text ts e → LeavesLate C (λ text b. P text (f b) ⋯ Q text b) text ts e
   word_first f Q one spreads bad = leaves_first f loose loose Q tight_open (λ k. end_of_end (skip_line_ends (skip_line_ends k)) (skip_line_ends k) k (loose_gap.ends k) (loose_gap.ends (skip_line_ends k))) one spreads bad
 
@@ -85,7 +85,7 @@ module _ {A B : Type 0} {P : List ℕ → A → Front} {C : List Token → B →
   word_later f Q one here_one spreads here bad =
       leaves_later f loose loose Q tight_open loose_open loose_gap (λ k. end_of_end (skip_line_ends (skip_line_ends k)) (skip_line_ends k) k (loose_gap.ends k) (loose_gap.ends (skip_line_ends k))) loose_past one here_one.one spreads here.found bad
 
--- behind a name, or what else looks no further, what spreads does
+-- after a name, or what else looks no further, what spreads does
 pub spreads_behind : {A B : Type 0} {P : List ℕ → A → Front} {C : List Token → B → Type 0} {first : Test} (f : B → A) (Q : List ℕ → B → Front) → IsOpening tight first P → Spreads loose C Q
     → Spreads loose C (λ text b. P text (f b) ⋯ Q text b)
 spreads_behind f Q one q = record {
@@ -96,7 +96,7 @@ spreads_behind f Q one q = record {
 
 -- WHAT STANDS BEHIND A HEADING
 
--- a program, behind each of its lists
+-- a program, after each of its lists
 abbrev Program1 : List ℕ → List Declaration × List Declaration × Body → Front
 Program1 text b = LacksList text word.VarOutput ⨾ SpellsVariables text b.0 ⨾ SpellsSomeExternals text b.1 ⨾ SpellsBodyBy word.EndProgram Unexpected text b.2
 
@@ -296,7 +296,7 @@ module _ {A : Type 0} (k : Keyword) (Q : List ℕ → A → Front) (body : A →
         word_later (λ x. x.0) (λ text x. TheName text x.1.0 ⨾ Q text x.1.1) (opens (placed_word_filling k)) (placed_word_local k) named_spreads here
         (name_later (λ x. x.1.0) (λ text x. Q text x.1.1) (opens the_name_filling) the_name_local inside_spreads named (leaves_part (λ x. x.1.1) bad))
 
--- a result, and what stands behind it
+-- a result, and what follows it
 abbrev pub ResultInside : List ℕ → (Place × Scalar) × (List Declaration × List Declaration × Body) → Front
 ResultInside text y = SpellsResultAt text y.0 ⨾ SpellsFunctionInsideBy Unexpected text y.1
 
@@ -348,7 +348,7 @@ block_all = record { all = λ other us vs rest x w end. (headed_spreads word.Fun
 function_all : Spreads loose (λ vs (x : Place × Named × (Place × Scalar) × (List Declaration × List Declaration × Body)). IsLateSurplus vs x.3.2.steps) (SpellsFunctionBy Unexpected)
 function_all = record { all = λ other us vs rest x w end. (headed_spreads word.Function ResultInside (λ y. y.1.2) result_spreads).all other us vs rest (x.0, (x.1, (x.2, x.3))) w end }
 
--- a unit that is wholly behind the cut
+-- a unit that is wholly after the cut
 pub unit_spreads : Spreads loose (λ vs (u : ProgramUnit). IsLateSurplus vs u.body.steps) (SpellsUnitBy Unexpected)
 unit_spreads = record { all = λ other us vs rest u w end. go other us vs rest u w end u.kind refl }
   where
@@ -363,7 +363,7 @@ unit_spreads = record { all = λ other us vs rest u w end. go other us vs rest u
         let x = function_parts other Unexpected u.kind u.place u.name u.inputs u.outputs u.variables u.externals u.body us rest (ap unit_word is, w) in
         function_all.all other us vs rest (u.place, u.name, x.0, (u.inputs, u.variables, u.body)) x.1 end
 
--- at the edge of a cut a unit is wholly behind it
+-- at the edge of a cut a unit is wholly after it
 module _ {text : List ℕ} {ts : List Token} {e : Stop} where
   of_kind : (k : Keyword) → ((other : List ℕ) (at us vs : List Token) → IsCut text other at ts us vs → length at < length ts → (u : ProgramUnit) (r : List Token) → SpellsUnitBy Unexpected other u us r → unit_word u.kind ≡ k)
       → LeavesWith (λ u. u.body) (SpellsUnitOfBy k Unexpected) text ts e → LeavesWith (λ u. u.body) (SpellsUnitBy Unexpected) text ts e
@@ -378,12 +378,12 @@ module _ {text : List ℕ} {ts : List Token} {e : Stop} where
       go at leaves other us vs rest c u w (inl edge) = unit_spreads.all other us vs rest u w (subst (λ x. IsEndOf (skip_line_ends us) x) (cut_here text other at ts us vs c edge) (loose_gap.ends us))
       go at leaves other us vs rest c u w (inr less) = leaves other us vs rest c u (same other at us vs c less u rest w, w)
 
-  -- behind the word of a kind
+  -- after the word of a kind
   pub unit_late : (k : Keyword) (m : List Token) → TheWord text k ts m → LeavesWith (λ u. u.body) (SpellsUnitOfBy k Unexpected) text ts e → LeavesWith (λ u. u.body) (SpellsUnitBy Unexpected) text ts e
   unit_late k m word bad =
       of_kind k (λ other at us vs c less u r w. same_word other k u us (drop 1 us) r (word_there other k us (lead_cut text other at ts us vs c less ∙ word_begins text k ts m word)) w.0) bad
 
-  -- and where no other stands
+  -- and where no other is
   pub other_late : ((m : List Token) → TheWord text word.Program ts m → ⊥) → ((m : List Token) → TheWord text word.FunctionBlock ts m → ⊥) → LeavesWith (λ u. u.body) (SpellsUnitOfBy word.Function Unexpected) text ts e
       → LeavesWith (λ u. u.body) (SpellsUnitBy Unexpected) text ts e
   other_late p b bad =
@@ -395,12 +395,12 @@ module _ {text : List ℕ} {ts : List Token} {e : Stop} where
 
 -- MANY UNITS
 
--- units that stand there, with the 4097th instruction of each
+-- units that are there, with the 4097th instruction of each
 abbrev AllLate : List Token → List ProgramUnit → Type 0
 AllLate vs [] = Unit {0}
 AllLate vs (u ∷ us) = (StandsAmong vs u.place × IsLateSurplus vs u.body.steps) × AllLate vs us
 
--- of these the first may stand before the cut if there is room for it
+-- of these the first may be before the cut if there is room for it
 abbrev FirstLate : Bool → List Token → List ProgramUnit → Type 0
 FirstLate full vs [] = Unit {0}
 FirstLate full vs (u ∷ us) = ((IsTrue full → StandsAmong vs u.place) × IsLateSurplus vs u.body.steps) × AllLate vs us
@@ -435,7 +435,7 @@ all_first : (full : Bool) (vs : List Token) (us : List ProgramUnit) → AllLate 
 all_first full vs [] w = tt
 all_first full vs (u ∷ us) w = (((λ is. w.0.0), w.0.1), w.1)
 
--- units behind the cut
+-- units after the cut
 units_spread : (other : List ℕ) (E : Front) (us : List ProgramUnit) (ts vs r : List Token) → Repeats (SpellsUnitBy Unexpected other) us E ts r → IsEndOf ts vs → AllLate vs us
 units_spread other E [] ts vs r w end = tt
 units_spread other E (u ∷ us) ts vs r w end =
@@ -461,7 +461,7 @@ both_late full vs xs more ys same few not_full short w = subst (λ zs. AreLateUn
     is_full false out e = absurd (out refl e)
 
 module _ {text : List ℕ} {start ts : List Token} {xs : List ProgramUnit} {e : Stop} where
-  -- a unit breaks off behind others
+  -- a unit breaks off after others
   pub units_late : (full : Bool) → full ≡ false → (IsFalse full → length xs ≡ 64 → ⊥) → length xs ≤ 64 → All (λ (u : ProgramUnit). length u.body.steps ≤ 4096) xs
       → HasCut (SpellsUnitBy Unexpected) (λ text. TheWord text word.Configuration) text start xs ts → RefusesBy SpellsUnitBy text ts e → LeavesWith (λ u. u.body) (SpellsUnitBy Unexpected) text ts e
       → LeavesLate AreLateUnits (SpellsFewUnitsBy Unexpected) text start e
@@ -536,7 +536,7 @@ unit_cut so_far here = cut_on (unit_by_filling Unexpected) (unit_by_local Unexpe
 
 -- THE TEXT
 
--- units that are wholly behind the cut
+-- units that are wholly after the cut
 many_spread : Spreads tight AreLateUnits (SpellsFewUnitsBy Unexpected)
 many_spread = record {
   all = λ other us vs rest ys w end.
@@ -564,7 +564,7 @@ module _ {text : List ℕ} {ts : List Token} {e : Stop} where
   pub text_units_late : LeavesLate AreLateUnits (SpellsFewUnitsBy Unexpected) text (skip_line_ends ts) e → LeavesLate (λ vs c. AreLateUnits vs c.units) (SpellsConfigBy Unexpected) text ts e
   text_units_late bad = text_late (leaves_in (λ x. x.0) loose (λ text x. SpellsGroup text x.1) bad)
 
-  -- or what stands behind them does
+  -- or what follows them does
   pub text_group_late : {us : List ProgramUnit} {m : List Token} → Reads (SpellsFewUnits text) (skip_line_ends ts) us m → Refuses SpellsGroup text (skip_line_ends m) e → LeavesLate (λ vs c. AreLateUnits vs c.units) (SpellsConfigBy Unexpected) text ts e
   text_group_late {us = own} {m = m} here bad = text_late (record {
     fault = λ is.

@@ -40,7 +40,7 @@ begins text d ts r w = go d.names w.0 w.1
     go (n ∷ o ∷ ns) m p = the_name_lead text n ts p.0 p.1
 
 module _ (text : List ℕ) where
-  -- a word that stands behind line ends stands in alike tokens too
+  -- a word that follows line ends is in alike tokens too
   comes_there : (k : Keyword) (other : List ℕ) (back ts us m : List Token) → AreAlike text other back ts us → TheWord text k ts m → TheWord other k us (drop 1 us)
   comes_there k other back ts us m a w = word_there other k us (lead_alike text other back ts us a ∙ word_lead text k ts m w)
 
@@ -91,7 +91,7 @@ module _ (text : List ℕ) where
       → RefusesAhead (λ text. SpellsFull text k) text ts e
   full_refused k ts m e here bad = past_lines (λ other us back a gone ds r w. gone ds r w.1) (behind loose_gap (λ text ds. Repeats (SpellsDeclaration text) ds (TheWord text word.EndVar)) (word_local k) here bad)
 
-  -- the word of a list doesn't stand there
+  -- the word of a list doesn't are there
   pub word_refused : (k : Keyword) (Q : List ℕ → List Declaration → Front) (ts : List Token) (e : Stop) → Misses (λ text. TheWord text k) text (skip_line_ends ts) e → RefusesAhead (λ text ds rs. (TheWord text k ⋯ Q text ds) (skip_line_ends rs)) text ts e
   word_refused k Q ts e bad = past_lines (λ other us back a gone ds r w. gone ds r w) (first_missing loose Q bad)
 
@@ -115,7 +115,7 @@ module _ (text : List ℕ) where
   full_read k ts m r [] here more list = absurd (more r list.found)
   full_read k ts m r (d ∷ ds) here more list = record { found = (tt, (m, here.found, list.found)) }
 
--- what stands there
+-- what is there
 pub it_stands : (F : Front) (ts : List Token) (b : Bool) → StandsThere F ts b → b ≡ true → (rest : List Token) × F ts rest
 it_stands F ts true h e = h
 it_stands F ts false h e = absurd cc

@@ -191,18 +191,18 @@ module _ (text : List ℕ) where
   pub unit_read : (k : Keyword) (ts r : List Token) (u : ProgramUnit) → Reads (SpellsUnitOf text k) ts u r → Reads (SpellsSmallUnit text) ts u r
   unit_read k ts r u here = record { found = here.found.1 }
 
-  -- behind the word of a kind stands a unit of this kind
+  -- after the word of a kind is a unit of this kind
   pub same_word : (k : Keyword) (u : ProgramUnit) (ts m r : List Token) → TheWord text k ts m → SpellsUnit text u ts r → unit_word u.kind ≡ k
   same_word k u ts m r word w =
       let a = word_lead text k ts m word in
       let b = unit_lead text u ts r w in
       cc
 
-  -- a unit begins with a word that stands there
+  -- a unit begins with a word that is there
   pub begins : (u : ProgramUnit) (ts r : List Token) → SpellsUnit text u ts r → (m : List Token) × TheWord text (unit_word u.kind) ts m
   begins u ts r w = (w.1.0, at_holds text (TheWord text (unit_word u.kind)) u.place ts w.1.0 w.1.1)
 
-  -- neither a program nor a function block stands there, and no function
+  -- neither a program nor a function block is there, and no function
   pub is_other : (k : UnitKind) (ts : List Token) → ((m : List Token) → TheWord text word.Program ts m → ⊥) → ((m : List Token) → TheWord text word.FunctionBlock ts m → ⊥)
       → (m : List Token) → TheWord text (unit_word k) ts m → unit_word k ≡ word.Function
   is_other unit.Program ts p b m w = absurd (p m w)

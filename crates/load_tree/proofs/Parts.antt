@@ -67,14 +67,14 @@ few_more true xs x e not_all few = absurd cc
 few_more false xs x e not_all few = omega (arith, length-append xs (x ∷ []), few, not_all refl)
 
 module _ (text : List ℕ) where
-  -- no TASK line stands where the tasks end
+  -- no TASK line is where the tasks end
   tasks_apart : AreApart (SpellsTask text) (λ (u : Unit {0}). No (TheWord text word.Task))
   tasks_apart = record { never = λ t u ts r s p q. q.1 p.0 (at_holds text (TheWord text word.Task) t.place ts p.0 p.1) }
 
   pub tasks_one : IsDeterministic (SpellsTasks text)
   tasks_one = repeats_until (task_one text) (no_one _) tasks_apart
 
-  -- no PROGRAM line stands where the programs end
+  -- no PROGRAM line is where the programs end
   programs_apart : AreApart (SpellsProgramLine text) (λ (u : Unit {0}). No (TheWord text word.Program))
   programs_apart = record { never = λ l u ts r s p q. q.1 p.0 (at_holds text (TheWord text word.Program) l.place ts p.0 p.1) }
 
@@ -162,7 +162,7 @@ module _ (text : List ℕ) where
       let t = stop_joined (SpellsTask text) (TheWord text word.Task) (Repeats (SpellsProgramLine text) c.programs (Closing c.end_resource)) c.tasks (skip_line_ends other.0) r (lines.0, lines.1, p) in
       (w.0, w.1, (name.0, name.1, (on.0, on.1, (other.0, other.1, t))))
 
-  -- what stands behind CONFIGURATION
+  -- what follows CONFIGURATION
   abbrev Behind : Config → Front
   Behind c = SomeName text ⋯ SpellsSizes text c ⨾ SpellsGlobals text c.globals_place c.globals ⋯ SpellsResource text c ⋯ TheWord text word.EndConfiguration ⋯ TheEnd
 
@@ -210,7 +210,7 @@ module _ (text : List ℕ) where
   are_shallow E [] ts r w = All-nil IsShallow
   are_shallow E (u ∷ us) ts r w = All-cons IsShallow u us w.1.1.1 (are_shallow E us (skip_line_ends w.0) r w.2)
 
-  -- a configuration as its units and what stands behind CONFIGURATION
+  -- a configuration as its units and what follows CONFIGURATION
   abbrev pub SpellsWhole : List ProgramUnit × Group → Front
   SpellsWhole x = SpellsFewUnits text x.0 ⋯ SpellsGroup text x.1
 
@@ -224,7 +224,7 @@ module _ (text : List ℕ) where
       let split = end_apart (SpellsUnit text) (TheWord text word.Configuration) (Behind c) c.units ts r w in
       (split.0, (to_by error (TheWord text word.Configuration) c.units ts split.0 few.0 split.1, few.1), to_group c (skip_line_ends split.0) r split.2)
 
-  -- units of any number, and what stands behind CONFIGURATION
+  -- units of any number, and what follows CONFIGURATION
   pub whole_config : (us : List ProgramUnit) (g : Group) (ts r : List Token) → (Repeats (SpellsUnit text) us (TheWord text word.Configuration) ⋯ SpellsGroup text g) ts r → SpellsConfig text (config us g) ts r
   whole_config us g ts r w =
       let c = config us g in
@@ -246,7 +246,7 @@ module _ (text : List ℕ) where
         );
       }
 
--- what stands at the front, told by a word that is missing
+-- what is at the front, told by a word that is missing
 pub no_word_told : (k : Keyword) → IsTold (λ text. No (TheWord text k))
 no_word_told k = record { still = go }
   where

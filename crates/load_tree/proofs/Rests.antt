@@ -63,7 +63,7 @@ module _ {A : Type 0} {R : List ℕ → A → Front} {zs : List Sample} {text : 
   pub list_first : (k : Keyword) → IsSampled always R zs → is_solid zs ≡ true → NamesFirst (skip_line_ends ts) e → BreaksOff always (λ text x. AfterLines (TheWord text k ⋯ R text x)) text ts e
   list_first k r solid bad = let q = s_part (word_sampled k) r solid in lines_break q refl (at_first q bad)
 
-  -- or what stands behind it breaks off
+  -- or what follows it breaks off
   pub list_later : {m : List Token} (k : Keyword) → IsSampled always R zs → is_solid zs ≡ true → Stands (TheWord text k) (skip_line_ends ts) m → BreaksOff always R text (skip_line_ends m) e
       → BreaksOff always (λ text x. AfterLines (TheWord text k ⋯ R text x)) text ts e
   list_later k r solid here bad = lines_break (s_part (word_sampled k) r solid) refl (part_loose (word_fills k) here r solid bad)
@@ -146,7 +146,7 @@ full_opening k = record { one = λ ds. loosely (fill_given _ (list_fills k decla
 pub result_opening : IsOpening loose quiet SpellsResultAt
 result_opening = record { one = λ x. result_opens (unit.Function x.1 x.0) }
 
--- they stand behind line ends more as well
+-- they follows line ends more as well
 pub lax_no : (k : Keyword) → IsLaxPart (λ text (u : Unit {0}). LacksList text k)
 lax_no k = record { more = λ text u t ts rest line w. inr (w.0, (refl, λ r p. w.1 r (subst (λ x. TheWord text k x r) (skip_more t ts line) p))) }
 
@@ -250,7 +250,7 @@ function_is x other us r h =
 
 -- THE CONFIGURATION
 
--- a word doesn't stand where another does
+-- a word doesn't are where another does
 pub passes_word : (k w : Keyword) (ss : List Sample) {test : Test} → (w ≡ k → ⊥) → Passes (lacks k) (word_sample w ∷ ss) test
 passes_word k w ss differs = record { yes = λ other vs rest a t. begins_lacking (word_sample w) ss k refl (λ is e. let same : Some w ≡ Some k = sym (word_known w) ∙ e in differs cc) other vs rest a }
 
@@ -263,7 +263,7 @@ passes_stopped k w ss {test = test} differs = record {
 }
 
 module _ {A : Type 0} {P : List ℕ → A → Front} (fill : IsFilling tight always P) (k : Keyword) where
-  -- all that stand here, and none more
+  -- all that are here, and none more
   abbrev Stop_ : List ℕ → List A → Front
   Stop_ text xs = Repeats (P text) xs (No (TheWord text k))
 
@@ -465,7 +465,7 @@ text_goes_on_with Unexpected text ts at tokens b = tt
 text_goes_on_with TooDeep text ts at tokens b = (b.0, b.1, b.2, text_goes_on (λ vs c. ⊤) text ts b.1 tokens b.3.1)
 text_goes_on_with TooMany text ts at tokens b = (b.0, b.1, b.2, text_goes_on (λ vs c. GoesBeyond TooMany b.0 c.units) text ts b.1 tokens b.3.1)
 
--- what stands behind the name of a function, more line ends before it
+-- what follows the name of a function, more line ends before it
 pub lax_function_rest : IsLax SpellsFunctionRest
 lax_function_rest = record { more = λ text x t ts rest line w. nested.more text (x.0, (tt, (x.1, (tt, x.2)))) t ts rest line w }
   where

@@ -32,7 +32,7 @@ use Rattle.load_tree.specs.GoesOn.{SpellsProgramRest, SpellsBlockRest, SpellsFun
 use Rattle.load_tree.proofs.Begun.{by_breaks, plainly, KeepsAnyhow, none_kept, body_kept, body_within}
 use Rattle.load_tree.proofs.Rests.{first_asked, lax_function_rest, no_list_opening, filled_opening, variables_opening, externals_opening, full_opening, full_sampled, result_opening, result_sampled_at, lax_no, lax_filled, lax_optional, lax_body, passes_lacks, s_lacks}
 
--- line ends are no fewer where more stands before them
+-- line ends are no fewer where more comes before them
 skip_end : (m ts : List Token) → IsEndOf m ts → length (skip_line_ends m) ≤ length (skip_line_ends ts)
 skip_end m [] e = let same = ap (λ x. length (skip_line_ends x)) e in omega (arith, same)
 skip_end m (t ∷ ts) (inl e) = let same = ap (λ x. length (skip_line_ends x)) e in omega (arith, same)
@@ -42,7 +42,7 @@ skip_end m (t ∷ ts) (inr e) = go (is_line_end t.kind) refl (skip_end m ts e)
     go true same more = more
     go false same more = let a = gap_length loose_gap m in let b = end_length m ts e in omega (arith, a, b)
 
--- a part that looks behind line ends stands there, and something is read of what follows directly
+-- a part that looks after line ends is there, and something is read of what follows directly
 inside_part : {B : Type 0} {F : List ℕ → Front} {Q : List ℕ → B → Front} {first second : Test} {text : List ℕ} {ts m at : List Token} → Opens loose first F → F text ts m
     → (length at < length (skip_line_ends m)) × Begins second Q text m at → (length at < length (skip_line_ends ts)) × Begins second (λ text (y : B). F text ⨾ Q text y) text ts at
 inside_part {text = text} {ts = ts} {m = m} {at = at} one here k =
@@ -63,7 +63,7 @@ inside_part {text = text} {ts = ts} {m = m} {at = at} one here k =
 pub lax_within : (K : List Step → Type 0) (last : Keyword) → IsLax (Within (λ (b : Body). K b.steps) (λ text. SpellsBody text last))
 lax_within K last = record { more = λ text b t ts rest line w. ((lax_body last).more text b t ts rest line w.0, w.1) }
 
--- a body without instructions, whatever stands behind
+-- a body without instructions, whatever follows
 body_at : (vs : List Token) (last : Keyword) → IsSampled always (Within (λ (b : Body). KeepsSteps vs b.steps) (λ text. SpellsBody text last)) (body_samples last)
 body_at vs last = body_kept (KeepsSteps vs) (none_kept vs) last
 
@@ -180,7 +180,7 @@ mapped {A = A} {B = B} P Q body other_body {text = text} {ts = ts} h same f bad 
     go : (K : List Token → List Step → Type 0) (at : List Token) → BeginsBy always (λ vs. Within (λ x. K vs (body x).steps) P) text ts at → BeginsBy always (λ vs. Within (λ x. K vs (other_body x).steps) Q) text ts at
     go K at b = begins_as_by {P = λ vs. Within (λ x. K vs (body x).steps) P} {Q = λ vs. Within (λ x. K vs (other_body x).steps) Q} h (λ x vs other us r w. (f x other us r w.0, subst (λ (y : Body). K vs y.steps) (sym (same x)) w.1)) b
 
--- what stands behind a heading, of its own samples
+-- what follows a heading, of its own samples
 pub program_within : IsSampled always (Within (λ (x : List Declaration × List Declaration × Body). KeepsAnyhow x.2.steps) SpellsProgramRest) (body_samples word.EndProgram)
 program_within =
     map_sampled {P = λ text (x : Unit {0} × (Unit {0} × (List Declaration × (List Declaration × Body)))). LacksList text word.VarInput ⨾ LacksList text word.VarOutput ⨾ SpellsVariables text x.1.1.0 ⨾ SpellsSomeExternals text x.1.1.1.0
@@ -208,7 +208,7 @@ function_within =
     (s_lacks word.Var word.EndFunction (λ e. cc) (optional_list_sampled word.Var (λ text. SpellsDeclaration text))
     (s_lacks word.VarExternal word.EndFunction (λ e. cc) (lacking_sampled word.VarExternal) (body_within word.EndFunction)))))
 
--- a result, and what stands behind it
+-- a result, and what follows it
 abbrev pub ResultRest : List ℕ → (Place × Scalar) × (List Declaration × List Declaration × Body) → Front
 ResultRest text y = SpellsResultAt text y.0 ⨾ SpellsFunctionRest text y.1
 
@@ -219,7 +219,7 @@ result_within =
     {Q = Within (λ (y : (Place × Scalar) × (List Declaration × List Declaration × Body)). KeepsAnyhow y.1.2.steps) ResultRest} (λ y. y) (λ y other us r w. ((w.0, w.1, w.2.0), w.2.1))
     (then_sampled tight result_sampled_at function_within (passes_quiet refl) stays_tight)
 
--- a result stands there, and the rest breaks off
+-- a result is there, and the rest breaks off
 pub result_on : {text : List ℕ} {ts m : List Token} {e : Stop} {y : Place × Scalar} → Reads (SpellsResultAt text) ts y m → BreaksWith loose (λ x. x.2) SpellsFunctionRest text m e → BreaksWith loose (λ y. y.1.2) ResultRest text ts e
 result_on {text = text} {ts = ts} {m = m} {y = y} here bad = by_breaks before (λ error t back end less b. with (λ steps. HasSurplus error t steps) back less b) bad
   where
@@ -243,7 +243,7 @@ result_first bad = plainly
     {Q = Within (λ (y : (Place × Scalar) × (List Declaration × List Declaration × Body)). KeepsAnyhow y.1.2.steps) ResultRest} (λ y. y) (λ y other us r w. ((w.0, w.1, w.2.0), w.2.1))
     (first_asked function_within (passes_quiet refl) bad))
 
--- a heading, and what stands behind its name
+-- a heading, and what follows its name
 abbrev pub Headed : {A : Type 0} → Keyword → (List ℕ → A → Front) → List ℕ → Place × (Named × A) → Front
 Headed k Q text x = PlacedWord text k x.0 ⋯ TheName text x.1.0 ⨾ Q text x.1.1
 
@@ -264,7 +264,7 @@ module _ {A : Type 0} (k : Keyword) (Q : List ℕ → A → Front) (body : A →
         (map_breaks {P = Headed k (Within (λ x. KeepsAnyhow (body x).steps) Q)} {Q = Within (λ (x : Place × (Named × A)). KeepsAnyhow (body x.1.1).steps) (Headed k Q)} (λ x. x) (λ x other us r w. headed_parts KeepsAnyhow x other us r w)
         (later_loose (placed_word_filling k) here (s_tight the_name_sampled q) refl bad))
 
-    -- what stands behind it does
+    -- what follows it does
     pub headed_on : {n : List Token} {name : Named} → IsSampled always (Within (λ x. KeepsAnyhow (body x).steps) Q) zs → Reads (PlacedWord text k) ts p m → Reads (TheName text) (skip_line_ends m) name n → BreaksWith loose body Q text n e
         → BreaksWith tight (λ (x : Place × (Named × A)). body x.1.1) (Headed k Q) text ts e
     headed_on {n = n} {name = name} q here named bad = by_breaks before (λ error t back end less b. with (λ steps. HasSurplus error t steps) back less b) bad

@@ -48,7 +48,7 @@ use Rattle.load_tree.proofs.Shallow.{Headed, ResultRest, program_within, block_w
 use Rattle.load_tree.proofs.Parts.{Group, config, whole_config, from_small_units, are_short, are_shallow}
 use Rattle.load_tree.proofs.Rests.{group_sampled, units_filling, program_is, block_is, function_is}
 
--- what stands there begins itself
+-- what is there begins itself
 begins_whole : {A : Type 0} {P : List ℕ → A → Front} {look : Gap} {text : List ℕ} (x : A) (ts m : List Token) → Fills look always (λ text. P text x) → P text x ts m → Begins always P text ts m
 begins_whole {P = P} {text = text} x ts m fill here = record {
   inside = fill.opens.ends text ts m here;
@@ -65,7 +65,7 @@ part_begins : {A B : Type 0} {look : Gap} {zs : List Sample} {text : List ℕ} (
 part_begins {A = A} {B = B} {text = text} P Q effect h is x ts m fill here q =
     begins_as {P = λ text (y : A × B). P text y.0 ⨾ Q text y.1} {Q = λ text. SpellsRoomyOf text true effect} h is (begins_first tight q passes_always stays_tight (begins_whole x ts m fill here))
 
--- what may stand behind an `&`
+-- what may follows an `&`
 abbrev BehindSign : List ℕ → Operand → Front
 BehindSign text o us r = calm text us × SpellsLine text o us r
 
@@ -76,7 +76,7 @@ behind_sign_sampled = record {
       (x.0, ((passes_calm {samples = true_sample ∷ line_end_sample ∷ []} {test = always} refl).yes other vs rest a t, x.1));
 }
 
--- an `&` and what may stand behind it are an instruction
+-- an `&` and what may follows it are an instruction
 ampersand_is : (o : Operand) (other : List ℕ) (us r : List Token) → (TheSign Ampersand ⨾ BehindSign other o) us r → SpellsRoomyOf other true Even (instruction.Operate (operator.Logic Conjunction false) o) us r
 ampersand_is o other [] r w = absurd w.1
 ampersand_is o other (u ∷ us) r w = (refl, (tt, (w.0, inr (w.1.0, (w.1.1, λ n p. w.2.0.letter u.end n (subst (λ k. TheLetterN other u.end k n) w.1.1 p))), w.2.1)))
@@ -112,7 +112,7 @@ instruction_begun text (lead.Reserved (word.Return k)) ts l begun = (Even, by_wo
 instruction_begun text (lead.Reserved (word.Call k)) ts l begun = (Even, by_word Even (word.Call k) (λ x. instruction.Call k x.0 x.1) (λ x other us r w. (refl, (tt, w))) text ts l called_sampled)
 instruction_begun text l ts same begun = absurd cc
 
--- a token stands there
+-- a token is there
 a_token : (text : List ℕ) (ts : List Token) (begins : Lead → Bool) → begins lead.Nothing ≡ false → begins (lead_at text ts) ≡ true → (t : Token) × (back : List Token) × (ts ≡ t ∷ back)
 unfolding lead_at
 a_token text [] begins none begun = absurd cc
@@ -218,7 +218,7 @@ unit_placed {text = text} {ts = ts} t back at same less b = record {
 }
 
 module _ {text : List ℕ} {start ts : List Token} {us : List ProgramUnit} where
-  -- what units keep, with CONFIGURATION behind them
+  -- what units keep, with CONFIGURATION after them
   edge_on : HasGone (SpellsUnitBy TooDeep) (λ text. TheWord text word.Configuration) text start us ts → All (λ (v : ProgramUnit). length v.body.steps ≤ 4096) us → length us ≤ 64
       → BeginsBy always (λ ws. Within (KeepsUnits ws) SpellsAllUnits) text start ts
   edge_on so_far few most = record {
@@ -275,7 +275,7 @@ module _ {text : List ℕ} {start ts : List Token} {us : List ProgramUnit} where
         },
       )
 
-  -- a unit breaks off behind others
+  -- a unit breaks off after others
   pub units_break : {e : Stop} (full : Bool) → full ≡ false → (IsFalse full → length us ≡ 64 → ⊥) → length us ≤ 64 → All (λ (v : ProgramUnit). length v.body.steps ≤ 4096) us → HasGone (SpellsUnitBy TooDeep) (λ text. TheWord text word.Configuration) text start us ts → HasGone SpellsUnit (λ text. TheWord text word.Configuration) text start us ts → BreaksWith tight (λ u. u.body) SpellsUnit text ts e
       → BreaksUnits text start e
   units_break full is not_all most few shallow so_far bad =
@@ -353,7 +353,7 @@ module _ {text : List ℕ} {ts : List Token} where
             }),
           )
 
-  -- or what stands behind them does
+  -- or what follows them does
   pub text_group_break : {e : Stop} {us : List ProgramUnit} {m : List Token} → Reads (SpellsFewUnits text) (skip_line_ends ts) us m → BreaksOff ended SpellsGroup text (skip_line_ends m) e → BreaksAll text ts e
   text_group_break {us = us} read bad =
       let shallow = are_shallow text (TheWord text word.Configuration) _ _ _ read.found.0 in

@@ -1,4 +1,4 @@
--- What a reader promises that stands behind a part which looks ahead.
+-- What a reader promises that follows a part which looks ahead.
 use Rattle.std.specs.Prelude.{◌≡◌, ℕ, List}
 use Rattle.il_syntax.specs.declared.token.Token.{Token}
 use Rattle.il_syntax.specs.Grammar.{Front, skip_line_ends}
@@ -8,7 +8,7 @@ use Rattle.load_lines.specs.declared.stop.SyntaxError.{SyntaxError}
 use Rattle.load_lines.specs.declared.stop.Stop.{Stop}
 
 -- A fault says that with the token at its place no P goes on, and that this is no line end at the front. A part that may be
--- missing looks behind these line ends, and no further.
+-- missing looks after these line ends, and no further.
 pub record RefusesAhead {A : Type 0} (P : List ℕ → A → Front) (text : List ℕ) (ts : List Token) (e : Stop) : Type 0 where
   pub fault : IsFault e → (error : SyntaxError) × (at : List Token) × (e ≡ fault_at error at) × IsEndOf at ts × IsEndOf (turn error text at) (skip_line_ends ts) × GoesOnNoMore P text ts (turn error text at)
 

@@ -61,7 +61,7 @@ begins_lead (lead.Reserved (word.Return condition)) = true
 begins_lead (lead.Reserved (word.Call condition)) = true
 begins_lead _ = false
 
--- whether what begins so may stand where `depth` parentheses are open, and `load` says that a load has to follow
+-- whether what begins so may be where `depth` parentheses are open, and `load` says that a load has to follow
 abbrev pub may_begin : ℕ → Bool → Lead → Bool
 may_begin depth load l = if depth == 0 then not (closes_lead l) else (not (leaves_lead l) && (not load || loads_lead l))
 
@@ -69,7 +69,7 @@ may_begin depth load l = if depth == 0 then not (closes_lead l) else (not (leave
 abbrev pub bare : Place → Instruction → Step
 bare place i = record { labels = []; place = place; instruction = i }
 
--- an instruction at its place, which may stand there and opens no 17th parenthesis; none where the body is full
+-- an instruction at its place, which may be there and opens no 17th parenthesis; none where the body is full
 abbrev pub SpellsPlaced : List ℕ → ℕ → Bool → Bool → Place × Instruction → Front
 SpellsPlaced text depth load full x ts rest =
     At x.0 (SpellsInstruction text x.1) ts rest × IsTrue (may_stand depth load (bare x.0 x.1)) × (depth_after depth x.1 ≤ 16) × IsTrue (not full)
@@ -80,19 +80,19 @@ FitsBy Unexpected depth full i = ⊤
 FitsBy TooDeep depth full i = depth_after depth i ≤ 16
 FitsBy TooMany depth full i = IsTrue (not full)
 
--- an instruction at its place, which may stand there, within the limit that a fault is about
+-- an instruction at its place, which may be there, within the limit that a fault is about
 abbrev pub SpellsPlacedBy : ℕ → Bool → Bool → SyntaxError → List ℕ → Place × Instruction → Front
 SpellsPlacedBy depth load full error text x ts rest =
     At x.0 (SpellsInstruction text x.1) ts rest × IsTrue (may_stand depth load (bare x.0 x.1)) × FitsBy error depth full x.1
 
 -- A fault says that with the token at its place no such instruction goes on. Outside parentheses it is not the name that an
--- instruction begins with: that may be a label, as the token behind it tells.
+-- instruction begins with: that may be a label, as the token after it tells.
 pub record RefusesPlaced (text : List ℕ) (depth : ℕ) (load full : Bool) (ts : List Token) (e : Stop) : Type 0 where
   pub fault : IsFault e → (error : SyntaxError) × (at : List Token) × (e ≡ fault_at error at) × IsEndOf at ts
       × (depth ≡ 0 → lead_at text ts ≡ lead.Name → IsEndOf (turn error text at) (drop 1 ts)) × GoesOnNoMore (SpellsPlacedBy depth load full (error_of e)) text ts (turn error text at)
 
--- What labels were read: they name what stands behind them, in alike tokens too, and in cut ones no instruction stands before their end. Only where the last stands alone on its line may
--- the body end there. Whether a name behind them is a label more, the token behind the name tells.
+-- What labels were read: they name what follows them, in alike tokens too, and in cut ones no instruction comes before their end. Only where the last is alone on its line may
+-- the body end there. Whether a name after them is a label more, the token after the name tells.
 pub record HasLabels (text : List ℕ) (start : List Token) (ns : List Named) (alone : Bool) (ts : List Token) : Type 0 where
   pub inside : IsEndOf ts start
   pub names : (p : Place) (i : Instruction) (r : List Token) → At p (SpellsInstruction text i) ts r → SpellsLabelled text ns (At p (SpellsInstruction text i)) start r
@@ -106,7 +106,7 @@ pub record HasLabels (text : List ℕ) (start : List Token) (ns : List Named) (a
   pub past : (other : List ℕ) (us vs : List Token) → IsCut text other ts start us vs → (p : Place) (i : Instruction) (ys : List Named) (r : List Token) → SpellsLabelled other ys (At p (SpellsInstruction other i)) us r
       → StandsAmong vs p
 
--- the word that ends the body, which is taken where it may stand, or doesn't stand there
+-- the word that ends the body, which is taken where it may be, or doesn't are there
 abbrev pub TakesEnd : List ℕ → Keyword → Bool → List Token → Option Place → List Token → Type 0
 TakesEnd text last alone ts (Some p) rest = IsTrue alone × At p (TheWord text last) ts rest
 TakesEnd text last alone ts None rest = (rest ≡ ts) × ((p : Place) (r : List Token) → At p (TheWord text last) ts r → IsTrue alone → ⊥)

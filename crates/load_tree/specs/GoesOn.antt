@@ -31,8 +31,8 @@ use Rattle.load_tree.specs.Headings.{SpellsResultAt}
 abbrev pub Within : {A : Type 0} → (A → Type 0) → (List ℕ → A → Front) → List ℕ → A → Front
 Within K P text x ts rest = P text x ts rest × K x
 
--- A fault stands where the tokens before its place are the beginning of a P that keeps K, with the tokens that complete it and all behind. Where only a
--- limit forbids its token, it stands behind the gap, and with it others are the beginning of a P that goes beyond the limit as L says.
+-- A fault is where the tokens before its place are the beginning of a P that keeps K, with the tokens that complete it and all after. Where only a
+-- limit forbids its token, it follows the gap, and with it others are the beginning of a P that goes beyond the limit as L says.
 pub record BreaksOffBy {A : Type 0} (look : Gap) (test : Test) (K : List Token → A → Type 0) (L : SyntaxError → Token → A → Type 0) (P : List ℕ → A → Front) (text : List ℕ) (ts : List Token) (e : Stop) : Type 0 where
   pub fault : IsFault e → (error : SyntaxError) × (at : List Token) × (e ≡ fault_at error at) × BeginsBy test (λ vs. Within (K vs) P) text ts at
       × Further (λ error t back. (length back < length (look ts)) × Begins test (Within (L error t) P) text ts back) error at
@@ -41,7 +41,7 @@ pub record BreaksOffBy {A : Type 0} (look : Gap) (test : Test) (K : List Token �
 abbrev pub StaysShallow : ℕ → List Step → Type 0
 StaysShallow depth steps = greatest_depth depth steps ≤ 16
 
--- All of these instructions but the first stand at these tokens, and so does the first where the body is full.
+-- All of these instructions but the first are at these tokens, and so does the first where the body is full.
 abbrev pub AreBehind : Bool → List Token → List Step → Type 0
 AreBehind full vs [] = ⊤
 AreBehind full vs (s ∷ steps) = (IsTrue full → StandsAmong vs s.place) × All (λ (s : Step). StandsAmong vs s.place) steps
@@ -54,7 +54,7 @@ KeepsRest depth full vs steps = StaysShallow depth steps × AreBehind full vs st
 abbrev pub KeepsSteps : List Token → List Step → Type 0
 KeepsSteps vs steps = StaysShallow 0 steps × IsLateSurplus vs steps
 
--- Where one instruction is too many, the first of these is, and stands at the token of the fault, behind its labels: the body is full.
+-- Where one instruction is too many, the first of these is, and is at the token of the fault, after its labels: the body is full.
 abbrev pub BeginsSurplus : Bool → SyntaxError → Token → List Step → Type 0
 BeginsSurplus full Unexpected t steps = ⊤
 BeginsSurplus full TooDeep t steps = ⊤
@@ -72,7 +72,7 @@ Rest = List Step × (List Named × Place)
 abbrev pub SpellsRestLines : List ℕ → Keyword → Rest → Front
 SpellsRestLines text last x = Repeats (SpellsStep text) x.0 (Repeats (SpellsLabelLine text) x.1.0 (At x.1.1 (TheWord text last)))
 
--- what stands in a body where `depth` parentheses are open, and `load` says that a load has to follow
+-- what is in a body where `depth` parentheses are open, and `load` says that a load has to follow
 abbrev pub SpellsFrom : List ℕ → Keyword → ℕ → Bool → Rest → Front
 SpellsFrom text last depth load x ts rest = IsTrue (is_nested depth load x.0) × SpellsRestLines text last x ts rest
 
@@ -93,11 +93,11 @@ abbrev pub BreaksPlaced : Keyword → ℕ → Bool → Bool → List ℕ → Lis
 BreaksPlaced last depth load full text ts e =
     BreaksOffBy tight always (λ vs x. KeepsRest depth full vs (all_steps x)) (λ error t x. BeginsSurplus full error t (all_steps x)) (λ text. SpellsPlacedFrom text last depth load) text ts e
 
--- all of a body behind its first line end
+-- all of a body after its first line end
 abbrev pub BreaksSteps : Keyword → List ℕ → List Token → Stop → Type 0
 BreaksSteps last text ts e = BreaksOffBy tight always (λ vs x. KeepsSteps vs x.0) (λ error t x. HasSurplus error t x.0) (λ text. SpellsFrom text last 0 false) text ts e
 
--- what stands behind the heading of a unit
+-- what follows the heading of a unit
 abbrev pub SpellsProgramRest : List ℕ → List Declaration × List Declaration × Body → Front
 SpellsProgramRest text x = LacksList text word.VarInput ⨾ LacksList text word.VarOutput ⨾ SpellsVariables text x.0 ⨾ SpellsSomeExternals text x.1 ⨾ SpellsBody text word.EndProgram x.2
 
@@ -122,7 +122,7 @@ SpellsWholeFunction text x = PlacedWord text word.Function x.0 ⋯ TheName text 
 abbrev pub SpellsAllUnits : List ℕ → List ProgramUnit → Front
 SpellsAllUnits text us = Repeats (SpellsUnit text) us (TheWord text word.Configuration)
 
--- neither this word nor a line end stands there
+-- neither this word nor a line end is there
 abbrev pub stopped : Keyword → Test
 stopped keyword other vs = ((rest : List Token) → TheWord other keyword vs rest → ⊥) × (skip_line_ends vs ≡ vs)
 

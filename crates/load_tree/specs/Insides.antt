@@ -1,4 +1,4 @@
--- What stands behind the heading of a unit: its lists and its body.
+-- What follows the heading of a unit: its lists and its body.
 use Rattle.std.specs.Prelude.{ℕ, List}
 use Rattle.il_syntax.specs.declared.keyword.Keyword.{Keyword}
 use Rattle.il_syntax.specs.declared.keyword.Keyword.TheVariants as word

@@ -33,7 +33,7 @@ AreFewBy TooMany us = length us ≤ 64
 abbrev pub SpellsFewUnitsBy : SyntaxError → List ℕ → List ProgramUnit → Front
 SpellsFewUnitsBy error text us ts rest = Repeats (SpellsUnitBy error text) us (TheWord text word.Configuration) ts rest × AreFewBy error us
 
--- the list of globals, where it stands
+-- the list of globals, where it is
 abbrev pub SpellsGlobalList : List ℕ → Place × List Declaration → Front
 SpellsGlobalList text x = AfterLines (PlacedWord text word.VarGlobal x.0 ⋯ Repeats (SpellsDeclaration text) x.1 (TheWord text word.EndVar))
 
@@ -41,11 +41,11 @@ SpellsGlobalList text x = AfterLines (PlacedWord text word.VarGlobal x.0 ⋯ Rep
 abbrev pub SpellsSomeGlobals : List ℕ → Option Place × List Declaration → Front
 SpellsSomeGlobals text x = SpellsGlobals text x.0 x.1
 
--- all TASK lines that stand here
+-- all TASK lines that are here
 abbrev pub SpellsTasks : List ℕ → List Task → Front
 SpellsTasks text xs = Repeats (SpellsTask text) xs (No (TheWord text word.Task))
 
--- all PROGRAM lines that stand here
+-- all PROGRAM lines that are here
 abbrev pub SpellsPrograms : List ℕ → List ProgramLine → Front
 SpellsPrograms text xs = Repeats (SpellsProgramLine text) xs (No (TheWord text word.Program))
 
@@ -61,7 +61,7 @@ SpellsResourceOf text x = TheWord text word.Resource ⋯ SomeName text ⋯ TheWo
 abbrev pub SpellsEnding : List ℕ → List Task × List ProgramLine × Place → Front
 SpellsEnding text x = SpellsResourceOf text x ⋯ TheWord text word.EndConfiguration ⋯ TheEnd
 
--- what stands behind CONFIGURATION
+-- what follows CONFIGURATION
 abbrev pub SpellsGroup : List ℕ → (Size × (Size × Size)) × (Option Place × List Declaration) × (List Task × List ProgramLine × Place) → Front
 SpellsGroup text x = SomeName text ⋯ SpellsThree text x.0 ⨾ SpellsSomeGlobals text x.1 ⋯ SpellsEnding text x.2
 

@@ -46,8 +46,8 @@ IsPlaceAt text place [] = length text < 4294967295 → (place.offset ≡ length 
 IsPlaceAt text place (t ∷ ts) = (place.offset ≡ t.start) × (place.line ≡ t.line)
 
 -- A fault names the first of the tokens `at`, or where there is none the end of the text. With it no text goes on: whatever text
--- has the same tokens up to this one, whatever stands behind, no configuration is spelled that keeps the limit which the fault is
--- about. Where an instruction too many begins with a name, it is the token behind that name with which none goes on (`turn`).
+-- has the same tokens up to this one, whatever follows, no configuration is spelled that keeps the limit which the fault is
+-- about. Where an instruction too many begins with a name, it is the token after that name with which none goes on (`turn`).
 abbrev pub GoesOnNowhere : List ℕ → List Token → Refusal → Type 0
 GoesOnNowhere text tokens (refusal.Fault number place) =
     (error : SyntaxError) × (at : List Token) × (number ≡ number_of error) × IsEndOf at tokens × IsPlaceAt text place at
@@ -67,13 +67,13 @@ NoTextGoesOn text tokens refusal.Memory = ⊤
 abbrev pub IsItsPlace : Token → Place → Type 0
 IsItsPlace t place = (place.offset ≡ t.start) × (place.line ≡ t.line)
 
--- Where a fault says that there are too many, the 4097th instruction stands at its token, behind its labels.
+-- Where a fault says that there are too many, the 4097th instruction is at its token, after its labels.
 abbrev pub HasSurplus : SyntaxError → Token → List Step → Type 0
 HasSurplus Unexpected t steps = ⊤
 HasSurplus TooDeep t steps = ⊤
 HasSurplus TooMany t steps = (s : Step) × (slice_get steps 4096 ≡ Some s) × IsItsPlace t s.place
 
--- The first of the units that goes beyond a limit: it is the 65th, which stands at the token of the fault, or its 4097th instruction does. In none before it
+-- The first of the units that goes beyond a limit: it is the 65th, which is at the token of the fault, or its 4097th instruction does. In none before it
 -- are there too many instructions.
 abbrev pub GoesBeyond : SyntaxError → Token → List ProgramUnit → Type 0
 GoesBeyond Unexpected t us = ⊤
@@ -86,29 +86,29 @@ GoesBeyond TooMany t us =
 abbrev pub StandsAmong : List Token → Place → Type 0
 StandsAmong vs place = (t : Token) × (back : List Token) × IsEndOf (t ∷ back) vs × IsItsPlace t place
 
--- The 4097th of these instructions, if there is one, stands at one of these tokens, behind its labels.
+-- The 4097th of these instructions, if there is one, is at one of these tokens, after its labels.
 abbrev pub IsLateSurplus : List Token → List Step → Type 0
 IsLateSurplus vs steps = (s : Step) → slice_get steps 4096 ≡ Some s → StandsAmong vs s.place
 
 -- Nothing before these tokens is beyond a limit: no more than 16 parentheses are open at once, there are at most 64 units, and where one of them has a
--- 4097th instruction, it stands at one of these tokens.
+-- 4097th instruction, it is at one of these tokens.
 abbrev pub KeepsBefore : List Token → Config → Type 0
 KeepsBefore vs c = IsNested c × (length c.units ≤ 64) × All (λ (u : ProgramUnit). IsLateSurplus vs u.body.steps) c.units
 
--- Some text goes on with the tokens before the first of `at`: one that has these tokens, of the same bytes, and others behind, is of the
+-- Some text goes on with the tokens before the first of `at`: one that has these tokens, of the same bytes, and others after, is of the
 -- language, and with the others its tree is a K. No limits count but those that K names.
 abbrev pub IsBegun : (List Token → Config → Type 0) → List ℕ → List Token → List Token → Type 0
 IsBegun K text tokens at =
     (other : List ℕ) × (others : List Token) × (vs : List Token) × AreTokens other 0 others × IsCut text other at tokens others vs × (c : Config) × AfterLines (SpellsConfig other c) others [] × K vs c
 
--- Some text goes on with the token that a fault names too, where only a limit forbids it: 12 stands at the first thing that is too many.
+-- Some text goes on with the token that a fault names too, where only a limit forbids it: 12 is at the first thing that is too many.
 abbrev pub GoesOnWith : SyntaxError → List ℕ → List Token → List Token → Type 0
 GoesOnWith Unexpected text tokens at = ⊤
 GoesOnWith TooDeep text tokens at = (t : Token) × (back : List Token) × (at ≡ t ∷ back) × IsBegun (λ vs c. ⊤) text tokens back
 GoesOnWith TooMany text tokens at = (t : Token) × (back : List Token) × (at ≡ t ∷ back) × IsBegun (λ vs c. GoesBeyond TooMany t c.units) text tokens back
 
 -- With the tokens before the one that a fault names, or with all before the end, some text goes on, in which nothing before is beyond a limit: no fault
--- is told behind a 12. So one goes on with that token, where the fault is about a limit: 10 is what no text goes on with, and 11 and 12 are what only a
+-- is told after a 12. So one goes on with that token, where the fault is about a limit: 10 is what no text goes on with, and 11 and 12 are what only a
 -- limit forbids.
 abbrev pub GoesOnBefore : List ℕ → List Token → Refusal → Type 0
 GoesOnBefore text tokens (refusal.Fault number place) =

@@ -67,7 +67,7 @@ fn loads(lead: Lead) -> bool
     }
 }
 
-// Whether what begins so may stand in so many parentheses.
+// Whether what begins so may be in so many parentheses.
 fn may_begin(depth: usize, load: bool, lead: Lead) -> bool
     ensures { result ≡ may_begin depth load lead }
 {
@@ -156,7 +156,7 @@ fn eat_line_end(tokens: &mut Tokens) -> bool
     true
 }
 
-// Labels, and whether the last stands alone on its line.
+// Labels, and whether the last is alone on its line.
 #[inline(always)]
 fn labels(source: &Source, tokens: &mut Tokens) -> Result<(Items<Named>, bool), Stop>
     ensures labels { IfOk result (λ x. HasLabels source.now tokens.old x.0 x.1 tokens.new) }
@@ -175,7 +175,7 @@ fn labels(source: &Source, tokens: &mut Tokens) -> Result<(Items<Named>, bool), 
     Ok((labels, true))
 }
 
-// The word that ends the body, where it may stand and the tokens begin so. Most begin an instruction, which is told first.
+// The word that ends the body, where it may be and the tokens begin so. Most begin an instruction, which is told first.
 #[inline(always)]
 fn eat_end(
     source: &Source,
@@ -261,7 +261,7 @@ fn next_entry(
     }))
 }
 
-// How many parentheses are open behind an instruction.
+// How many parentheses are open after an instruction.
 fn depth_after(depth: usize, instruction: &Instruction) -> usize
     requires { depth ≤ 16 }
     ensures { result ≡ depth_after depth instruction.now }

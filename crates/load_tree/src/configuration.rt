@@ -144,7 +144,7 @@ fn ending(source: &Source, tokens: &mut Tokens) -> Result<Lines, Stop>
     Ok(lines)
 }
 
-// What stands behind CONFIGURATION.
+// What follows CONFIGURATION.
 fn group(source: &Source, tokens: &mut Tokens) -> Result<(Sizes, Globals, Lines), Stop>
     ensures reads { IfOk result (λ x. Reads (SpellsGroup source.now) tokens.old x []) }
     ensures refused { IfErr result (λ e. Refuses SpellsGroup source.now tokens.old e) }

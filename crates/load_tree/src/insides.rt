@@ -1,4 +1,4 @@
-// What stands behind the heading of a unit (IEC 61131-3:2003, 2.5).
+// What follows the heading of a unit (IEC 61131-3:2003, 2.5).
 
 ghost use Rattle.std.specs.Prelude.{IfOk, IfErr};
 ghost use Rattle.load_lines.specs.Reads.{Reads, Refuses};

@@ -35,12 +35,12 @@ pub use variables::{comes, externals, filled_list, full_list, no_list, optional_
 
 /// The configuration that the tokens of a text spell.
 ///
-/// Fault 10 stands at the first token with which no text goes on; at the end of the text its line is one more than the line
-/// feeds. Fault 11 stands at the 17th parenthesis that is open at once, and fault 12 at the 65th unit and at the operator of a
+/// Fault 10 is at the first token with which no text goes on; at the end of the text its line is one more than the line
+/// feeds. Fault 11 is at the 17th parenthesis that is open at once, and fault 12 at the 65th unit and at the operator of a
 /// unit's 4097th instruction. That no text goes on with it is proved, and that one goes on with the tokens before it, in which
-/// nothing before it is beyond a limit: a 12 is told before whatever stands behind it. With the token of fault 11 or 12 one goes
+/// nothing before it is beyond a limit: a 12 is told before whatever follows it. With the token of fault 11 or 12 one goes
 /// on too, beyond the limit: 10 is what the grammar forbids, and 11 and 12 what a limit does. In the one of fault 12 the first
-/// unit or instruction too many stands at that token.
+/// unit or instruction too many is at that token.
 pub fn parse(alloc: Global, text: &[u8], tokens: &[Token]) -> Result<Written, Refusal>
     requires { AreTokens text.now 0 tokens.now }
     // What is read is spelled so.
@@ -60,10 +60,10 @@ pub fn parse(alloc: Global, text: &[u8], tokens: &[Token]) -> Result<Written, Re
     ensures texts { IfErr result (λ e. NoTextGoesOn text.now tokens.now e) }
 
     // With the tokens before it, some text does, in which nothing before it is beyond a limit. With it one does too where
-    // only a limit forbids it, and for 12 the first unit or instruction too many stands at it.
+    // only a limit forbids it, and for 12 the first unit or instruction too many is at it.
     ensures before { IfErr result (λ e. GoesOnBefore text.now tokens.now e) }
 
-    // Before a token with which no text goes on nothing is too many, whatever stands behind.
+    // Before a token with which no text goes on nothing is too many, whatever follows.
     ensures early { IfErr result (λ e. NoneTooMany text.now tokens.now e) }
 
     // What is refused is 10, what no text goes on with, 11, too many open parentheses, or 12, too many units or instructions.

@@ -24,7 +24,7 @@ fn is_full(units: &Items<Unit>) -> bool
     units.as_slice().len() == 64
 }
 
-// Why no unit may stand here: it is one too many, or it is none.
+// Why no unit may be here: it is one too many, or it is none.
 fn surplus(source: &Source, tokens: &Tokens) -> Stop
     ensures { ((result ≡ fault_at TooMany tokens.now)
         × IsTrue (unit_begins (lead_at source.now tokens.now)))

@@ -15,7 +15,7 @@ use il_syntax::token::Sign;
 use il_syntax::tree::Declaration;
 use load_lines::{Source, Stop, Tokens};
 
-/// Whether the word comes next, behind any line ends.
+/// Whether the word comes next, after any line ends.
 pub fn comes(source: &Source, tokens: &Tokens, keyword: Keyword) -> bool
     ensures comes { Comes (TheWord source.now keyword) tokens.now result }
 {

@@ -49,7 +49,7 @@ open_first body = by_steps body.steps
     by_steps [] = refl
     by_steps (s ∷ ss) = refl
 
--- the innermost stands last
+-- the innermost is last
 last_at : (below : List Deferred) (d : Deferred) (n : ℕ) → n ≡ length below → slice_get (below ++ d ∷ []) n ≡ Some d
 last_at [] d zero e = refl
 last_at [] d (suc n) e = absurd (omega arith)

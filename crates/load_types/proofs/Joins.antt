@@ -31,7 +31,7 @@ none_some g r a b = let bad : None ≡ Some g = sym a ∙ b in cc
 
 -- LISTS
 
--- what stands where something was written
+-- what is where something was written
 set_same : (xs : List Arrival) (i : ℕ) (r : Option Elementary) (x : Arrival) → slice_get (slice_set xs i (met (or_unreached (slice_get xs i)) r)) i ≡ Some x → (y : Arrival) × (slice_get xs i ≡ Some y) × (met y r ≡ x)
 set_same xs i r x e = by_old xs i (slice_get xs i) refl e
   where
@@ -111,14 +111,14 @@ target_follows body at to step stands e = by_kind step.instruction refl e
     by_kind _ is e = absurd (let bad : None ≡ Some to = e in cc)
 
 module _ (config : Config) (unit : ProgramUnit) where
-  -- a place is reached, and gives this type behind it
+  -- a place is reached, and gives this type after it
   pub record Hands (at : ℕ) (after : Option Elementary) : Type 0 where
     pub reached : IsReached unit.body at
     pub before : Option Elementary
     pub is : IsResultAt config unit at before
     pub gives : type_behind config unit at before ≡ after
 
-  -- each reached place that leads to a place gives this type behind it
+  -- each reached place that leads to a place gives this type after it
   abbrev pub AllBring : (ℕ → ℕ → Type 0) → ℕ → Elementary → Type 0
   AllBring Edge to given = (from : ℕ) → Edge from to → IsReached unit.body from → GivesBehind config unit from given
 

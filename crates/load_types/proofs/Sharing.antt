@@ -116,7 +116,7 @@ is_external_there unit name e = by_own (own_variable unit name) e
     by_own (Some v) e = ap is_external_origin (same v.origin AsExternal e)
     by_own None e = let bad : ◌≡◌ {A = Option Origin} None (Some AsExternal) = e in cc
 
--- externals stand behind all others
+-- externals follows all others
 module _ (test : rule.Variable → Bool) where
   external_behind : (xs ys : List rule.Variable) → is_external_variable (find test xs) ≡ false → is_external_variable (find test (xs ++ ys)) ≡ true → is_external_variable (find test ys) ≡ true
   external_behind [] ys none e = e
@@ -151,7 +151,7 @@ module _ (test : rule.Variable → Bool) where
   no_external_result FunctionBlock name = refl
   no_external_result Program name = refl
 
-  -- what stands in front of the externals
+  -- what is in front of the externals
   external_among : (unit : ProgramUnit) → is_external_variable (find test (variables_of unit)) ≡ true → is_external_variable (find test (with_origin AsExternal unit.externals)) ≡ true
   external_among unit e =
       external_behind _ (with_origin AsExternal unit.externals)

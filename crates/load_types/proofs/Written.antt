@@ -10,7 +10,7 @@ use Rattle.load_types.specs.declared.writers.Writer.{Writer}
 use Rattle.load_types.specs.Writers.{note, noted}
 
 module _ (lines : List ProgramLine) (line : ℕ) (unit : ProgramUnit) where
-  -- names behind others
+  -- names after others
   noted_append : (table : NameMap Writer) (xs ys : List Spelling) → noted lines line unit table (xs ++ ys) ≡ noted lines line unit (noted lines line unit table xs) ys
   noted_append table [] ys = refl
   noted_append table (x ∷ xs) ys = noted_append (note lines line unit table x) xs ys

@@ -23,7 +23,7 @@ pub fn difference(found: Elementary, wanted: Elementary) -> LowestFault
     }
 }
 
-/// The same, where there is a type.
+/// How a type differs from the wanted one, where there is a type.
 pub fn any_difference(found: Option<Elementary>, wanted: Elementary) -> LowestFault
     ensures { result ≡ lowest (any_difference_numbers found wanted) }
 {
@@ -45,7 +45,7 @@ fn literal_fault(literal: Literal, wanted: Elementary) -> LowestFault
     }
 }
 
-// 30 where a bare literal stands for no whole type, 31 where its value is not one of the type.
+// 30 where a bare literal means no whole type, 31 where its value is not one of the type.
 fn bare_fault(wanted: Elementary, fits: bool) -> LowestFault
     ensures { result ≡ lowest (bare_numbers wanted (rules.unless fits 31)) }
 {

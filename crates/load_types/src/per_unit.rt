@@ -25,7 +25,7 @@ pub fn unit_faults(alloc: Global, declared: &Declared) -> Result<Vec<UnitFault>,
     faults_of(alloc, names)
 }
 
-// The same of units that are not too long.
+// The faults of types of each unit that is not too long.
 fn faults_of(alloc: Global, names: &Scoped) -> Result<Vec<UnitFault>, AllocError>
     requires room { AreShort names.now.units }
     ensures { IfOk result (λ faults. AreFirst (UnitBreaks names.now) names.now.units

@@ -216,7 +216,7 @@ fn shared_fault(names: &Scoped, writers: &Table<Writer>) -> Option<Found<TypeFau
     found
 }
 
-// The same in a unit.
+// The first store of a unit into a global of several writers.
 fn unit_shared_fault(
     scope: &UnitScope,
     unit: &Unit,
@@ -271,7 +271,7 @@ fn is_output_shared(scope: &UnitScope, writers: &Table<Writer>, arguments: &[Arg
     shared
 }
 
-// The same of one argument.
+// Whether the target of this output is such a global.
 fn is_argument_shared(scope: &UnitScope, writers: &Table<Writer>, argument: &Argument) -> bool
     ensures { result ≡ list_any (is_shared scope.now.unit writers.now)
         (argument_targets argument.now) }

@@ -29,7 +29,7 @@ use Rattle.load_work.specs.Rounds.{unit_work, works_by, rounds}
 use Rattle.load_work.proofs.Sized.{function_size}
 use Rattle.load_work.proofs.Stacked.{on_top, under_top}
 
--- the same work, up to the greatest number, so many places behind
+-- the same work, up to the greatest number, so many places after
 pub record Stacks (table : List path.Rest) (lefts : List ℕ) : Type 0 where
   pub long : length lefts ≡ length table
   pub each : (up : ℕ) → left_up lefts up ≡ capped (exact_up table up).cost

@@ -50,7 +50,7 @@ on_top lefts n =
     chosen (nat_lt 0 (length (lefts ++ n ∷ []))) _ (lt-ltb _ _ (omega (arith, long)))
     ∙ ap (λ k. number_or (slice_get (lefts ++ n ∷ []) k)) (let e : length (lefts ++ n ∷ []) - 1 - 0 ≡ length lefts = omega (arith, long) in e) ∙ ap number_or (get_last lefts n)
 
--- and those below it stand as before
+-- and those below it are as before
 pub under_top : (lefts : List ℕ) (n k : ℕ) → left_up (lefts ++ n ∷ []) (suc k) ≡ left_up lefts k
 under_top lefts n k = elim (cases_lt k (length lefts)) [
   | inl low ↦

@@ -15,7 +15,7 @@ called_work works (Some number) = number_at works number
 abbrev pub own_work : List ℕ → ℕ → Option ℕ → ℕ
 own_work works moves callee = capped (capped (1 + moves) + called_work works callee)
 
--- what is left so many places behind the last that was added
+-- what is left so many places after the last that was added
 abbrev pub left_up : List ℕ → ℕ → ℕ
 left_up lefts up = if nat_lt up (length lefts) then number_at lefts (length lefts - 1 - up) else 0
 
@@ -28,7 +28,7 @@ abbrev pub jumping : List ℕ → ℕ → Option ℕ → ℕ
 jumping lefts next None = 0
 jumping lefts next (Some place) = capped (1 + left_up lefts (place - next))
 
--- what is left at an instruction, by what is left at the places behind it
+-- what is left at an instruction, by what is left at the places after it
 abbrev pub way_work : List ℕ → List ℕ → ℕ → ℕ → Way → ℕ
 way_work works lefts next moves (Next callee) = passing (own_work works moves callee) lefts
 way_work works lefts next moves (Jump Always to) = jumping lefts next to

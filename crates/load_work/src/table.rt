@@ -28,7 +28,7 @@ fn own_work(works: &[usize], moves: usize, callee: Option<usize>) -> usize
     sum(sum(1, moves), called_work(works, callee))
 }
 
-/// What is left so many places behind the last that was added.
+/// What is left so many places after the last that was added.
 pub fn left_up(lefts: &[usize], up: usize) -> usize
     ensures { result ≡ left_up lefts.now up }
 {
@@ -56,7 +56,7 @@ fn jumping(lefts: &[usize], next: usize, to: Option<usize>) -> usize
     }
 }
 
-// What is left at an instruction, by what is left at the places behind it.
+// What is left at an instruction, by what is left at the places after it.
 fn way_work(works: &[usize], lefts: &[usize], next: usize, one: Weighed) -> usize
     ensures { result ≡ way_work works.now lefts.now next one.moves one.way }
 {
@@ -74,7 +74,7 @@ fn way_work(works: &[usize], lefts: &[usize], next: usize, one: Weighed) -> usiz
     }
 }
 
-/// What is left at a body's places, the last place first: at the return behind the last instruction 1.
+/// What is left at a body's places, the last place first: at the return after the last instruction 1.
 pub fn lefts(alloc: Global, all: &[Weighed], works: &[usize]) -> Result<Items<usize>, AllocError>
     ensures { IfOk result (λ lefts. lefts ≡ lefts_above works.now 0 all.now) }
 {
@@ -87,7 +87,7 @@ pub fn lefts(alloc: Global, all: &[Weighed], works: &[usize]) -> Result<Items<us
     Ok(lefts)
 }
 
-// Adds what is left at a place to what is left at those behind it.
+// Adds what is left at a place to what is left at those after it.
 fn push_left(
     lefts: &mut Items<usize>,
     all: &[Weighed],

@@ -11,7 +11,7 @@ use load_budgets::ways::{Way, way_of};
 use load_scope::Scoped;
 use std::alloc::{AllocError, Global};
 
-/// How a control path goes on behind an instruction, and how many values the instruction moves.
+/// How a control path goes on after an instruction, and how many values the instruction moves.
 #[derive(Clone, Copy)]
 pub struct Weighed {
     pub way: Way,

@@ -107,7 +107,7 @@ equal_inside = refl
 equal_outside : interval_narrow NotEqual false (between (pos 0) (pos 9)) (negsuc 0) ≡ None
 equal_outside = refl
 
--- the greatest UDINT is not left by `>`, nor anything behind it
+-- the greatest UDINT is not left by `>`, nor anything after it
 greatest_above : interval_narrow Greater true (between (pos 0) (pos 4294967295)) (pos 4294967295) ≡ None
 greatest_above = refl
 

@@ -102,7 +102,7 @@ fn equal_to(range: Interval, number: i128) -> Option<Interval>
     }
 }
 
-// A lower end behind a number, if it is that number.
+// A lower end after a number, if it is that number.
 #[tactic(auto, using(crate::proofs::Outcomes::cond_yes, crate::proofs::Outcomes::cond_no))]
 fn end_above(lo: i128, number: i128) -> i128
     requires { IsEnd lo }

@@ -285,7 +285,7 @@ outputs_grow c u a p k l block (Output word to ∷ more) m n h q =
     let form = entry_of (outputs_of (block_variables c block)) word.name in
     outputs_grow c u a p k l block more (after_output form d m) (after_output form d n) (output_grows d form m n h) q
 
--- the row behind a call
+-- the row after a call
 passed_row_fine : (names : Names) (condition : Condition) (acted row : List Interval) → IsRowOf names acted → IsRowOf names row → IsRowOf names (passed_row condition acted row)
 passed_row_fine names Always acted row f g = f
 passed_row_fine names WhenTrue acted row f g = join_row_fine names acted row f g

@@ -97,7 +97,7 @@ known_elsewhere : {K : Type 0} (arrived : Arrived K) (to : ℕ) (k : K) (place :
 known_elsewhere arrived to k place e = ap (λ b. cond b (Some k) (arrived place)) (ne_eqb place to e)
 
 module _ {K L : Type 0} (join : K → K → Option K) (moves : ℕ → K → Option (Moves K)) (shown : K → L) (Under : K → L → Type 0) (Fine : K → Type 0) (Passes : List (Option L) → ℕ → L → Type 0) (count total : ℕ) (laws : IsPass join moves shown Under Fine Passes count total) where
-  -- at a place stands something over this
+  -- at a place is something over this
   pub record Has (arrived : Arrived K) (place : ℕ) (k : K) : Type 0 where
     pub now : K
     pub stands : arrived place ≡ Some now

@@ -201,7 +201,7 @@ outputs_row names c u block (Input word o ∷ more) row = outputs_row names c u 
 outputs_row names c u block (Output word to ∷ more) row =
     outputs_row names c u block more (output_row names (entry_of (outputs_of (block_variables c block)) word.name) (denotation c u (Variable to.name)) row)
 
--- the row behind a call: of a conditional one both as it acts and as it passes
+-- the row after a call: of a conditional one both as it acts and as it passes
 abbrev pub passed_row : Condition → List Interval → List Interval → List Interval
 passed_row Always acted row = acted
 passed_row _ acted row = row_join acted row

@@ -95,7 +95,7 @@ all_declared [] h = tt
 all_declared (d ∷ ds) h =
     all_append (map (λ n. (n.name, d.declared.form)) d.names) (named_forms ds) (all_names d.declared.form (h d (0, omega arith, refl)) d.names) (all_declared ds (λ x (k, low, e). h x (suc k, omega arith, e)))
 
--- what is found is the first, or behind it
+-- what is found is the first, or after it
 first_or : {X : Type 0} (P : X → Type 0) (b : Bool) (x y : X) (more : Option X) → P x → (more ≡ Some y → P y) → (if b then Some x else more) ≡ Some y → P y
 first_or P true x y more p q e = let same : x ≡ y = cc in subst P same p
 first_or P false x y more p q e = q e

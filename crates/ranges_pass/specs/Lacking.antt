@@ -57,7 +57,7 @@ WithValue variables e (Numbered name bounds element z) go = go (declared_known e
 WithValue variables e (Indexed name bounds element variable s) go = go (declared_known element)
 WithValue variables e d go = WithOperand variables e d go
 
--- The type of a bare literal behind an operator: that of the current result.
+-- The type of a bare literal after an operator: that of the current result.
 abbrev pub type_behind : Known → Denotation → Elementary
 type_behind Flag d = natural d
 type_behind (Ranged e i) d = e

@@ -76,7 +76,7 @@ abbrev pub is_comparison_step : Option Step → Bool
 is_comparison_step None = false
 is_comparison_step (Some s) = is_comparison s.instruction
 
--- whether a comparison and a conditional jump stand behind a place: they may test what the place loads
+-- whether a comparison and a conditional jump follows a place: they may test what the place loads
 abbrev pub may_test : List Step → ℕ → Bool
 may_test steps place = is_comparison_step (slice_get steps (place + 1)) && is_conditional_step (slice_get steps (place + 2))
 

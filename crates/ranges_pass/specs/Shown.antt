@@ -41,7 +41,7 @@ steps_text shows [] known = []
 steps_text shows (s ∷ steps) [] = []
 steps_text shows (s ∷ steps) (k ∷ known) = shows s k ++ steps_text shows steps known
 
--- What a witness wrote of a unit behind a text.
+-- What a witness wrote of a unit after a text.
 abbrev pub IsShown : Config → ProgramUnit → (Step → Option Knowledge → List ℕ) → List ℕ → List ℕ → Option NumberedFault → Type 0
 IsShown c u shows old new found = (known : List (Option Knowledge)) × AreKnownTo c u known found × (new ≡ old ++ steps_text shows u.body.steps known)
 

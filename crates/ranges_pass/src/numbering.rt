@@ -98,7 +98,7 @@ fn add(
     numbering.push(alloc, name, range)
 }
 
-// The same of the variable that a store or a load names.
+// Gives the variable that a store or a load names a number, if it has a range and none yet.
 fn add_target(
     numbering: &mut Numbering,
     alloc: Global,
@@ -114,7 +114,7 @@ fn add_target(
     }
 }
 
-// The same of an output's target.
+// Gives an output's target a number, if it has a range and none yet.
 fn add_argument(
     numbering: &mut Numbering,
     alloc: Global,
@@ -131,7 +131,7 @@ fn add_argument(
     }
 }
 
-// The same of all outputs' targets.
+// Gives all outputs' targets numbers, if they have ranges and none yet.
 fn add_arguments(
     numbering: &mut Numbering,
     alloc: Global,
@@ -193,7 +193,7 @@ fn is_comparison_at(steps: &[Step], place: usize) -> bool
     }
 }
 
-// Whether a comparison and a conditional jump stand behind a place: they may test what the place loads.
+// Whether a comparison and a conditional jump follows a place: they may test what the place loads.
 fn may_test(steps: &[Step], place: usize) -> bool
     requires { place < length steps.now }
     ensures { result ≡ may_test steps.now place }
@@ -201,7 +201,7 @@ fn may_test(steps: &[Step], place: usize) -> bool
     is_comparison_at(steps, place + 1) && is_conditional_at(steps, place + 2)
 }
 
-// The same of all variables that an instruction stores, or loads for a test.
+// Gives all variables that an instruction stores, or loads for a test, numbers.
 fn add_step(
     numbering: &mut Numbering,
     alloc: Global,

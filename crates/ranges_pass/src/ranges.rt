@@ -13,7 +13,7 @@ use il_syntax::fault::Refusal;
 use load_scope::Scoped;
 use std::alloc::{AllocError, Global};
 
-// The fault that stands earliest in the text, of all units.
+// The fault that is earliest in the text, of all units.
 fn units_fault(alloc: Global, names: &Scoped) -> Result<Option<Found<RangeFault>>, AllocError>
     requires declared { HasNoFault (BreaksDeclarations names.now) }
     requires typed { HasNoFault (Broken Typing names.now) }
@@ -30,7 +30,7 @@ fn units_fault(alloc: Global, names: &Scoped) -> Result<Option<Found<RangeFault>
 /// Finds ranges for each instruction of each unit, by one forward pass with joins where paths meet (own rule).
 /// 40 where a result may leave its type, 41 where a divisor may be 0, 42 where an index may lie outside of its array,
 /// 43 where a stored value may leave its variable's range, 44 where an argument may: at the first instruction of a unit
-/// up to and including which no ranges exist, of several units at the one that stands earliest in the text.
+/// up to and including which no ranges exist, of several units at the one that is earliest in the text.
 pub fn annotated(alloc: Global, names: &Scoped) -> Result<(), Refusal>
     requires declared { HasNoFault (BreaksDeclarations names.now) }
     requires typed { HasNoFault (Broken Typing names.now) }

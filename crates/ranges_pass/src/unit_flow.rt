@@ -168,7 +168,7 @@ fn flow_fault(
     pass(alloc, &flow, entry, steps.len(), &mut Nobody)
 }
 
-// The same, without looking for a reason where there is no fault.
+// The first fault of a unit, without a search for a reason where there is none.
 fn first_fault(
     alloc: Global,
     scope: &NumberedUnit,

@@ -35,7 +35,7 @@ paired_end f (x ∷ xs) (y ∷ ys) e = ap (λ zs. f x y ∷ zs) (paired_end f xs
 paired_end f [] (y ∷ ys) e = absurd (omega arith)
 paired_end f (x ∷ xs) [] e = absurd (omega arith)
 
--- two fronts of one length, and what is behind them
+-- two fronts of one length, and what follows them
 pub paired_append : {A : Type 0} (f : A → A → A) (xs us ys vs : List A) → length xs ≡ length us → paired f (xs ++ ys) (us ++ vs) ≡ paired f xs us ++ paired f ys vs
 paired_append f [] [] ys vs e = refl
 paired_append f (x ∷ xs) (u ∷ us) ys vs e = ap (λ zs. f x u ∷ zs) (paired_append f xs us ys vs (omega arith))

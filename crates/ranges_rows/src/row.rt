@@ -162,7 +162,7 @@ impl Row {
         );
     }
 
-    /// The same ranges on memory of their own.
+    /// A copy of the ranges, on memory of its own.
     pub fn try_copy(&self, alloc: Global) -> Result<Row, AllocError>
         ensures { IfOk result (λ row. row ≡ self.now) }
     {

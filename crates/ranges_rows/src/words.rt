@@ -114,7 +114,7 @@ fn append(copies: &mut Vec<i32>, words: &[i32]) -> Result<(), AllocError>
     append(copies, rest)
 }
 
-/// The same words on memory of their own.
+/// A copy of the words, on memory of its own.
 pub fn copy_of(alloc: Global, words: &[i32]) -> Result<Vec<i32>, AllocError>
     ensures { IfOk result (λ copies. copies.items ≡ words.now) }
 {

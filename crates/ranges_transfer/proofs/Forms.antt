@@ -94,7 +94,7 @@ compared_form n name s typed_as (Return condition) = tt
 compared_form n name s typed_as (Call condition instance arguments) = tt
 compared_form n name s typed_as (Invoke function operands) = tt
 
--- a comparison behind what is denoted
+-- a comparison after what is denoted
 denoted_form : (n : Names) (d : Denotation) → IsTyped n d → (i : Instruction) → AreForms n (option_and_then (comparison_of i) (counted_variable d)) (option_and_then (λ (v : Scalar × Option ℕ). option_map (variable_test v) (comparison_in v.0.elementary i)) (counted_in (resolved n d)))
 denoted_form n (Constant l) t i = tt
 denoted_form n (Direct name s) t i = by_test (is_counted s.elementary)
@@ -107,7 +107,7 @@ denoted_form n (Indexed name bounds element variable s) t i = tt
 denoted_form n (Inside instance word s) t i = tt
 denoted_form n Unknown t i = tt
 
--- a comparison behind an instruction
+-- a comparison after an instruction
 loaded_form : (n : Names) (load i : Instruction) → AreForms n (option_and_then (comparison_of i) (loaded_variable n.config n.unit load)) (option_and_then (λ (v : Scalar × Option ℕ). option_map (variable_test v) (comparison_in v.0.elementary i)) (loaded_in n load))
 loaded_form n (Load false o) i = denoted_form n (denoted n o.reference) (typed n o.reference) i
 loaded_form n (Load true o) i = tt
@@ -121,7 +121,7 @@ loaded_form n (Return condition) i = tt
 loaded_form n (Call condition instance arguments) i = tt
 loaded_form n (Invoke function operands) i = tt
 
--- a jump behind it, and the labels
+-- a jump after it, and the labels
 no_jump : (o : Option Test) (i : Instruction) → is_conditional_jump i ≡ false → option_and_then (jump_on i) o ≡ None
 no_jump None i e = refl
 no_jump (Some t) (Jump WhenTrue label) e = cc

@@ -124,7 +124,7 @@ module _ (n : Names) (row : List Interval) where
       both true = refl
       both false = refl
 
-  -- the input of a number, and what is left behind it
+  -- the input of a number, and what is left after it
   pub record Next (forms : List (Text × Form)) (os : List Operand) (i : ℕ) (o : Operand) : Type 0 where
     pub form : Form
     pub is : get_or (scalars forms) i None ≡ scalar_of (Some form)

@@ -12,7 +12,7 @@ abbrev pub shown_to : {K : Type 0} → (ℕ → Option K → List ℕ) → (ℕ 
 shown_to shows facts zero = []
 shown_to shows facts (suc n) = shown_to shows facts n ++ shows n (facts n)
 
--- what the pass answers, and what was written behind a text: of all places, or of those up to and including the one that is refused
+-- what the pass answers, and what was written after a text: of all places, or of those up to and including the one that is refused
 abbrev pub IsPassedShowing : {K R : Type 0} → (K → K → Option K) → (ℕ → K → Option (Moves K)) → (ℕ → K → R → Type 0) → K → ℕ → (ℕ → Option K → List ℕ) → List ℕ → List ℕ → Option R → Type 0
 IsPassedShowing join moves refuses entry count shows old new None = PassesOver join moves entry count × (new ≡ old ++ shown_to shows (arrived_at join moves entry) count)
 IsPassedShowing join moves refuses entry count shows old new (Some refused) =

@@ -74,7 +74,7 @@ fn copy_output<S: Scope>(scope: &S, row: &mut Row, output: Option<Scalar>, targe
     }
 }
 
-// The same of an argument.
+// Gives the target of an argument the declared range of the output.
 fn copy_argument<S: Scope>(scope: &S, row: &mut Row, instance: &str, argument: &Argument)
     ensures { (block : Text) → form_in (S.names scope.now) instance.now ≡ Some (BlockForm block)
         → row.new ≡ argument_row (S.names scope.now) block argument.now row.old }
@@ -96,7 +96,7 @@ fn copy_outputs<S: Scope>(scope: &S, row: &mut Row, instance: &str, arguments: &
     }
 }
 
-// The row behind a call: of a conditional one both as it acts and as it passes.
+// The row after a call: of a conditional one both as it acts and as it passes.
 fn passed_row<S: Scope>(
     alloc: Global,
     scope: &S,
@@ -120,7 +120,7 @@ fn passed_row<S: Scope>(
     Ok(())
 }
 
-/// The facts behind a call of a name, if it is that of an instance and the arguments fit.
+/// The facts after a call of a name, if it is that of an instance and the arguments fit.
 pub fn called<S: Scope>(
     alloc: Global,
     scope: &S,

@@ -6,7 +6,7 @@ use ranges_laws::facts::Facts;
 use std::alloc::{AllocError, Global};
 use std::marker::Model;
 
-/// Facts that stand where they were made: handing them on moves one word.
+/// Facts that are where they were made: handing them on moves one word.
 #[derive(Drop)]
 pub struct Carried {
     pub kept: Box<Facts>,

@@ -263,7 +263,7 @@ fn returned(facts: Carried, condition: Condition) -> Option<Handed<Carried>>
     Some(Handed { next, jump: None })
 }
 
-/// The same facts on memory of their own.
+/// A copy of the facts, on memory of its own.
 pub fn copy_of(alloc: Global, facts: &Facts) -> Result<Carried, AllocError>
     ensures { IfOk result (λ f. f ≡ facts.now) }
 {

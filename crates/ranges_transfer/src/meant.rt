@@ -136,7 +136,7 @@ pub fn natural_of(meant: Meant) -> Elementary
     }
 }
 
-/// The type of a bare literal behind an operator: that of the current result.
+/// The type of a bare literal after an operator: that of the current result.
 pub fn context_of(meant: Meant, left: Known) -> Elementary
     ensures { result ≡ context_of meant left }
 {

@@ -51,7 +51,7 @@ pub fn loaded<S: Scope>(scope: &S, row: &Row, negated: bool, reference: &Referen
     found_loaded(negated, loaded_operand(scope, row, reference)?)
 }
 
-/// The operand behind an operator.
+/// The operand after an operator.
 pub fn right_operand<S: Scope>(
     scope: &S,
     row: &Row,
@@ -68,7 +68,7 @@ pub fn right_operand<S: Scope>(
     operand_in(row, context_of(meant, left), meant)
 }
 
-/// The operand behind an operator, as if its index lay in its array.
+/// The operand after an operator, as if its index lay in its array.
 pub fn right_inside<S: Scope>(
     scope: &S,
     row: &Row,

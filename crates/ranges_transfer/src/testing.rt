@@ -131,7 +131,7 @@ fn is_conditional_jump(instruction: &Instruction) -> bool
     }
 }
 
-// Whether no label stands before a step.
+// Whether no label comes before a step.
 fn is_free(step: &Step) -> bool
     ensures { result ≡ is_free step.now.labels }
 {
@@ -155,7 +155,7 @@ fn test_of<S: Scope>(scope: &S, load: &Step, comparison: &Step, jump: &Step) -> 
     })
 }
 
-/// The test whose jump stands at a place, if one does.
+/// The test whose jump is at a place, if one does.
 pub fn test_at<S: Scope>(scope: &S, steps: &[Step], place: usize) -> Option<VariableTest>
     requires steps { steps.now ≡ (S.names scope.now).unit.body.steps }
     requires inside { place < length steps.now }

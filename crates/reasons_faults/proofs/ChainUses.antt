@@ -160,7 +160,7 @@ next_added c u v next between other line old first mid new there uses apart one 
   },
 )
 
--- what is told of a unit that uses itself
+-- what is reported of a unit that uses itself
 pub around_told : (c : Config) (u : ProgramUnit) (between : List ℕ) (at : ℕ) (text lines : List ℕ) → slice_get c.units at ≡ Some u → AreToldBetween c u between at text → lines ≡ text → IsRecursionTold c u lines
 around_told c u between at text lines there told is =
     let same : Some told.last ≡ Some u = sym told.is_last ∙ there in
@@ -169,11 +169,11 @@ around_told c u between at text lines there told is =
     some_is : (a b : ProgramUnit) → Some a ≡ Some b → a ≡ b
     some_is a b h = ap (λ o. or_one a o) h
 
--- what is told of a chain that is too long
+-- what is reported of a chain that is too long
 pub along_told : (c : Config) (u : ProgramUnit) (between : List ℕ) (other : ℕ) (text lines : List ℕ) → 15 ≤ length between → is_apart c u.name.name between other ≡ true → AreToldBetween c u between other text → lines ≡ text → IsLongChainTold c u lines
 along_told c u between other text lines many apart told is =
     along told.units told.last (omega (arith, many, told.many)) (one_apart c u between other told.units told.last told.are_units told.is_last apart told.apart) (subst (AreUsesTold c u told.units told.last) (sym is) told.are)
 
--- a unit that stands at its place
+-- a unit that is at its place
 pub unit_is_at : (c : Config) (units : List ProgramUnit) (u : ProgramUnit) (at : ℕ) (p : Place) → units ≡ c.units → slice_get units at ≡ Some u → u.place.offset ≡ p.offset → IsUnitAt c p u
 unit_is_at c units u at p same there stands = record { among = in_place c.units at u (ap (λ us. slice_get us at) (sym same) ∙ there); stands = stands }

@@ -1,4 +1,4 @@
--- Of each unknown name and of each missing label something is told.
+-- Of each unknown name and of each missing label something is reported.
 use Rattle.std.proofs.Common.{◌≡◌, ◌≢◌, ◌∙◌, ℕ, zero, suc, Bool, true, false, if◌then◌else◌, List, [], ◌∷◌, ◌++◌, flat_map, refl, sym, ap, subst, Option, Some, None, is_some, inl, inr, arith}
 use Rattle.std.specs.Prelude.{Contains, codes, ◌&&◌, pos, ◌-ℤ◌, int_le, int_lt, option_and_then, slice_get}
 use Rattle.std.proofs.lemmas.Bool.Decides.{nat_tests}
@@ -63,7 +63,7 @@ unseen_is : (name : Spelling) → HasLine (unseen_line name)
 unfolding unseen_line
 unseen_is name = behind name _ (ends (codes " is a predeclared name that this unit does not see"))
 
--- with more behind it
+-- with more after it
 ahead : (text rest : List ℕ) → HasLine text → HasLine (text ++ rest)
 ahead text rest h = Contains-append_left text rest 10 h
 
@@ -143,7 +143,7 @@ called_told config unit name (Some (MeansUnit u)) h = other h
 called_told config unit name (Some MeansStandard) h = other h
 called_told config unit name None h = unknown_instance_is config unit name
 
--- a word behind an instance
+-- a word after an instance
 word_told : (access : Access) (name word : Spelling) (b : Bool) → Contains (unless b 21) 21 → HasLine (if b then [] else no_word_line access name word)
 word_told access name word true h = absurd (none_in 21 h)
 word_told access name word false h = no_word_is access name word
@@ -192,7 +192,7 @@ no_function_told name near true b h = absurd (none_in 21 h)
 no_function_told name near false true h = absurd (none_in 21 h)
 no_function_told name near false false h = ahead (no_function_line name near) _ (no_function_is name near)
 
--- of each unknown name of an instruction something is told
+-- of each unknown name of an instruction something is reported
 instruction_told : (config : Config) (unit : ProgramUnit) (i : Instruction) → Contains (name_numbers config unit i) 21 → HasLine (instruction_text config unit i)
 unfolding name_numbers function_text
 instruction_told config unit (Load negated operand) h = reference_told config unit Reads operand.reference h
@@ -216,7 +216,7 @@ instruction_told config unit (Invoke function operands) h =
 same_place : (there place : Place) → place ≡ there → is_at there place ≡ true
 same_place there place e = subst (λ p. is_at there p ≡ true) (sym e) (grind (arith, nat_tests))
 
--- what stands at a place
+-- what is at a place
 there_told : (there place : Place) (text : List ℕ) → place ≡ there → HasLine text → HasLine (if is_at there place then text else [])
 there_told there place text e h = subst (λ b. HasLine (if b then text else [])) (sym (same_place there place e)) h
 
@@ -334,7 +334,7 @@ type_told config place (t, there, broken, at) =
       | inr r ↦ behind (flat_map (unit_text config place) config.units) _ (types_told config place ScalarsAndArrays config.globals t r broken at)
     ]
 
--- 21: of each unknown name something is told
+-- 21: of each unknown name something is reported
 pub unknown_is_told : (config : Config) (place : Place) → IsUnknown config place → HasLine (tree_lines config 21 place)
 unknown_is_told config place (unknown_type h) = in_declared config place (type_told config place h)
 unknown_is_told config place (unknown_global d n e none at) = in_declared config place (external_told config place d n e none at)
@@ -354,13 +354,13 @@ in_list [] k x e = cc
 in_list (y ∷ xs) zero x e = (zero, omega arith, cc)
 in_list (y ∷ xs) (suc k) x e = in_rest y xs x (in_list xs k x e)
 
--- 34: of each label that a body lacks something is told
+-- 34: of each label that a body lacks something is reported
 pub label_is_told : (config : Config) (place : Place) → HasUnknownLabel config place → HasLine (tree_lines config 34 place)
 label_is_told config place (unknown_label u i s label jump lacks at) =
     let told : HasLine (jump_text u.body s.instruction) = subst (λ x. HasLine (jump_text u.body x)) (sym jump.jumps.jumps) (missing_told u.body label.name lacks) in
     in_steps config 34 place u s jump.written (in_list u.body.steps i s jump.jumps.stands) at told
 
--- in what is told of a fault that the tree shows
+-- in what is reported of a fault that the tree shows
 line_of : (config : Config) (number n : ℕ) (place : Place) (lines : List ℕ) → AreToldOfTree config number place lines → number ≡ n → HasLine (tree_lines config n place) → HasLine lines
 line_of config number n place lines (result, shown, is) same h = subst HasLine (sym (is ∙ ap (λ k. result ++ tree_lines config k place) same)) (behind result (tree_lines config n place) h)
 

@@ -23,7 +23,7 @@ mapped_at f [] i x e = let bad : None ≡ Some x = e in cc
 mapped_at f (y ∷ xs) zero x e = let same : y ≡ x = cc in ap (λ z. Some (f z)) same
 mapped_at f (y ∷ xs) (suc i) x e = mapped_at f xs i x e
 
--- the ways of a unit stand where it does
+-- the ways of a unit are where it does
 ways_are : (c : Config) (all : List (List Way)) (i : ℕ) (u : ProgramUnit) (ways : List Way) → all ≡ map (unit_ways c) c.units → slice_get c.units i ≡ Some u → ways ≡ get_or all i ways → ways ≡ unit_ways c u
 ways_are c all i u ways are stands read =
     let there : slice_get all i ≡ Some (unit_ways c u) = ap (λ l. slice_get l i) are ∙ mapped_at (unit_ways c) c.units i u stands in
@@ -31,7 +31,7 @@ ways_are c all i u ways are stands read =
     let found : Some ways ≡ Some (unit_ways c u) = sym (slice_get_read all (length all) i ways refl low read) ∙ there in
     cc
 
--- what is told of a unit is what the definition says
+-- what is reported of a unit is what the definition says
 pub heading_is : (c : Config) (offset : ℕ) (units : List ProgramUnit) (costs : List ℕ) (all : List (List Way)) (i : ℕ) (u : ProgramUnit) (ways : List Way) (old new : List ℕ)
     → units ≡ c.units → costs ≡ costs_of c → all ≡ map (unit_ways c) c.units → slice_get c.units i ≡ Some u → ways ≡ get_or all i ways
     → new ≡ old ++ (if u.place.offset == offset then most_lines units costs u ways else []) → new ≡ old ++ heading_lines c offset u

@@ -1,4 +1,4 @@
--- Kinds that can stand at a place, one more at a time.
+-- Kinds that can be at a place, one more at a time.
 use Rattle.std.proofs.Common.{◌≡◌, ℕ, ◌+◌, ◌<◌, ◌≤◌, List, [], ◌∷◌, ◌++◌, length, map, take, slice_get, refl, sym, ap, subst, ◌∙◌, Some, inl, inr, get_or, length-append, arith}
 use Rattle.std.proofs.lemmas.Option.{slice_get-get_or}
 use Rattle.std.proofs.lemmas.List.{map-append, length-map}
@@ -25,7 +25,7 @@ alone : (text : List ℕ) (offset : ℕ) (all : List ExpectedKind) (next : Expec
 alone text offset [] next stands = inl (refl, stands, refl)
 alone text offset (a ∷ all) next stands = inr (alone text offset all next stands)
 
--- it is told
+-- it is reported
 taken : (text : List ℕ) (offset : ℕ) (kinds all : List ExpectedKind) (next : ExpectedKind) → CanStand text offset next → CanStandOf text offset kinds all
     → CanStandOf text offset (kinds ++ next ∷ []) (all ++ next ∷ [])
 taken text offset [] all next stands can = alone text offset all next stands
@@ -48,7 +48,7 @@ one_taken text offset kinds new all i row there added stands can =
     subst (λ told. CanStandOf text offset told (map kind_of (take (i + 1) all))) (sym (ap (map kind_of) added ∙ map-append kind_of kinds (row ∷ [])))
     (subst (λ rows. CanStandOf text offset (map kind_of kinds ++ kind_of row ∷ []) rows) (sym (more_kinds all i row there)) (taken text offset (map kind_of kinds) (map kind_of (take i all)) (kind_of row) stands can))
 
--- the row that stands there, more or not
+-- the row that is there, more or not
 pub one_more_row : (text : List ℕ) (offset : ℕ) (kinds new all : List Expected) (i : ℕ) (any : Expected) → i < length all → AddsKind text offset (get_or all i any) kinds new
     → length kinds ≤ 8 → CanStandOf text offset (map kind_of kinds) (map kind_of (take i all)) → (length new ≤ 8) × CanStandOf text offset (map kind_of new) (map kind_of (take (i + 1) all))
 one_more_row text offset kinds new all i any low (inl same) few can =
@@ -63,7 +63,7 @@ one_more_row text offset kinds new all i any low (inr added) few can =
 pub stands : (text : List ℕ) (offset : ℕ) (kind : ExpectedKind) (rest whole : List ℕ) → whole ≡ going_on text offset kind rest → (kind.sample ≡ [] → rest ≡ []) → IsOfLanguage whole → CanStand text offset kind
 stands text offset kind rest whole is ends spelled = record { rest = rest; spelled = subst IsOfLanguage is spelled; ends = ends }
 
--- what is told of a token: what stands there, then the kinds, what is left out, what to write instead, and what is open
+-- what is reported of a token: what is there, then the kinds, what is left out, what to write instead, and what is open
 pub all_told : (text : List ℕ) (tokens : List Token) (place : Place) (rows shown : List Expected) (start found kinds out instead lines : List ℕ) → shown ≡ rows → length rows ≤ 8 → CanStandOf text place.offset (map kind_of rows) expected_kinds
     → start ≡ [] → found ≡ start ++ found_line text place.offset (token_at place.offset tokens) → kinds ≡ found ++ expected_line (map kind_of shown)
     → out ≡ kinds ++ left_out_lines text tokens (token_at place.offset tokens) place.offset → instead ≡ out ++ instead_lines text tokens (token_at place.offset tokens) place

@@ -1,4 +1,4 @@
--- What is told of chains of uses (own rules).
+-- What is reported of chains of uses (own rules).
 use Rattle.std.specs.Prelude.{◌≡◌, ℕ, ◌<◌, Bool, false, not, if◌then◌else◌, bytes_eq, nat_eq, List, [], ◌∷◌, ◌++◌, length, slice_get, Option, Some, None, Contains, codes, decimal}
 use Rattle.il_syntax.specs.declared.tree.Config.{Config}
 use Rattle.il_syntax.specs.declared.tree.Declaration.{Declaration}
@@ -26,18 +26,18 @@ pub data UsesIn (c : Config) (user used : ProgramUnit) (line : ℕ) : Type 0 whe
 abbrev pub use_text : ProgramUnit → ProgramUnit → ℕ → List ℕ
 use_text user used line = user.name.name ++ (codes " uses " ++ (used.name.name ++ (codes " in line " ++ decimal line)))
 
--- These are the uses by which a unit uses another through those between them, one after another, as they are told.
+-- These are the uses by which a unit uses another through those between them, one after another, as they are reported.
 abbrev pub AreUsesTold : Config → ProgramUnit → List ProgramUnit → ProgramUnit → List ℕ → Type 0
 AreUsesTold c unit [] other text = (line : ℕ) × UsesIn c unit other line × (text ≡ use_text unit other line ++ codes "\n")
 AreUsesTold c unit (next ∷ between) other text =
     (line : ℕ) × (rest : List ℕ) × UsesIn c unit next line × AreUsesTold c next between other rest × (text ≡ use_text unit next line ++ (codes ", " ++ rest))
 
--- What is told of a unit that uses itself through others: nothing, or uses that lead from it back to it.
+-- What is reported of a unit that uses itself through others: nothing, or uses that lead from it back to it.
 pub data IsRecursionTold (c : Config) (unit : ProgramUnit) (lines : List ℕ) : Type 0 where
   not_around : lines ≡ [] → IsRecursionTold c unit lines
   around : (between : List ProgramUnit) → AreUsesTold c unit between unit lines → IsRecursionTold c unit lines
 
--- What is told of a unit from which a chain of too many units leads: nothing, or the uses of a chain of at least 17 units, itself counted, that
+-- What is reported of a unit from which a chain of too many units leads: nothing, or the uses of a chain of at least 17 units, itself counted, that
 -- names none twice.
 pub data IsLongChainTold (c : Config) (unit : ProgramUnit) (lines : List ℕ) : Type 0 where
   not_along : lines ≡ [] → IsLongChainTold c unit lines
@@ -48,7 +48,7 @@ pub record IsUnitAt (c : Config) (place : Place) (unit : ProgramUnit) : Type 0 w
   pub among : Contains c.units unit
   pub stands : unit.place.offset ≡ place.offset
 
--- What is told of a chain of uses that was refused at a place: of 36 that the unit of the place uses itself, of 46 that its chain is too long.
+-- What is reported of a chain of uses that was refused at a place: of 36 that the unit of the place uses itself, of 46 that its chain is too long.
 pub data AreToldOfChains (c : Config) (number : ℕ) (place : Place) (lines : List ℕ) : Type 0 where
   nothing : lines ≡ [] → AreToldOfChains c number place lines
   recursion : number ≡ 36 → (unit : ProgramUnit) → IsUnitAt c place unit → IsRecursionTold c unit lines → AreToldOfChains c number place lines
@@ -122,6 +122,6 @@ pub record AreToldBetween (c : Config) (unit : ProgramUnit) (between : List ℕ)
   pub apart : NamesNoneTwice (units ++ last ∷ [])
   pub are : AreUsesTold c unit units last text
 
--- the same behind another text
+-- the same after another text
 abbrev pub AreAdded : Config → ProgramUnit → List ℕ → ℕ → List ℕ → List ℕ → Type 0
 AreAdded c unit between other old new = (told : List ℕ) × (new ≡ old ++ told) × AreToldBetween c unit between other told

@@ -1,4 +1,4 @@
--- What is told of a unit that costs too much: what its most expensive path runs (own rules).
+-- What is reported of a unit that costs too much: what its most expensive path runs (own rules).
 use Rattle.std.specs.Prelude.{◌≡◌, ℕ, ◌+◌, ◌==◌, nat_lt, Bool, false, if◌then◌else◌, List, [], ◌∷◌, ◌++◌, map, flat_map, length, slice_get, Option, Some, None, codes, decimal}
 use Rattle.il_syntax.specs.declared.tree.Body.{Body}
 use Rattle.il_syntax.specs.declared.tree.Config.{Config}
@@ -78,10 +78,10 @@ path_lines units costs u ways places = runs_lines costs u.body ways places 0 uni
 abbrev pub most_lines : List ProgramUnit → List ℕ → ProgramUnit → List Way → List ℕ
 most_lines units costs u ways = path_lines units costs u ways (places_by (rests_above costs 0 ways))
 
--- of the unit whose heading stands behind so many bytes
+-- of the unit whose heading follows so many bytes
 abbrev pub heading_lines : Config → ℕ → ProgramUnit → List ℕ
 heading_lines c offset u = if u.place.offset == offset then most_lines c.units (costs_of c) u (unit_ways c u) else []
 
--- these lines are told of a unit that costs too much
+-- these lines are reported of a unit that costs too much
 abbrev pub AreToldOfCosts : Config → Place → List ℕ → Type 0
 AreToldOfCosts c place lines = lines ≡ flat_map (heading_lines c place.offset) c.units

@@ -2,7 +2,7 @@
 use Rattle.std.specs.Prelude.{ℕ, List, [], ◌∷◌, codes}
 use Rattle.reasons_faults.specs.declared.expected.Expected.{Expected}
 
--- a kind: how it is told, and a token of it; the end of the text has none
+-- a kind: how it is reported, and a token of it; the end of the text has none
 pub record ExpectedKind : Type 0 where
   pub words : List ℕ
   pub sample : List ℕ
@@ -15,7 +15,7 @@ expects words sample = record { words = words; sample = sample }
 abbrev pub kind_of : Expected → ExpectedKind
 kind_of row = expects row.words.now row.sample.now
 
--- the kinds, in the order in which they are told
+-- the kinds, in the order in which they are reported
 unfoldable pub expected_kinds : List ExpectedKind
 expected_kinds =
     expects (codes "the end of the line") (codes "\n") ∷

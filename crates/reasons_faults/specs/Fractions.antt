@@ -20,7 +20,7 @@ is_long text at =
 abbrev pub begins_fraction : List ℕ → ℕ → Bool
 begins_fraction text at = byte_at text at == 46 && is_ascii_digit (byte_at text (at + 1))
 
--- the literal at a place is a duration, and behind it stands a fraction
+-- the literal at a place is a duration, and after it is a fraction
 abbrev pub has_fraction : List ℕ → ℕ → Bool
 has_fraction text at = (is_short text at || is_long text at) && begins_fraction text (run_end is_literal_byte text at)
 

@@ -60,7 +60,7 @@ abbrev pub initial_by : Bool → List ℕ
 initial_by true = []
 initial_by false = initial_line
 
--- after a name, behind the `=>` of an output (3.2.3)
+-- after a name, after the `=>` of an output (3.2.3)
 abbrev pub element_by : Mark → List ℕ
 element_by Assign = []
 element_by Arrow = element_line
@@ -80,7 +80,7 @@ bracket_by inside second Bracket = []
 bracket_by inside second Plain = element_by second
 bracket_by inside second Other = []
 
--- of the token that stands there
+-- of the token that is there
 abbrev pub sign_lines : Bool → Mark → Mark → Mark → List ℕ
 sign_lines inside second before Assign = []
 sign_lines inside second before Arrow = []
@@ -133,7 +133,7 @@ abbrev pub not_by : Bool → Mark → Option Spelling → List ℕ
 not_by inside mark None = not_after inside mark
 not_by inside mark (Some word) = negated_by word
 
--- of the word that stands there
+-- of the word that is there
 abbrev pub not_lines : Bool → Mark → Option Spelling → Option Spelling → List ℕ
 not_lines inside mark before None = []
 not_lines inside mark before (Some word) = if is_not word then not_by inside mark before else []
@@ -151,7 +151,7 @@ abbrev pub from_line : ℕ → List Token → List Token
 from_line line [] = []
 from_line line (t ∷ ts) = if t.line == line then t ∷ ts else from_line line ts
 
--- by the token behind it: no statement where a sign shows that the word is a label or a name that is declared
+-- by the token after it: no statement where a sign shows that the word is a label or a name that is declared
 abbrev pub statement_by : Mark → Spelling → List ℕ
 statement_by Assign word = []
 statement_by Arrow word = []

@@ -60,12 +60,12 @@ type_line word = type_by word (absent_type word)
 
 -- A BYTE THAT HAS NO PLACE (1)
 
--- of a `/` and the byte behind it
+-- of a `/` and the byte after it
 abbrev pub slash_or : Option ℕ → Option Stray
 slash_or None = Some stray.Division
 slash_or (Some next) = if next == 47 then Some stray.LineComment else Some stray.Division
 
--- of a `*` and the byte behind it; a `*)` that ends no comment is no product
+-- of a `*` and the byte after it; a `*)` that ends no comment is no product
 abbrev pub star_or : Option ℕ → Option Stray
 star_or None = Some stray.Times
 star_or (Some next) = if next == 41 then None else Some stray.Times
@@ -100,7 +100,7 @@ abbrev pub stray_lines : Option Stray → List ℕ
 stray_lines None = []
 stray_lines (Some s) = stray_line s
 
--- of a byte that is there, and the one behind it
+-- of a byte that is there, and the one after it
 abbrev pub byte_stray : Option ℕ → Option ℕ → Option Stray
 byte_stray None next = None
 byte_stray (Some byte) next = stray_of byte next
@@ -123,7 +123,7 @@ abbrev pub word_of : List ℕ → Option Token → Option Spelling
 word_of text None = None
 word_of text (Some t) = word_by t.kind (name_of text t)
 
--- the token before the one that begins at a place, behind this one
+-- the token before the one that begins at a place, after this one
 abbrev pub before_from : Option Token → ℕ → List Token → Option Token
 before_from last offset [] = None
 before_from last offset (t ∷ ts) = if t.start == offset then last else before_from (Some t) offset ts
@@ -157,12 +157,12 @@ constant_line = codes "CONSTANT is for CARS, FLOORS and SLOTS alone: a variable 
 unfoldable pub elements_line : List ℕ
 elements_line = codes "an array has elements of an elementary type: declare each instance by a name of its own\n"
 
--- where a type of elements stands: a type that is left out, or none
+-- where a type of elements is: a type that is left out, or none
 abbrev pub elements_by : Spelling → Option AbsentType → List ℕ
 elements_by word None = elements_line
 elements_by word (Some type) = absent_line word type
 
--- of a word, and what stands before it
+-- of a word, and what comes before it
 abbrev pub behind_by : Option Spelling → Spelling → List ℕ
 behind_by None word = []
 behind_by (Some before) word =

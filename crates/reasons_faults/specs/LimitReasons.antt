@@ -1,4 +1,4 @@
--- What is told of subranges and bounds that are none (22), and of what is too many (12) (own rules).
+-- What is reported of subranges and bounds that are none (22), and of what is too many (12) (own rules).
 use Rattle.std.specs.Prelude.{ℕ, pos, ◌-ℤ◌, int_lt, ◌==◌, ◌&&◌, if◌then◌else◌, List, [], ◌++◌, flat_map, Option, Some, None, codes}
 use Rattle.std.specs.Fmt.{signed_decimal}
 use Rattle.il_syntax.specs.declared.tree.Config.{Config}

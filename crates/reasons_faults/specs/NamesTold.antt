@@ -1,4 +1,4 @@
--- That something is told (own rule).
+-- That something is reported (own rule).
 use Rattle.std.specs.Prelude.{ℕ, List, Contains}
 
 -- a text has a line: a line feed ends it

@@ -1,4 +1,4 @@
--- What is told of a refusal (own rules).
+-- What is reported of a refusal (own rules).
 use Rattle.std.specs.Prelude.{◌≡◌, ℕ, ◌==◌, ◌||◌, if◌then◌else◌, Bool, true, false, List, [], ◌++◌}
 use Rattle.il_syntax.specs.declared.tree.Config.{Config}
 use Rattle.il_syntax.specs.declared.tree.Place.{Place}
@@ -25,7 +25,7 @@ is_of_chains number = number == 36 || number == 46
 abbrev pub is_of_costs : ℕ → Bool
 is_of_costs number = number == 50
 
--- these lines are told of a fault of a configuration with a number at a place: those of its kind
+-- these lines are reported of a fault of a configuration with a number at a place: those of its kind
 pub data AreTold (c : Config) (number : ℕ) (place : Place) (lines : List ℕ) : Type 0 where
   of_chains : is_of_chains number ≡ true → AreToldOfChains c number place lines → AreTold c number place lines
   of_costs : is_of_costs number ≡ true → AreToldOfCosts c place lines → AreTold c number place lines
@@ -35,13 +35,13 @@ pub data AreTold (c : Config) (number : ℕ) (place : Place) (lines : List ℕ) 
 abbrev pub left_out_of : List ℕ → List Token → ℕ → Place → List ℕ
 left_out_of text tokens number place = if number == 21 then named_lines text (token_at place.offset tokens) else []
 
--- These lines are told of a fault of a configuration that a text with these tokens spells: those of its kind, and what the language leaves out.
+-- These lines are reported of a fault of a configuration that a text with these tokens spells: those of its kind, and what the language leaves out.
 pub record AreToldOfText (text : List ℕ) (tokens : List Token) (c : Config) (number : ℕ) (place : Place) (lines : List ℕ) : Type 0 where
   pub told : List ℕ
   pub of_kind : AreTold c number place told
   pub are : lines ≡ told ++ left_out_of text tokens number place
 
--- These lines are told of the refusal of a text: those of its ranges, or those of the configuration that it spells. Where it spells none, those of the
+-- These lines are reported of the refusal of a text: those of its ranges, or those of the configuration that it spells. Where it spells none, those of the
 -- unexpected token (10), of the byte that has no place (1), of the literal that is not well formed (3) or of what is too many (12), and nothing of another fault or where
 -- it has no tokens.
 pub data IsReason (text : List ℕ) (number : ℕ) (place : Place) (lines : List ℕ) : Type 0 where

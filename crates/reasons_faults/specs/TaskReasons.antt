@@ -1,4 +1,4 @@
--- What is told of tasks, PROGRAM lines and programs (24), of sizes (23), and of a jump back (35) (own rules).
+-- What is reported of tasks, PROGRAM lines and programs (24), of sizes (23), and of a jump back (35) (own rules).
 use Rattle.std.specs.Prelude.{ℕ, ◌==◌, ◌&&◌, not, if◌then◌else◌, List, [], ◌∷◌, ◌++◌, map, flat_map, Option, Some, None, is_some, bytes_eq, codes, decimal}
 use Rattle.il_syntax.specs.declared.tree.Config.{Config}
 use Rattle.il_syntax.specs.declared.tree.Place.{Place}
@@ -130,7 +130,7 @@ bad_task_lines c offset =
 
 -- 23: SIZES
 
--- the limits of a size whose number stands at a place
+-- the limits of a size whose number is at a place
 abbrev pub size_lines : List ℕ → ℕ → Size → List ℕ
 size_lines line offset s = if s.place.offset == offset then line else []
 

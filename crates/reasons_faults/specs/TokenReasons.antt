@@ -1,4 +1,4 @@
--- What is told of a token with which no text of the language goes on (own rules).
+-- What is reported of a token with which no text of the language goes on (own rules).
 use Rattle.std.specs.Prelude.{◌≡◌, ℕ, ◌<◌, ◌≤◌, ◌==◌, nat_le, if◌then◌else◌, ◌⊎◌, List, [], ◌∷◌, ◌++◌, length, take, slice_range, flat_map, Option, Some, None, codes}
 use Rattle.il_syntax.specs.declared.token.Kind.{Kind}
 use Rattle.il_syntax.specs.declared.token.Kind.TheVariants.{LineEnd, Word}
@@ -19,25 +19,25 @@ use Rattle.reasons_faults.specs.Parentheses.{open_lines}
 abbrev pub IsOfLanguage : List ℕ → Type 0
 IsOfLanguage text = (c : Config) × Spells text c
 
--- a text, cut before a place, with a token of a kind and some rest behind it; blanks part them, so that the token is neither a
+-- a text, cut before a place, with a token of a kind and some rest after it; blanks part them, so that the token is neither a
 -- part of another one nor made longer by the rest
 abbrev pub going_on : List ℕ → ℕ → ExpectedKind → List ℕ → List ℕ
 going_on text offset kind rest = take offset text ++ (codes " " ++ (kind.sample ++ (codes " " ++ rest)))
 
--- A kind can stand at a place: with some rest behind it the text is one of the language. Behind the end of a text nothing stands.
+-- A kind can be at a place: with some rest after it the text is one of the language. After the end of a text nothing is.
 pub record CanStand (text : List ℕ) (offset : ℕ) (kind : ExpectedKind) : Type 0 where
   pub rest : List ℕ
   pub spelled : IsOfLanguage (going_on text offset kind rest)
   pub ends : kind.sample ≡ [] → rest ≡ []
 
--- These are some of a list's kinds, in its order and each once, and each of them can stand at a place.
+-- These are some of a list's kinds, in its order and each once, and each of them can be at a place.
 abbrev pub CanStandOf : List ℕ → ℕ → List ExpectedKind → List ExpectedKind → Type 0
 CanStandOf text offset kinds [] = kinds ≡ []
 CanStandOf text offset [] (first ∷ all) = Unit {0}
 CanStandOf text offset (kind ∷ kinds) (first ∷ all) =
     ((kind ≡ first) × CanStand text offset kind × CanStandOf text offset kinds all) ⊎ CanStandOf text offset (kind ∷ kinds) all
 
--- "`FALSE` stands there", and of a reserved word that it is one; the end of a line has no text of its own
+-- "`FALSE` is there", and of a reserved word that it is one; the end of a line has no text of its own
 abbrev pub token_text : Kind → List ℕ → Option Keyword → List ℕ
 token_text LineEnd bytes keyword = codes "the line ends there\n"
 token_text Word bytes (Some keyword) = codes "`" ++ (bytes ++ codes "`, a reserved word, stands there\n")
@@ -61,12 +61,12 @@ found_line text offset (Some t) = token_line text t
 abbrev pub other_words : List ExpectedKind → List ℕ
 other_words kinds = flat_map (λ (k : ExpectedKind). codes ", " ++ k.words) kinds
 
--- "there could stand: a name, `)`"
+-- "there could be: a name, `)`"
 abbrev pub expected_line : List ExpectedKind → List ℕ
 expected_line [] = []
 expected_line (kind ∷ kinds) = codes "there could stand: " ++ kind.words ++ (other_words kinds ++ codes "\n")
 
--- What is told of the token at a place of a text with these tokens: what stands there, at most eight kinds that can stand there, what the
+-- What is reported of the token at a place of a text with these tokens: what is there, at most eight kinds that can be there, what the
 -- language leaves out, what to write instead, and a parenthesis that is open.
 pub record AreToldOfToken (text : List ℕ) (tokens : List Token) (place : Place) (lines : List ℕ) : Type 0 where
   pub kinds : List ExpectedKind
@@ -77,6 +77,6 @@ pub record AreToldOfToken (text : List ℕ) (tokens : List Token) (place : Place
 
 -- AS THE CODE FINDS THEM
 
--- a kind is told behind others, where fewer than eight are and it can stand there, or it is not
+-- a kind is reported after others, where fewer than eight are and it can be there, or it is not
 abbrev pub AddsKind : List ℕ → ℕ → Expected → List Expected → List Expected → Type 0
 AddsKind text offset kind old new = (new ≡ old) ⊎ ((length old < 8) × CanStand text offset (kind_of kind) × (new ≡ old ++ kind ∷ []))

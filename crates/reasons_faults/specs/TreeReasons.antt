@@ -1,4 +1,4 @@
--- What is told of a fault that the tree shows (own rules).
+-- What is reported of a fault that the tree shows (own rules).
 use Rattle.std.specs.Prelude.{◌≡◌, ℕ, ◌==◌, if◌then◌else◌, List, [], ◌++◌, flat_map}
 use Rattle.il_syntax.specs.declared.tree.Config.{Config}
 use Rattle.il_syntax.specs.declared.tree.Instruction.{Instruction}
@@ -27,14 +27,14 @@ named_lines c unit number instruction =
     else if number == 35 then backward_line
     else if number == 38 then targets_text c unit number instruction else []
 
--- what is told of an instruction, by the number of its fault
+-- what is reported of an instruction, by the number of its fault
 abbrev pub instruction_lines : Config → ProgramUnit → ℕ → Instruction → List ℕ
 instruction_lines c unit number instruction =
     if is_type_number number then type_lines c unit instruction
     else if number == 37 then taken_lines c unit instruction
     else if number == 25 then kind_lines c unit instruction else named_lines c unit number instruction
 
--- of the instruction whose operator stands behind so many bytes
+-- of the instruction whose operator follows so many bytes
 abbrev pub step_lines : Config → ProgramUnit → ℕ → ℕ → Step → List ℕ
 step_lines c unit number offset step = if step.place.offset == offset then instruction_lines c unit number step.instruction else []
 
@@ -57,7 +57,7 @@ place_lines c number place =
 abbrev pub tree_lines : Config → ℕ → Place → List ℕ
 tree_lines c number place = flat_map (unit_lines c number place.offset) c.units ++ place_lines c number place
 
--- these lines are told of a fault that the tree shows: first the type that the current result has
+-- these lines are reported of a fault that the tree shows: first the type that the current result has
 abbrev pub AreToldOfTree : Config → ℕ → Place → List ℕ → Type 0
 AreToldOfTree c number place lines =
     (result : List ℕ) × IsResultToldIf (is_type_number number) c place.offset result × (lines ≡ result ++ tree_lines c number place)

@@ -1,4 +1,4 @@
-// The search for chains of uses. What it finds is checked use by use where it is told.
+// The search for chains of uses. What it finds is checked use by use where it is reported.
 
 use base_lists::Items;
 use load_order::relation::{Relation, holds, is_set};
@@ -36,7 +36,7 @@ fn meet(met: &mut Items<Met>, all: &Relation, from: usize, user: usize) -> Resul
     Ok(())
 }
 
-// The units behind the first entry of a search, up to another.
+// The units after the first entry of a search, up to another.
 fn way_back(alloc: Global, met: &[Met], last: usize) -> Result<Items<usize>, AllocError> {
     let mut way = Items::new(alloc);
     let mut at = last;
@@ -128,7 +128,7 @@ fn leading(alloc: Global, all: &Relation) -> Result<Items<Items<bool>>, AllocErr
     Ok(levels)
 }
 
-// The units behind another, from each of which as many uses lead as the chain still takes; fewer where there is none.
+// The units after another, from each of which as many uses lead as the chain still takes; fewer where there is none.
 fn chain_among(
     alloc: Global,
     all: &Relation,
@@ -147,7 +147,7 @@ fn chain_among(
     Ok(way)
 }
 
-/// The units of a chain of too many, behind its first: as many uses as it takes lead from that; fewer where there is none.
+/// The units of a chain of too many, after its first: as many uses as it takes lead from that; fewer where there is none.
 pub(crate) fn too_long(
     alloc: Global,
     names: &Scoped,

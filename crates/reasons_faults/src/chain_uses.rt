@@ -135,7 +135,7 @@ pub(crate) fn is_apart(names: &Scoped, name: &str, between: &[usize], other: usi
     !is_named(names, name, other)
 }
 
-// The next of the units of a chain, where none behind it has its name.
+// The next of the units of a chain, where none after it has its name.
 fn next_of<'n>(
     names: &'n Scoped,
     user: &Unit,

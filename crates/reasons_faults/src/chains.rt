@@ -1,4 +1,4 @@
-// What is told of chains of uses.
+// What is reported of chains of uses.
 
 ghost use Rattle.std.specs.Prelude.{◌≡◌, Some, IfOk, IfSome, slice_get, string_bytes};
 ghost use Rattle.reasons_faults.specs.ChainReasons.{AreToldBetween, IsRecursionTold, IsLongChainTold, AreToldOfChains};
@@ -16,7 +16,7 @@ struct Numbered<'n> {
     unit: &'n Unit,
 }
 
-// The unit whose heading stands at an offset.
+// The unit whose heading is at an offset.
 fn unit_at(units: &[Unit], offset: u32) -> Option<Numbered<'_>>
     ensures unit { IfSome result (λ n. slice_get units.now n.at ≡ Some n.unit.now) }
     ensures stands { IfSome result (λ n. n.unit.now.place.offset ≡ offset) }
@@ -30,7 +30,7 @@ fn unit_at(units: &[Unit], offset: u32) -> Option<Numbered<'_>>
     None
 }
 
-// What is told of uses, or nothing where one of them is none.
+// What is reported of uses, or nothing where one of them is none.
 fn uses_told(
     alloc: Global,
     names: &Scoped,
@@ -49,7 +49,7 @@ fn uses_told(
     }
 }
 
-// What is told of a unit that uses itself through others.
+// What is reported of a unit that uses itself through others.
 fn recursion_told(
     alloc: Global,
     names: &Scoped,
@@ -68,7 +68,7 @@ fn recursion_told(
     }
 }
 
-// What is told of a chain of units, by the numbers of those behind its first.
+// What is reported of a chain of units, by the numbers of those after its first.
 fn chain_told(
     alloc: Global,
     names: &Scoped,
@@ -89,7 +89,7 @@ fn chain_told(
     }
 }
 
-// What is told of a unit from which a chain of too many units leads.
+// What is reported of a unit from which a chain of too many units leads.
 fn long_told(alloc: Global, names: &Scoped, at: usize, unit: &Unit) -> Result<Vec<u8>, AllocError>
     ensures { IfOk result (λ lines. IsLongChainTold names.now unit.now lines.items) }
 {
@@ -97,7 +97,7 @@ fn long_told(alloc: Global, names: &Scoped, at: usize, unit: &Unit) -> Result<Ve
     chain_told(alloc, names, unit, chain.as_slice())
 }
 
-/// What is told of a chain of uses that was refused at a place (own rule): of 36 the uses from the unit of the place back to
+/// What is reported of a chain of uses that was refused at a place (own rule): of 36 the uses from the unit of the place back to
 /// itself, of 46 the uses of a chain of at least 17 units from there on, each with its line.
 pub(crate) fn told(
     alloc: Global,

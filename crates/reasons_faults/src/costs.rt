@@ -1,4 +1,4 @@
-// What is told of a unit that costs too much (50): what its most expensive path runs.
+// What is reported of a unit that costs too much (50): what its most expensive path runs.
 
 ghost use Rattle.std.specs.Prelude.{◌≡◌, ◌==◌, ◌++◌, [], if◌then◌else◌, flat_map, map, slice_get, IfOk, OnOk};
 ghost use Rattle.base_texts.specs.Puts.{Puts};
@@ -14,7 +14,7 @@ use load_scope::Scoped;
 use reasons_names::writing::put_two;
 use std::alloc::{AllocError, Global};
 
-/// What is told of the unit at a heading (own rule): of each own unit that its most expensive path runs what it costs, how often
+/// What is reported of the unit at a heading (own rule): of each own unit that its most expensive path runs what it costs, how often
 /// it is run and the line of the first time; and how many instructions of its own are on the path.
 pub(crate) fn told(alloc: Global, names: &Scoped, place: Place) -> Result<Vec<u8>, AllocError>
     ensures { IfOk result (λ lines. AreToldOfCosts names.now place lines.items) }
@@ -26,7 +26,7 @@ pub(crate) fn told(alloc: Global, names: &Scoped, place: Place) -> Result<Vec<u8
     Ok(text.into_bytes())
 }
 
-// Of the unit whose heading stands behind so many bytes.
+// Of the unit whose heading follows so many bytes.
 fn put_units(
     alloc: Global,
     text: &mut String,
@@ -48,7 +48,7 @@ fn put_units(
     Ok(())
 }
 
-// A unit, if its heading stands there.
+// A unit, if its heading is there.
 fn put_heading(
     alloc: Global,
     text: &mut String,
@@ -249,7 +249,7 @@ fn put_often(text: &mut String, times: usize, line: u32) -> Result<(), AllocErro
     writeln!(text, " and is run {} times, first in line {}", times, line)
 }
 
-// The line of a place: behind the last instruction that of the END word.
+// The line of a place: after the last instruction that of the END word.
 fn line_at(body: &Body, place: usize) -> u32
     ensures { result ≡ line_at body.now place }
 {

@@ -3,7 +3,7 @@
 ghost use Rattle.std.specs.Prelude.{◌≡◌, map};
 ghost use Rattle.reasons_faults.specs.ExpectedKinds.{kind_of, expected_kinds};
 
-/// Of several kinds of a group only the first that can stand is told.
+/// Of several kinds of a group only the first that can be is reported.
 #[derive(Clone, Copy)]
 pub(crate) enum Group {
     /// The end of a line, where it isn't blank.
@@ -20,7 +20,7 @@ pub(crate) enum Group {
     Sign,
 }
 
-/// A kind: how it is told, and a token of it. The end of the text has none.
+/// A kind: how it is reported, and a token of it. The end of the text has none.
 #[derive(Clone, Copy)]
 pub(crate) struct Expected {
     pub(crate) words: &'static str,
@@ -28,7 +28,7 @@ pub(crate) struct Expected {
     pub(crate) group: Group,
 }
 
-// The kinds, in the order in which they are told.
+// The kinds, in the order in which they are reported.
 static KINDS: [Expected; 49] = [
     Expected {
         words: "the end of the line",
@@ -277,7 +277,7 @@ static KINDS: [Expected; 49] = [
     },
 ];
 
-/// The kinds of what may be expected, in the order in which they are told.
+/// The kinds of what may be expected, in the order in which they are reported.
 #[tactic(auto, unfolding(crate::specs::ExpectedKinds::expected_kinds))]
 pub(crate) fn kinds() -> &'static [Expected]
     ensures { map kind_of result.now ≡ expected_kinds }

@@ -1,4 +1,4 @@
-// The search for what can stand at a place of a text, and for the rest of a text behind it. What it finds is checked where it is told.
+// The search for what can be at a place of a text, and for the rest of a text after it. What it finds is checked where it is reported.
 
 use crate::expected::{Expected, Group};
 use crate::spelled;
@@ -106,7 +106,7 @@ fn ends_unit(text: &[u8], token: &Token) -> bool {
     }
 }
 
-// Where the unit of a place begins: behind the last word of the one before it. A body may have such a word as the name of a component.
+// Where the unit of a place begins: after the last word of the one before it. A body may have such a word as the name of a component.
 fn unit_start(text: &[u8], tokens: &[Token], offset: usize) -> usize {
     let mut start = 0;
     for token in tokens {
@@ -118,7 +118,7 @@ fn unit_start(text: &[u8], tokens: &[Token], offset: usize) -> usize {
     start
 }
 
-// Whether of two kinds one is told in place of the other.
+// Whether of two kinds one is reported in place of the other.
 fn is_one_group(group: Group, other: Group) -> bool {
     match group {
         Group::Instruction => matches!(other, Group::Instruction),
@@ -129,7 +129,7 @@ fn is_one_group(group: Group, other: Group) -> bool {
     }
 }
 
-// Whether whole units stand before so many bytes: with a configuration behind them they are a text.
+// Whether whole units come before so many bytes: with a configuration after them they are a text.
 fn are_units(alloc: Global, text: &[u8], start: usize) -> Result<bool, AllocError> {
     let mut whole = Vec::new(alloc);
     whole.extend_from_slice(text.get(..start).unwrap_or(b""))?;
@@ -161,7 +161,7 @@ fn search_start(
     }
 }
 
-/// A search for what can stand at a place of a text.
+/// A search for what can be at a place of a text.
 #[derive(Drop)]
 pub(crate) struct Search {
     alloc: Global,
@@ -171,7 +171,7 @@ pub(crate) struct Search {
     rest: Vec<u8>,
     // How many bytes may be read still.
     left: usize,
-    // Whether any word can stand at the place, also a reserved one.
+    // Whether any word can be at the place, also a reserved one.
     any_word: bool,
     // The group of the kind that was found last.
     last: Option<Group>,
@@ -205,7 +205,7 @@ impl Search {
         self.rest.as_slice()
     }
 
-    /// Whether a kind can stand at the place, as far as the search finds a rest for it, and it isn't told by the kind before it.
+    /// Whether a kind can be at the place, as far as the search finds a rest for it, and it isn't reported by the kind before it.
     pub(crate) fn finds(&mut self, kind: &Expected) -> Result<bool, AllocError> {
         if !self.is_wanted(kind)? || !self.finds_rest(kind.sample)? {
             return Ok(false);
@@ -214,7 +214,7 @@ impl Search {
         Ok(true)
     }
 
-    // Whether it helps to tell a kind.
+    // Whether it helps to report a kind.
     fn is_wanted(&mut self, kind: &Expected) -> Result<bool, AllocError> {
         if let Some(last) = self.last {
             if is_one_group(last, kind.group) {
@@ -225,7 +225,7 @@ impl Search {
             // Elsewhere the end of a line is blank.
             Group::LineEnd => Ok(self.goes_on("\nLD")? && !self.goes_on("LD")?),
             Group::Name => Ok(true),
-            // Where any word can stand, a name is told.
+            // Where any word can be, a name is reported.
             _ => Ok(!self.any_word || !begins_word(kind.sample)),
         }
     }
@@ -237,7 +237,7 @@ impl Search {
         Ok(!matches!(reach, Reach::Less))
     }
 
-    // What stands before the place, and a sample.
+    // What comes before the place, and a sample.
     fn with(&self, sample: &str) -> Result<Vec<u8>, AllocError> {
         let mut text = Vec::new(self.alloc);
         text.extend_from_slice(self.before.as_slice())?;
@@ -255,7 +255,7 @@ impl Search {
         reach_in(self.alloc, text)
     }
 
-    // Whether a sample can stand at the place with some rest behind it, which is kept.
+    // Whether a sample can be at the place with some rest after it, which is kept.
     fn finds_rest(&mut self, sample: &str) -> Result<bool, AllocError> {
         let mut text = self.with(sample)?;
         match self.reach(&text)? {
@@ -264,7 +264,7 @@ impl Search {
                 self.rest.clear();
                 Ok(true)
             }
-            // The end of the text has nothing behind it.
+            // The end of the text has nothing after it.
             Reach::End if sample.is_empty() => Ok(false),
             Reach::End => self.completes(&mut text),
         }

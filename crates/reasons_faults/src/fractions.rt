@@ -6,7 +6,7 @@ ghost use Rattle.reasons_faults.specs.Fractions.{is_letter_at, is_short, is_long
 
 use std::alloc::AllocError;
 
-// The byte at a place, and 0 behind the text.
+// The byte at a place, and 0 after the text.
 fn byte_at(text: &[u8], at: usize) -> u8
     ensures { result ≡ byte_at text.now at }
 {
@@ -70,7 +70,7 @@ fn begins_fraction(text: &[u8], at: usize) -> bool
     }
 }
 
-// Whether the literal at a place is a duration, and behind it stands a fraction.
+// Whether the literal at a place is a duration, and after it is a fraction.
 fn has_fraction(text: &[u8], at: usize) -> bool
     requires { at < 4294967296 }
     ensures { result ≡ has_fraction text.now at }

@@ -13,7 +13,7 @@ use il_syntax::tree::Place;
 use load_lines::Source;
 use std::alloc::{AllocError, Global};
 
-/// What stands at a place, as far as it is looked at.
+/// What is at a place, as far as it is looked at.
 #[derive(Clone, Copy)]
 pub(crate) enum Mark {
     /// `:=`
@@ -106,7 +106,7 @@ fn put_initial_by(lines: &mut Vec<u8>, inside: bool) -> Result<(), AllocError>
     if inside { Ok(()) } else { put_initial(lines) }
 }
 
-// Of a `[` after a name, behind the `=>` of an output.
+// Of a `[` after a name, after the `=>` of an output.
 fn put_element_by(lines: &mut Vec<u8>, second: Mark) -> Result<(), AllocError>
     ensures { OnOk result (lines.new.items ≡ lines.old.items ++ element_by second) }
 {
@@ -283,7 +283,7 @@ fn put_statement_line(lines: &mut Vec<u8>, word: &str) -> Result<(), AllocError>
     )
 }
 
-// Of a word that begins a statement, by the token behind it.
+// Of a word that begins a statement, by the token after it.
 fn put_statement_by(lines: &mut Vec<u8>, behind: Mark, word: &str) -> Result<(), AllocError>
     ensures { OnOk result (lines.new.items ≡ lines.old.items ++ statement_by behind word.now) }
 {
@@ -294,7 +294,7 @@ fn put_statement_by(lines: &mut Vec<u8>, behind: Mark, word: &str) -> Result<(),
     }
 }
 
-// Of the first word of a line, and the token behind it.
+// Of the first word of a line, and the token after it.
 fn put_statement_of(lines: &mut Vec<u8>, behind: Mark, word: Option<&str>) -> Result<(), AllocError>
     ensures { OnOk result (lines.new.items ≡ lines.old.items
         ++ statement_of behind (option_map (λ w. w.now) word.entry)) }

@@ -160,7 +160,7 @@ pub(crate) fn put_named(lines: &mut Vec<u8>, word: Option<&str>) -> Result<(), A
 }
 
 impl Stray {
-    // Of a `/` and the byte behind it.
+    // Of a `/` and the byte after it.
     fn of_slash(next: Option<u8>) -> Option<Stray>
         ensures { result ≡ slash_or next }
     {
@@ -176,7 +176,7 @@ impl Stray {
         }
     }
 
-    // Of a `*` and the byte behind it. A `*)` that ends no comment is no product.
+    // Of a `*` and the byte after it. A `*)` that ends no comment is no product.
     fn of_star(next: Option<u8>) -> Option<Stray>
         ensures { result ≡ star_or next }
     {
@@ -192,7 +192,7 @@ impl Stray {
         }
     }
 
-    // What a byte begins, with the one behind it.
+    // What a byte begins, with the one after it.
     fn of(byte: u8, next: Option<u8>) -> Option<Stray>
         ensures { result ≡ stray_of byte next }
     {
@@ -240,7 +240,7 @@ impl Stray {
     }
 }
 
-// A byte that is there, and the one behind it.
+// A byte that is there, and the one after it.
 fn byte_stray(byte: Option<u8>, next: Option<u8>) -> Option<Stray>
     ensures { result ≡ byte_stray byte next }
 {
@@ -358,7 +358,7 @@ fn put_no_element(lines: &mut Vec<u8>) -> Result<(), AllocError>
     )
 }
 
-// Where a type of elements stands: a type that is left out, or none.
+// Where a type of elements is: a type that is left out, or none.
 fn put_elements(lines: &mut Vec<u8>, word: &str) -> Result<(), AllocError>
     ensures { OnOk result (lines.new.items ≡ lines.old.items
         ++ elements_by word.now (absent_type word.now)) }
@@ -369,7 +369,7 @@ fn put_elements(lines: &mut Vec<u8>, word: &str) -> Result<(), AllocError>
     }
 }
 
-// Of a word, and what stands before it.
+// Of a word, and what comes before it.
 fn put_behind(lines: &mut Vec<u8>, before: Option<&str>, word: &str) -> Result<(), AllocError>
     ensures { OnOk result (lines.new.items ≡ lines.old.items
         ++ behind_by (option_map (λ w. w.now) before.entry) word.now) }
@@ -410,7 +410,7 @@ fn put_list(lines: &mut Vec<u8>, before: Option<&str>, word: &str) -> Result<(),
     }
 }
 
-/// Of an unexpected word (10), where one stands there, and the word before it.
+/// Of an unexpected word (10), where one is there, and the word before it.
 pub(crate) fn put_words(
     lines: &mut Vec<u8>,
     before: Option<&str>,

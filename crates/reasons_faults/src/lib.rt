@@ -1,4 +1,4 @@
-//! What is told of a refusal beside its number and its place: the thing that stands there.
+//! What is reported of a refusal beside its number and its place: the thing that is there.
 #![tactic(auto)]
 
 ghost use Rattle.std.specs.Prelude.{◌≡◌, ◌++◌, ◌≤◌, false, length, IfOk, OnOk};
@@ -35,7 +35,7 @@ use load_tokens::tokens;
 use load_tree::parse;
 use std::alloc::{AllocError, Global};
 
-/// What is told of the refusal of a text with a number at a place: lines, each with its line feed, or none (own rule).
+/// What is reported of the refusal of a text with a number at a place: lines, each with its line feed, or none (own rule).
 pub fn reason(alloc: Global, text: &[u8], number: u16, place: Place) -> Result<Vec<u8>, AllocError>
     ensures { IfOk result (λ lines. IsReason text.now number place lines.items) }
 {
@@ -46,7 +46,7 @@ pub fn reason(alloc: Global, text: &[u8], number: u16, place: Place) -> Result<V
     }
 }
 
-// What is told of a fault that is found in the tree alone.
+// What is reported of a fault that is found in the tree alone.
 fn of_tree(alloc: Global, text: &[u8], number: u16, place: Place) -> Result<Vec<u8>, AllocError>
     requires { is_of_ranges number ≡ false }
     ensures { IfOk result (λ lines. IsReason text.now number place lines.items) }
@@ -58,7 +58,7 @@ fn of_tree(alloc: Global, text: &[u8], number: u16, place: Place) -> Result<Vec<
     }
 }
 
-// What is told of a text that spells no configuration.
+// What is reported of a text that spells no configuration.
 fn unspelled(alloc: Global, text: &[u8], number: u16, place: Place) -> Result<Vec<u8>, AllocError>
     requires spelled { SpellsNone text.now }
     requires other { is_of_ranges number ≡ false }
@@ -77,7 +77,7 @@ fn unspelled(alloc: Global, text: &[u8], number: u16, place: Place) -> Result<Ve
     }
 }
 
-// What is told of a text with too many units, or of a unit with too many instructions.
+// What is reported of a text with too many units, or of a unit with too many instructions.
 #[tactic(auto, unfolding(crate::specs::LimitReasons::size_line))]
 fn size_told(alloc: Global, text: &[u8], number: u16, place: Place) -> Result<Vec<u8>, AllocError>
     requires spelled { SpellsNone text.now }
@@ -91,7 +91,7 @@ fn size_told(alloc: Global, text: &[u8], number: u16, place: Place) -> Result<Ve
     Ok(lines)
 }
 
-// What is told of a byte that has no place in a text.
+// What is reported of a byte that has no place in a text.
 fn byte_told(alloc: Global, text: &[u8], number: u16, place: Place) -> Result<Vec<u8>, AllocError>
     requires spelled { SpellsNone text.now }
     requires number { number ≡ 1 }
@@ -102,7 +102,7 @@ fn byte_told(alloc: Global, text: &[u8], number: u16, place: Place) -> Result<Ve
     Ok(lines)
 }
 
-// What is told of a literal that is not well formed.
+// What is reported of a literal that is not well formed.
 fn literal_told(
     alloc: Global,
     text: &[u8],
@@ -118,7 +118,7 @@ fn literal_told(
     Ok(lines)
 }
 
-// What is told of an unexpected token.
+// What is reported of an unexpected token.
 fn token_told(alloc: Global, text: &[u8], number: u16, place: Place) -> Result<Vec<u8>, AllocError>
     requires spelled { SpellsNone text.now }
     requires other { is_of_ranges number ≡ false }
@@ -143,7 +143,7 @@ fn spelled(alloc: Global, text: &[u8]) -> Result<Written, Refusal>
     Ok(written)
 }
 
-// What is told of a fault of a configuration that a text spells, and of a type that the language leaves out.
+// What is reported of a fault of a configuration that a text spells, and of a type that the language leaves out.
 fn told_of_text(
     alloc: Global,
     text: &[u8],
@@ -187,7 +187,7 @@ fn put_left_out(
     }
 }
 
-// What is told of a fault of a configuration.
+// What is reported of a fault of a configuration.
 fn told(alloc: Global, written: Written, number: u16, place: Place) -> Result<Vec<u8>, AllocError>
     ensures { IfOk result (λ lines. AreTold written number place lines.items) }
 {

@@ -60,7 +60,7 @@ fn put_subrange_by(
     }
 }
 
-// The same of a scalar type.
+// What is wrong with the subrange of a scalar type.
 fn put_subrange(text: &mut String, scalar: Scalar) -> Result<(), AllocError>
     ensures { OnOk result (Puts text.old text.new (subrange_lines scalar)) }
 {
@@ -122,7 +122,7 @@ fn put_form(text: &mut String, form: &Form) -> Result<(), AllocError>
     }
 }
 
-// The same of a type at a place.
+// What is wrong with the type of a declaration at this place.
 fn put_declared(text: &mut String, offset: u32, declaration: &Declaration) -> Result<(), AllocError>
     ensures { OnOk result (Puts text.old text.new (declared_lines offset declaration.now)) }
 {

@@ -1,4 +1,4 @@
-// What is told of tasks, PROGRAM lines and programs (24), and of sizes (23).
+// What is reported of tasks, PROGRAM lines and programs (24), and of sizes (23).
 
 ghost use Rattle.std.specs.Prelude.{◌≡◌, ◌++◌, List, ℕ, OnOk, flat_map, map, option_map};
 ghost use Rattle.base_texts.specs.Puts.{Puts};
@@ -394,7 +394,7 @@ fn put_unused_unit(
     }
 }
 
-/// The limits of the size whose number stands at a place (23).
+/// The limits of the size whose number is at a place (23).
 pub(crate) fn put_sizes(text: &mut String, config: &Config, offset: u32) -> Result<(), AllocError>
     ensures { OnOk result (Puts text.old text.new (sizes_lines config.now offset)) }
 {

@@ -1,4 +1,4 @@
-// What is told of a fault that the tree shows: of the instruction at a place, and of what is declared there.
+// What is reported of a fault that the tree shows: of the instruction at a place, and of what is declared there.
 
 ghost use Rattle.std.specs.Prelude.{◌≡◌, ◌++◌, Some, flat_map, slice_get, string_bytes, IfOk, OnOk};
 ghost use Rattle.base_texts.specs.Puts.{Puts};
@@ -28,11 +28,11 @@ use reasons_types::types_results::result_told;
 use reasons_types::types_written::put_misplaced;
 use std::alloc::{AllocError, Global};
 
-/// What is told of a fault that the tree shows: lines, each with its line feed, or none (own rule). Of 30, 31 and 32 the type that the
+/// What is reported of a fault that the tree shows: lines, each with its line feed, or none (own rule). Of 30, 31 and 32 the type that the
 /// current result has and the one that it must have, and the operands with their types, of 37 the arguments and what is taken, of 25
 /// in an instruction the names of another kind, and at an initial value or a type the declared names with their types, of 33 and 38 the
 /// targets, of 12 how many slots there may be, of 22 the limits that are none, of 23 the limits of a size, of 24 what is wrong with the tasks, and of 35 that there are no loops. Of an unknown name (21)
-/// and of a label that does not stand in its unit (34) there is a line.
+/// and of a label that does not be in its unit (34) there is a line.
 pub(crate) fn told(
     alloc: Global,
     names: &Scoped,
@@ -48,7 +48,7 @@ pub(crate) fn told(
     lines_of(alloc, names, number, place)
 }
 
-// What is told of a fault that the tree shows.
+// What is reported of a fault that the tree shows.
 fn lines_of(alloc: Global, names: &Scoped, number: u16, place: Place) -> Result<Vec<u8>, AllocError>
     ensures { IfOk result (λ lines. AreToldOfTree names.now number place lines.items) }
 {
@@ -90,7 +90,7 @@ fn put_of_other_type(text: &mut String, config: &Config, offset: u32) -> Result<
     put_misplaced(text, config, offset)
 }
 
-// Of the current result, where the types tell why.
+// Of the current result, where the types report why.
 fn result_text(
     alloc: Global,
     names: &Scoped,
@@ -107,7 +107,7 @@ fn result_text(
     }
 }
 
-// Of the instruction at a place, wherever it stands.
+// Of the instruction at a place, wherever it is.
 fn put_units(
     alloc: Global,
     text: &mut String,
@@ -186,7 +186,7 @@ fn put_step(
     }
 }
 
-// What is told of an instruction.
+// What is reported of an instruction.
 fn put_instruction(
     alloc: Global,
     text: &mut String,

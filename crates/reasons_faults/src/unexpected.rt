@@ -1,4 +1,4 @@
-// What is told of a token with which no text of the language goes on.
+// What is reported of a token with which no text of the language goes on.
 
 ghost use Rattle.std.specs.Prelude.{◌≡◌, ◌∷◌, ◌++◌, ◌≤◌, ◌==◌, if◌then◌else◌, [], length, map, option_map, take, slice_range, codes, true, None, IfOk, OnOk};
 ghost use Rattle.il_syntax.specs.Text.{AreTokens, name_of, upper_case};
@@ -19,7 +19,7 @@ use il_syntax::tree::Place;
 use load_lines::{Source, keyword_of};
 use std::alloc::{AllocError, Global};
 
-// How many kinds are told at most.
+// How many kinds are reported at most.
 const MOST_KINDS: usize = 8;
 
 // Whether a text is one of the language.
@@ -64,7 +64,7 @@ fn going_on(
     Ok(whole)
 }
 
-// Whether nothing stands behind the end of a text, which has no sample.
+// Whether nothing follows the end of a text, which has no sample.
 fn ends_there(sample: &str, rest: &[u8]) -> bool
     ensures { result ≡ true → sample.now ≡ [] → rest.now ≡ [] }
 {
@@ -90,7 +90,7 @@ fn spells_with(
     is_of_language(alloc, &whole)
 }
 
-// Whether a kind can stand at a place with this rest.
+// Whether a kind can be at a place with this rest.
 fn stands_with(
     alloc: Global,
     text: &[u8],
@@ -107,7 +107,7 @@ fn stands_with(
     }
 }
 
-// Whether a kind can stand at a place, with the rest that a search finds.
+// Whether a kind can be at a place, with the rest that a search finds.
 fn can_stand(
     alloc: Global,
     text: &[u8],
@@ -124,7 +124,7 @@ fn can_stand(
     }
 }
 
-// Tells a kind behind others, where it can stand at a place and fewer than eight are told.
+// Reports a kind after others, where it can be at a place and fewer than eight are reported.
 fn push_kind(
     alloc: Global,
     text: &[u8],
@@ -144,7 +144,7 @@ fn push_kind(
     Ok(())
 }
 
-// The kinds that can stand at a place, among some, with a search there.
+// The kinds that can be at a place, among some, with a search there.
 fn kinds_among(
     alloc: Global,
     text: &[u8],
@@ -163,7 +163,7 @@ fn kinds_among(
     Ok(kinds)
 }
 
-// The kinds that can stand at a place of a text with these tokens, as far as they are found.
+// The kinds that can be at a place of a text with these tokens, as far as they are found.
 fn kinds_at(
     alloc: Global,
     text: &[u8],
@@ -255,7 +255,7 @@ fn put_end(lines: &mut Vec<u8>, text: &[u8], offset: u32) -> Result<(), AllocErr
     }
 }
 
-// What stands at a place.
+// What is at a place.
 fn put_found(
     alloc: Global,
     lines: &mut Vec<u8>,
@@ -275,7 +275,7 @@ fn put_found(
     }
 }
 
-// Kinds behind the first.
+// Kinds after the first.
 fn put_others(lines: &mut Vec<u8>, kinds: &[Expected]) -> Result<(), AllocError>
     ensures { OnOk result (lines.new.items ≡ lines.old.items
         ++ other_words (map kind_of kinds.now)) }
@@ -286,7 +286,7 @@ fn put_others(lines: &mut Vec<u8>, kinds: &[Expected]) -> Result<(), AllocError>
     Ok(())
 }
 
-// A kind behind the first.
+// A kind after the first.
 fn put_other(lines: &mut Vec<u8>, kind: &Expected) -> Result<(), AllocError>
     ensures { OnOk result (lines.new.items ≡ lines.old.items
         ++ (codes ", " ++ (kind_of kind.now).words)) }
@@ -329,7 +329,7 @@ fn put_kinds(lines: &mut Vec<u8>, first: &Expected, others: &[Expected]) -> Resu
     put_rest(lines, others)
 }
 
-// What could stand at the place, if something is known.
+// What could be at the place, if something is known.
 fn put_expected(lines: &mut Vec<u8>, kinds: &[Expected]) -> Result<(), AllocError>
     ensures { OnOk result (lines.new.items ≡ lines.old.items
         ++ expected_line (map kind_of kinds.now)) }
@@ -401,8 +401,8 @@ pub(crate) fn put_named_at(
     put_named(lines, word_of(&source, &found))
 }
 
-/// What is told of a token with which no text of the language goes on (own rule): what stands there, at most eight kinds that
-/// can stand there, each with some rest behind it, what the language leaves out, what to write instead, and a parenthesis that is open.
+/// What is reported of a token with which no text of the language goes on (own rule): what is there, at most eight kinds that
+/// can be there, each with some rest after it, what the language leaves out, what to write instead, and a parenthesis that is open.
 pub(crate) fn told(
     alloc: Global,
     text: &[u8],

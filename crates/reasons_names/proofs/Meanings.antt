@@ -36,7 +36,7 @@ pub visible_stored : (block : Option BlockVariables) (word : Spelling) → is_vi
 visible_stored None word = refl
 visible_stored (Some block) word = refl
 
--- where a variable stands, as the code has it
+-- where a variable is, as the code has it
 pub origin_kept : (config : Config) (o : Option rule.Variable) → option_map (λ v. v.origin) (option_map (variable_of config) o) ≡ option_map (λ (v : rule.Variable). v.origin) o
 origin_kept config (Some v) = refl
 origin_kept config None = refl

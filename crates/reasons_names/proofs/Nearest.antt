@@ -56,7 +56,7 @@ none_nearer name found (x ∷ ks) n h =
     each here there k (zero, low, is) near = subst (λ y. IsTrue (is_near name y) → n.distance ≤ distance name y.name) is here near
     each here there k (suc i, low, is) near = there k (i, omega arith, is) near
 
--- what is found in the end was found before, or stands in the list and is near
+-- what is found in the end was found before, or is in the list and is near
 is_found : (name : Spelling) (found : Option Nearest) (ks : List Known) (n : Nearest) → nearest_from name found ks ≡ Some n → (found ≡ Some n) ⊎ ((k : Known) × Contains ks k × (n ≡ record { known = k; distance = distance name k.name }) × IsTrue (is_near name k))
 is_found name found [] n h = inl h
 is_found name found (x ∷ ks) n h = by_rest (is_found name (nearer name found x) ks n h)

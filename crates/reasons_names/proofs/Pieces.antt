@@ -1,4 +1,4 @@
--- Pieces of text, one behind the other.
+-- Pieces of text, one after the other.
 use Rattle.std.proofs.Common.{◌≡◌, ℕ, List, ◌++◌, ap, ◌∙◌, subst}
 use Rattle.std.specs.Prelude.{Result, Ok, Err, OnOk, IfOk, Option, Some, None, IfSome}
 use Rattle.std.proofs.lemmas.List.{append_assoc}

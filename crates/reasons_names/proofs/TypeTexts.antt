@@ -24,7 +24,7 @@ pub read_more : {X Y : Type 0} (lines : X → List Y) (xs : List X) (i : ℕ) (x
     → old ≡ first ++ flat_map lines (take i xs) → new ≡ old ++ lines x → new ≡ first ++ flat_map lines (take (i + 1) xs)
 read_more lines xs i x first old new low is = item_more lines xs i x first old new (slice_get_read xs (length xs) i x refl low is)
 
--- the same of the item that stands there
+-- the same of the item that is there
 pub get_more : {X Y : Type 0} (lines : X → List Y) (xs : List X) (i : ℕ) (any : X) (first old new : List Y) → i < length xs
     → old ≡ first ++ flat_map lines (take i xs) → new ≡ old ++ lines (get_or xs i any) → new ≡ first ++ flat_map lines (take (i + 1) xs)
 get_more lines xs i any first old new low = item_more lines xs i (get_or xs i any) first old new (slice_get-get_or xs i any low)

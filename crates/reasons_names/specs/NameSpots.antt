@@ -1,4 +1,4 @@
--- Names with the places that tell of them (own rules).
+-- Names with the places that report of them (own rules).
 use Rattle.std.specs.Prelude.{◌==◌, Bool, List, map, find, Option, bytes_eq}
 use Rattle.il_syntax.specs.declared.tree.Named.{Named}
 use Rattle.il_syntax.specs.declared.tree.Place.{Place}
@@ -36,7 +36,7 @@ line_name line = record { place = line.place; name = line.name.name }
 abbrev pub is_at : Place → Place → Bool
 is_at here place = here.offset == place.offset
 
--- the first name that stands at a place
+-- the first name that is at a place
 abbrev pub named_at : Place → List Named → Option Named
 named_at place names = find (λ n. is_at n.place place) names
 

@@ -1,4 +1,4 @@
--- What is told of a name that is declared again (own rules).
+-- What is reported of a name that is declared again (own rules).
 use Rattle.std.specs.Prelude.{ℕ, if◌then◌else◌, List, [], ◌++◌, map, flat_map, Option, Some, None, option_map, option_and_then, codes, decimal}
 use Rattle.il_syntax.specs.declared.tree.Config.{Config}
 use Rattle.il_syntax.specs.declared.tree.Unit.{Unit as ProgramUnit}
@@ -24,7 +24,7 @@ predeclared_line name = name ++ codes " is a predeclared name\n"
 
 -- EACH REASON
 
--- the line of another of the same name: of the first with it, which stands before a name that stands elsewhere
+-- the line of another of the same name: of the first with it, which comes before a name that is elsewhere
 abbrev pub earlier_line : List Named → Named → Option ℕ
 earlier_line names n = option_and_then (λ m. if is_at m.place n.place then None else Some m.place.line) (first_of n.name names)
 
@@ -37,7 +37,7 @@ with_line text (Some line) = text line
 abbrev pub again_text : List Named → Named → List ℕ
 again_text names n = with_line (again_line n.name) (earlier_line names n)
 
--- a unit has the name, wherever that stands
+-- a unit has the name, wherever that is
 abbrev pub unit_text : List Named → Named → List ℕ
 unit_text units n = with_line (unit_line n.name) (option_map (λ u. u.place.line) (first_of n.name units))
 
@@ -47,7 +47,7 @@ predeclared_text config n = if is_predeclared config n.name then predeclared_lin
 
 -- NAME SPACES
 
--- what is told of a name, if there is one
+-- what is reported of a name, if there is one
 abbrev pub told_of : (Named → List ℕ) → Option Named → List ℕ
 told_of text None = []
 told_of text (Some n) = text n
@@ -68,7 +68,7 @@ variable_text config units place names = told_of (λ n. predeclared_text config 
 abbrev pub unit_names_text : Config → List Named → Place → ProgramUnit → List ℕ
 unit_names_text config units place unit = variable_text config units place (unit_names unit) ++ other_text place (labels_of unit.body)
 
--- 20: what is told of the name that is declared again at a place
+-- 20: what is reported of the name that is declared again at a place
 unfoldable pub again_lines : Config → Place → List ℕ
 again_lines config place =
     heading_text config place (headings config.units)

@@ -1,4 +1,4 @@
--- What is told of a label that does not stand in its unit (own rules).
+-- What is reported of a label that does not be in its unit (own rules).
 use Rattle.std.specs.Prelude.{ℕ, if◌then◌else◌, List, [], ◌++◌, map, Option, is_some, codes}
 use Rattle.il_syntax.specs.declared.tree.Body.{Body}
 use Rattle.il_syntax.specs.declared.tree.Instruction.{Instruction}

@@ -106,6 +106,6 @@ abbrev pub hint : Option Nearest → List ℕ
 hint None = []
 hint (Some n) = hint_of n
 
--- the end of a line that tells of a name: one that is near
+-- the end of a line that reports of a name: one that is near
 unfoldable pub ending : Option Nearest → List ℕ
 ending near = hint near ++ codes "\n"

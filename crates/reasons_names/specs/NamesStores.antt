@@ -1,4 +1,4 @@
--- What is told of a place that may not be stored into (own rules).
+-- What is reported of a place that may not be stored into (own rules).
 use Rattle.std.specs.Prelude.{ℕ, if◌then◌else◌, List, [], ◌++◌, Option, Some, None, is_some, option_map, option_and_then, codes}
 use Rattle.il_syntax.specs.declared.tree.Config.{Config}
 use Rattle.il_syntax.specs.declared.tree.Unit.{Unit as ProgramUnit}
@@ -27,7 +27,7 @@ literal_line = codes "a literal can't be stored into\n"
 
 -- TARGETS
 
--- a variable, by where it stands: those that no body writes (2.4.3)
+-- a variable, by where it is: those that no body writes (2.4.3)
 abbrev pub origin_text : Spelling → Option Origin → List ℕ
 origin_text name None = []
 origin_text name (Some AsInput) = input_line name
@@ -38,7 +38,7 @@ origin_text name (Some AsResult) = []
 origin_text name (Some AsReadImage) = image_line name
 origin_text name (Some AsWrittenImage) = []
 
--- where the variable of a name stands
+-- where the variable of a name is
 abbrev pub origin_named : Config → ProgramUnit → Spelling → Option Origin
 origin_named config unit name = option_map (λ v. v.origin) (variable_named config unit name)
 

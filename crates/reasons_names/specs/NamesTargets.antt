@@ -1,4 +1,4 @@
--- What is told of the targets of an instruction: of 38 the tasks that store into each, otherwise why it may not be stored into (own rules).
+-- What is reported of the targets of an instruction: of 38 the tasks that store into each, otherwise why it may not be stored into (own rules).
 use Rattle.std.specs.Prelude.{ℕ, ◌==◌, if◌then◌else◌, List, [], flat_map}
 use Rattle.il_syntax.specs.declared.tree.Config.{Config}
 use Rattle.il_syntax.specs.declared.tree.Unit.{Unit as ProgramUnit}

@@ -1,4 +1,4 @@
--- What is told of a global that two tasks write (own rules).
+-- What is reported of a global that two tasks write (own rules).
 use Rattle.std.specs.Prelude.{ℕ, Bool, true, false, not, if◌then◌else◌, List, [], ◌∷◌, ◌++◌, flat_map, Option, Some, None, option_and_then, bytes_eq, codes, decimal}
 use Rattle.std.specs.List.{list_any}
 use Rattle.il_syntax.specs.declared.tree.Config.{Config}

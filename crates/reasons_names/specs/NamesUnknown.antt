@@ -1,4 +1,4 @@
--- What is told of a name that is unknown where it stands (own rules).
+-- What is reported of a name that is unknown where it is (own rules).
 use Rattle.std.specs.Prelude.{ℕ, nat_eq, Bool, ◌||◌, if◌then◌else◌, List, [], ◌++◌, flat_map, Option, Some, None, is_some, codes}
 use Rattle.std.specs.List.{starts_with, ends_with}
 use Rattle.il_syntax.specs.declared.tree.Config.{Config}
@@ -121,7 +121,7 @@ standard_line name = name ++ codes " is a standard function or block, no variabl
 unfoldable pub no_instance_line : Spelling → List ℕ
 no_instance_line name = name ++ codes " is no instance of a function block\n"
 
--- what a word behind an instance isn't
+-- what a word after an instance isn't
 abbrev pub no_word : Access → List ℕ
 no_word Reads = codes " has no output "
 no_word Stores = codes " has no input "
@@ -140,11 +140,11 @@ unknown_text name known = unknown_line name (nearest name known)
 abbrev pub unknown_variable : Config → ProgramUnit → Spelling → List ℕ
 unknown_variable config unit name = if is_predeclared config name then unseen_text unit name else unknown_text name (variables_near config unit)
 
--- a name that means nothing where an instance stands: only instances could have been meant
+-- a name that means nothing where an instance is: only instances could have been meant
 abbrev pub unknown_instance : Config → ProgramUnit → Spelling → List ℕ
 unknown_instance config unit name = if is_predeclared config name then unseen_line name else unknown_text name (instances_near unit)
 
--- where a scalar variable stands: no instance, and nothing but a variable
+-- where a scalar variable is: no instance, and nothing but a variable
 abbrev pub scalar_by : Config → ProgramUnit → Spelling → Meant → List ℕ
 scalar_by config unit name Nothing = unknown_variable config unit name
 scalar_by config unit name SingleVariable = []
@@ -190,7 +190,7 @@ abbrev pub rule_access : Access → rule.Access
 rule_access Reads = rule.Reads
 rule_access Stores = rule.Stores
 
--- a word behind an instance (2.5.2.1)
+-- a word after an instance (2.5.2.1)
 abbrev pub word_text : Config → ProgramUnit → Access → Spelling → Spelling → List ℕ
 word_text config unit access name word = if is_visible (rule_access access) (instance_block config unit name) word then [] else no_word_line access name word
 
@@ -292,6 +292,6 @@ unit_text config place unit =
     ++ (types_text config place unit.externals
     ++ flat_map (externals_text config place) unit.externals)))
 
--- 21: what is told of the declared names that are unknown at a place
+-- 21: what is reported of the declared names that are unknown at a place
 unfoldable pub unknown_lines : Config → Place → List ℕ
 unknown_lines config place = flat_map (unit_text config place) config.units ++ types_text config place config.globals

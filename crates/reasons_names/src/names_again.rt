@@ -1,4 +1,4 @@
-// What is told of a name that is declared again (20).
+// What is reported of a name that is declared again (20).
 
 ghost use Rattle.std.specs.Prelude.{◌≡◌, Some, None, if◌then◌else◌, OnOk, flat_map, map, option_map};
 ghost use Rattle.base_texts.specs.Puts.{Puts};
@@ -15,7 +15,7 @@ use il_syntax::tree::{Body, Declaration, Place, ProgramLine, Task, Unit};
 use load_scope::Scoped;
 use std::alloc::{AllocError, Global};
 
-/// Adds what is told of the name that is declared again at a place: that it is predeclared, a unit's, or declared before (own rule).
+/// Adds what is reported of the name that is declared again at a place: that it is predeclared, a unit's, or declared before (own rule).
 #[tactic(auto, unfolding(crate::specs::NamesAgain::again_lines))]
 pub fn put_again_at(
     alloc: Global,
@@ -227,7 +227,7 @@ fn line_of(spots: &[Spot<'_>], name: &str) -> Option<u32>
     }
 }
 
-// The line of another of the same name, which stands before.
+// The line of another of the same name, which comes before.
 fn earlier_line(spots: &[Spot<'_>], spot: Spot<'_>) -> Option<u32>
     ensures { result ≡ earlier_line (shown spots.now) (spot_shown spot.entry) }
 {
@@ -237,7 +237,7 @@ fn earlier_line(spots: &[Spot<'_>], spot: Spot<'_>) -> Option<u32>
     }
 }
 
-// The line of a name that stands elsewhere.
+// The line of a name that is elsewhere.
 fn line_elsewhere(spot: Spot<'_>, place: Place) -> Option<u32>
     ensures { result ≡ (if is_at spot.entry.place place then None else Some spot.entry.place.line) }
 {

@@ -1,4 +1,4 @@
-// What is told of a label that does not stand in its unit (34).
+// What is reported of a label that does not be in its unit (34).
 
 ghost use Rattle.std.specs.Prelude.{◌≡◌, IfOk, OnOk, option_map};
 ghost use Rattle.base_texts.specs.Puts.{Puts};
@@ -11,7 +11,7 @@ use il_syntax::tree::{Body, Instruction};
 use load_scope::UnitScope;
 use std::alloc::{AllocError, Global};
 
-/// Adds what is told of the label of a jump: that it doesn't stand in its unit, and one that is near (own rule).
+/// Adds what is reported of the label of a jump: that it doesn't are in its unit, and one that is near (own rule).
 pub fn put_jump(
     alloc: Global,
     text: &mut String,

@@ -1,4 +1,4 @@
-// What a name means where it stands, as far as it is told.
+// What a name means where it is, as far as it is reported.
 
 ghost use Rattle.std.specs.Prelude.{◌≡◌, is_some, option_and_then};
 ghost use Rattle.il_statics.specs.Names.{entry_of};
@@ -58,7 +58,7 @@ fn type_meant(declared: VariableType) -> Meant
     }
 }
 
-/// Whether a word behind an instance is an output, or an input where it is stored into (2.5.2.1).
+/// Whether a word after an instance is an output, or an input where it is stored into (2.5.2.1).
 #[tactic(auto, using(crate::proofs::Meanings::visible_read, crate::proofs::Meanings::visible_stored))]
 pub fn is_visible(here: &UnitScope, access: Access, name: &str, word: &str) -> bool
     ensures { result ≡ is_visible (rule_access access)

@@ -136,7 +136,7 @@ pub fn push_spots<'c>(
     Ok(())
 }
 
-/// Ends a line that tells of a name: with what is said of one that is near, if there is one: `; NEAR is near`, and the line where it is declared (own rule).
+/// Ends a line that reports of a name: with what is said of one that is near, if there is one: `; NEAR is near`, and the line where it is declared (own rule).
 #[tactic(auto, unfolding(crate::specs::NamesNear::ending))]
 pub fn put_ending(text: &mut String, near: Option<Near<'_>>) -> Result<(), AllocError>
     ensures { OnOk result (Puts text.old text.new (ending (option_map near_shown near.entry))) }
@@ -145,7 +145,7 @@ pub fn put_ending(text: &mut String, near: Option<Near<'_>>) -> Result<(), Alloc
     text.push_str("\n")
 }
 
-/// A name with words behind it, and the end of the line.
+/// A name with words after it, and the end of the line.
 pub fn put_ended(
     text: &mut String,
     name: &str,

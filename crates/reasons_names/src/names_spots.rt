@@ -1,4 +1,4 @@
-// Names with the places that tell of them.
+// Names with the places that report of them.
 
 ghost use Rattle.std.specs.Prelude.{◌≡◌, ◌++◌, IfOk, OnOk, find, flat_map, map, option_map, option_copied, bytes_eq, slice_get};
 ghost use Rattle.il_statics.specs.Declarations.{names_in, unit_names, labels_of};
@@ -8,7 +8,7 @@ use il_syntax::tree::{Body, Declaration, Named, Place, ProgramLine, Step, Task, 
 use load_scope::Scoped;
 use std::alloc::{AllocError, Global};
 
-/// A name, and the place that tells of it.
+/// A name, and the place that reports of it.
 #[derive(Clone, Copy)]
 pub struct Spot<'c> {
     pub name: &'c str,
@@ -22,7 +22,7 @@ pub fn is_at(here: Place, place: Place) -> bool
     here.offset == place.offset
 }
 
-/// The first name that stands at a place.
+/// The first name that is at a place.
 #[tactic(auto, using(crate::proofs::Spots::spot_found))]
 pub fn named_at<'c>(spots: &[Spot<'c>], place: Place) -> Option<Spot<'c>>
     ensures { option_map spot_shown result ≡ named_at place (shown spots.now) }
@@ -30,7 +30,7 @@ pub fn named_at<'c>(spots: &[Spot<'c>], place: Place) -> Option<Spot<'c>>
     find_at(spots, place)
 }
 
-// The same, as it stands in the list.
+// The first name at a place, as a spot of the list.
 fn find_at<'c>(spots: &[Spot<'c>], place: Place) -> Option<Spot<'c>>
     ensures { result ≡ find (λ s. is_at s.place place) spots.now }
 {
@@ -50,7 +50,7 @@ pub fn first_of<'c>(spots: &[Spot<'c>], name: &str) -> Option<Spot<'c>>
     find_named(spots, name)
 }
 
-// The same, as it stands in the list.
+// The first place of a name, as a spot of the list.
 fn find_named<'c>(spots: &[Spot<'c>], name: &str) -> Option<Spot<'c>>
     ensures { result ≡ find (λ s. bytes_eq s.name.now name.now) spots.now }
 {

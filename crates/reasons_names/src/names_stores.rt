@@ -1,4 +1,4 @@
-// What is told of a place that may not be stored into (33).
+// What is reported of a place that may not be stored into (33).
 
 ghost use Rattle.std.specs.Prelude.{◌≡◌, OnOk};
 ghost use Rattle.base_texts.specs.Puts.{Puts};
@@ -18,7 +18,7 @@ pub fn put_variable(text: &mut String, here: &UnitScope<'_>, name: &str) -> Resu
     put_origin(text, name, origin_named(here, name))
 }
 
-/// Where the variable of a name stands (2.4.3).
+/// Where the variable of a name is (2.4.3).
 #[tactic(auto, using(crate::proofs::Meanings::origin_kept))]
 pub fn origin_named(here: &UnitScope<'_>, name: &str) -> Option<Origin>
     ensures { result ≡ origin_named here.now.config here.now.unit name.now }
@@ -29,7 +29,7 @@ pub fn origin_named(here: &UnitScope<'_>, name: &str) -> Option<Origin>
     }
 }
 
-// A variable by where it stands.
+// A variable by where it is.
 fn put_origin(text: &mut String, name: &str, origin: Option<Origin>) -> Result<(), AllocError>
     ensures { OnOk result (Puts text.old text.new (origin_text name.now origin)) }
 {

@@ -1,4 +1,4 @@
-// What is told of the targets of an instruction (33, 38).
+// What is reported of the targets of an instruction (33, 38).
 
 ghost use Rattle.std.specs.Prelude.{OnOk, flat_map};
 ghost use Rattle.base_texts.specs.Puts.{Puts};
@@ -10,7 +10,7 @@ use il_syntax::tree::{Argument, Instruction, Reference};
 use load_scope::UnitScope;
 use std::alloc::{AllocError, Global};
 
-/// Adds what is told of the targets of an instruction: of 38 the tasks that store into each global, if there are two; otherwise
+/// Adds what is reported of the targets of an instruction: of 38 the tasks that store into each global, if there are two; otherwise
 /// what each is that may not be stored into (own rule).
 pub fn put_targets(
     alloc: Global,

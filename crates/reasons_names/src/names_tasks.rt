@@ -1,4 +1,4 @@
-// What is told of a global that two tasks write (38).
+// What is reported of a global that two tasks write (38).
 
 ghost use Rattle.std.specs.Prelude.{◌≡◌, ◌++◌, Some, IfOk, OnOk, flat_map, map, option_and_then, slice_get};
 ghost use Rattle.std.specs.List.{list_any};

@@ -1,4 +1,4 @@
-// What is told of a name that is unknown where it stands (21).
+// What is reported of a name that is unknown where it is (21).
 
 ghost use Rattle.std.specs.Prelude.{◌≡◌, ◌++◌, OnOk, codes, flat_map, is_some, map, nat_eq, option_map};
 ghost use Rattle.std.specs.List.{ends_with, starts_with};
@@ -23,7 +23,7 @@ use load_scope::functions::standard_function;
 use load_scope::{Scoped, UnitScope};
 use std::alloc::{AllocError, Global};
 
-/// Adds what is told of the declared names that are unknown at a place: an external's or a type's, with one that is near (own rule).
+/// Adds what is reported of the declared names that are unknown at a place: an external's or a type's, with one that is near (own rule).
 #[tactic(auto, unfolding(crate::specs::NamesUnknown::unknown_lines))]
 pub fn put_unknown_at(
     alloc: Global,
@@ -193,7 +193,7 @@ fn put_global(
     put_unknown(alloc, text, name, known.as_slice())
 }
 
-/// Adds what is told of the unknown names of an instruction; labels are no such names (own rule).
+/// Adds what is reported of the unknown names of an instruction; labels are no such names (own rule).
 pub fn put_instruction(
     alloc: Global,
     text: &mut String,
@@ -332,7 +332,7 @@ fn put_no_function(
     put_time(text, name)
 }
 
-// The same, with a name that is near.
+// That no function has the name, and the function whose name is nearest.
 fn put_no_near_function(
     alloc: Global,
     text: &mut String,
@@ -386,7 +386,7 @@ fn put_index(
     }
 }
 
-// A name where a scalar variable stands.
+// A name where a scalar variable is.
 fn put_scalar(
     alloc: Global,
     text: &mut String,
@@ -456,7 +456,7 @@ fn put_member(
     }
 }
 
-// What a word behind an instance isn't.
+// What a word after an instance isn't.
 fn no_word(access: Access) -> &'static str
     ensures { result.now ≡ no_word access }
 {
@@ -466,7 +466,7 @@ fn no_word(access: Access) -> &'static str
     }
 }
 
-// A word behind an instance.
+// A word after an instance.
 #[tactic(auto, unfolding(crate::specs::NamesUnknown::no_word_line))]
 fn put_word(
     text: &mut String,
@@ -502,7 +502,7 @@ fn put_unknown_variable(
     put_unknown(alloc, text, name, known.as_slice())
 }
 
-// A name that means nothing in a unit, where an instance stands.
+// A name that means nothing in a unit, where an instance is.
 fn put_unknown_instance(
     alloc: Global,
     text: &mut String,

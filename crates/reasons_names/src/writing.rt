@@ -1,4 +1,4 @@
-// Pieces of text, one behind the other.
+// Pieces of text, one after the other.
 
 ghost use Rattle.std.specs.Prelude.{◌++◌, OnOk, decimal};
 ghost use Rattle.base_texts.specs.Puts.{Puts};

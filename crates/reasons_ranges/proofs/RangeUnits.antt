@@ -1,4 +1,4 @@
--- What is told of units, one more at a time.
+-- What is reported of units, one more at a time.
 use Rattle.std.proofs.Common.{◌≡◌, ℕ, zero, suc, ◌+◌, List, [], ◌∷◌, ◌++◌, take, Some, None, refl, sym, ap, ◌∙◌, subst, slice_get, arith}
 use Rattle.std.proofs.lemmas.List.{append-nil, append_assoc}
 use Rattle.il_syntax.specs.declared.tree.Config.{Config}

@@ -1,4 +1,4 @@
--- What is told of faults of ranges (own rules).
+-- What is reported of faults of ranges (own rules).
 use Rattle.std.specs.Prelude.{◌≡◌, ◌≢◌, ℕ, ℤ, pos, negsuc, int_le, Bool, true, false, ◌&&◌, if◌then◌else◌, nat_eq, List, [], ◌∷◌, ◌++◌, flat_map, Option, Some, None, option_and_then, codes}
 use Rattle.il_syntax.specs.declared.tree.Argument.{Argument}
 use Rattle.il_syntax.specs.declared.tree.Argument.TheVariants.{Input, Output}
@@ -400,7 +400,7 @@ further_by name None r i = []
 further_by name (Some s) r None = []
 further_by name (Some s) r (Some i) = further_unless name s r i
 
--- of the operands of an own function, by the types of its inputs behind the first
+-- of the operands of an own function, by the types of its inputs after the first
 abbrev pub operands_told : InUnit → Knowledge → Spelling → List (Option Scalar) → List Operand → List ℕ
 operands_told u k name [] operands = []
 operands_told u k name (s ∷ scalars) [] = []
@@ -424,7 +424,7 @@ arguments_text u k _ = []
 
 -- AT A PLACE
 
--- what is told of an instruction that has this fault, by what is known before it
+-- what is reported of an instruction that has this fault, by what is known before it
 abbrev pub fault_text : InUnit → RangeFault → Knowledge → Instruction → List ℕ
 fault_text u Overflow k i = overflow_text u k i
 fault_text u ZeroDivisor k i = divisor_text u k i
@@ -432,7 +432,7 @@ fault_text u OutOfArray k i = indexes_text u k i
 fault_text u OutOfRange k i = store_text u k i
 fault_text u OutOfInput k i = arguments_text u k i
 
--- of an instruction of a unit: where it is reached and stands at this offset
+-- of an instruction of a unit: where it is reached and is at this offset
 abbrev pub told_step : InUnit → RangeFault → ℕ → Step → Option Knowledge → List ℕ
 told_step u fault offset s None = []
 told_step u fault offset s (Some k) = if nat_eq s.place.offset offset then fault_text u fault k s.instruction else []
@@ -442,20 +442,20 @@ abbrev pub is_fault_at : ℕ → ℕ → Option NumberedFault → Bool
 is_fault_at number offset None = false
 is_fault_at number offset (Some f) = nat_eq f.number number && nat_eq f.place.offset offset
 
--- What is told of a unit: by what is known in it, of the instruction at the place, where that is the first without ranges and this its fault.
+-- What is reported of a unit: by what is known in it, of the instruction at the place, where that is the first without ranges and this its fault.
 pub record IsUnitTold (c : Config) (u : ProgramUnit) (fault : RangeFault) (place : Place) (lines : List ℕ) : Type 0 where
   pub known : List (Option Knowledge)
   pub found : Option NumberedFault
   pub are : AreKnownTo c u known found
   pub is : lines ≡ (if is_fault_at (range_fault_number fault) place.offset found then steps_text (told_step (record { config = c; unit = u }) fault place.offset) u.body.steps known else [])
 
--- of units, one behind the other
+-- of units, one after the other
 abbrev pub AreUnitsTold : Config → RangeFault → Place → List ProgramUnit → List ℕ → Type 0
 AreUnitsTold c fault place [] lines = lines ≡ []
 AreUnitsTold c fault place (u ∷ units) lines = (one rest : List ℕ) × IsUnitTold c u fault place one × AreUnitsTold c fault place units rest × (lines ≡ one ++ rest)
 
--- What is told of a text that was refused with a number at a place: where the number is that of a fault of ranges, and the text spells a
--- configuration of which no rule of declarations, types and order is broken, what is told of its units.
+-- What is reported of a text that was refused with a number at a place: where the number is that of a fault of ranges, and the text spells a
+-- configuration of which no rule of declarations, types and order is broken, what is reported of its units.
 pub data AreToldOfRanges (text : List ℕ) (number : ℕ) (place : Place) (lines : List ℕ) : Type 0 where
   other : ((fault : RangeFault) → range_fault_number fault ≢ number) → lines ≡ [] → AreToldOfRanges text number place lines
   broken : ((c : Config) → IsSpelled text c → IsUnbroken c → ⊥) → lines ≡ [] → AreToldOfRanges text number place lines

@@ -1,4 +1,4 @@
-// What is told of an argument of an instance that may leave its input's range, and of an output that may leave its target's.
+// What is reported of an argument of an instance that may leave its input's range, and of an output that may leave its target's.
 
 ghost use Rattle.std.specs.Prelude.{◌≡◌, flat_map, OnOk};
 ghost use Rattle.base_texts.specs.Puts.{Puts};
@@ -48,7 +48,7 @@ fn put_input(
     put_value(text, reference, range)
 }
 
-// The same, where both have a range, and it may leave the input's.
+// The line of an input, where it and the value have a range, and the value may leave the input's.
 fn put_input_by(
     text: &mut String,
     instance: &str,
@@ -112,7 +112,7 @@ fn limits_in(limits: Option<Subrange>, others: Option<Subrange>) -> bool
     }
 }
 
-// The same, where both have a scalar type, and the output may leave the target's range.
+// The line of an output, where it and its target have a scalar type, and the output may leave the target's range.
 fn put_output_by(
     text: &mut String,
     unit: &Unit,

@@ -1,4 +1,4 @@
-// What is told of a divisor that may be 0.
+// What is reported of a divisor that may be 0.
 
 ghost use Rattle.std.specs.Prelude.{◌≡◌, ◌++◌, OnOk, codes};
 ghost use Rattle.base_texts.specs.Puts.{Puts};
@@ -72,7 +72,7 @@ fn is_division(operator: Operator) -> bool
     )
 }
 
-// The same of an operator that divides, where there is a range.
+// The line of a divisor, of an operator that divides, where there is a range.
 fn put_divided_by(
     text: &mut String,
     operator: Operator,

@@ -1,4 +1,4 @@
-// What is told of an index that may lie outside of its array.
+// What is reported of an index that may lie outside of its array.
 
 ghost use Rattle.std.specs.Prelude.{◌≡◌, OnOk};
 ghost use Rattle.base_texts.specs.Puts.{Puts};
@@ -57,7 +57,7 @@ fn put_outside(
     put_array_has(text, unit, name, bounds)
 }
 
-// The same, where the name is that of an array, and the index has a range that may lie outside of it.
+// The line of an index of an array, whose range may lie outside the array's.
 fn put_element(
     text: &mut String,
     unit: &UnitScope,

@@ -1,4 +1,4 @@
-// What is told of an argument of an own function that may leave its input's range.
+// What is reported of an argument of an own function that may leave its input's range.
 
 ghost use Rattle.std.specs.Prelude.{OnOk};
 ghost use Rattle.base_texts.specs.Puts.{Puts};
@@ -31,7 +31,7 @@ fn put_first_input(
     put_range(text, ", and the result is ", range, "\n")
 }
 
-// The same, where both have a range, and the current result may leave the input.
+// The line of a first input, where it and the current result have a range, and the result may leave the input's.
 fn put_first(
     text: &mut String,
     name: &str,
@@ -68,7 +68,7 @@ fn put_further_input(
     put_value(text, reference, range)
 }
 
-// The same, where both have a range, and the operand may leave the input.
+// The line of a further input, where it and the operand have a range, and the operand may leave the input's.
 fn put_further(
     text: &mut String,
     name: &str,
@@ -91,7 +91,7 @@ fn put_further(
     }
 }
 
-// Of the operands of an own function, by the types of its inputs behind the first.
+// Of the operands of an own function, by the types of its inputs after the first.
 fn put_operands(
     text: &mut String,
     unit: &UnitScope,

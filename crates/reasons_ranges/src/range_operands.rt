@@ -26,7 +26,7 @@ fn element_type(declared: VariableType) -> Option<Scalar>
     }
 }
 
-// The same, if there is a type.
+// The type of the elements of an array, if it is one.
 fn element_of(declared: Option<VariableType>) -> Option<Scalar>
     ensures { (config : Config) (form : Option Form) → declared ≡ option_map (type_of config) form
         → result ≡ element_of form }
@@ -48,7 +48,7 @@ fn array_bounds(declared: VariableType) -> Option<Subrange>
     }
 }
 
-// The same, if there is a type.
+// The bounds of an array, if it is one.
 fn bounds_of(declared: Option<VariableType>) -> Option<Subrange>
     ensures { (config : Config) (form : Option Form) → declared ≡ option_map (type_of config) form
         → result ≡ bounds_of form }

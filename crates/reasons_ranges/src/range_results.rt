@@ -1,4 +1,4 @@
-// What is told of a result that may leave its type.
+// What is reported of a result that may leave its type.
 
 ghost use Rattle.std.specs.Prelude.{◌≡◌, ◌++◌, OnOk, true, codes};
 ghost use Rattle.base_texts.specs.Puts.{Puts};
@@ -124,7 +124,7 @@ fn put_operated(
     put_left(text, elementary, given)
 }
 
-// The same, where there is a range, and it is not of the type.
+// The line of an operation whose range is not of the type.
 fn put_operated_by(
     text: &mut String,
     elementary: Elementary,
@@ -147,7 +147,7 @@ fn put_operated_by(
     }
 }
 
-// The same, where both sides have a range.
+// The line of an operation both of whose sides have a range.
 fn put_sides(
     text: &mut String,
     kind: Arithmetic,
@@ -228,7 +228,7 @@ fn put_absolute(
     put_left(text, elementary, range.abs())
 }
 
-// The same of a range that can be an operand, where it is.
+// The line of ABS of a range that can be an operand, where it leaves the type.
 fn put_absolute_of(
     text: &mut String,
     elementary: Elementary,
@@ -262,7 +262,7 @@ fn put_function(
     }
 }
 
-// The same, where there is one, and the current result has a range.
+// The line of a standard function, if it is one, on a current result that has a range.
 fn put_invoked(
     text: &mut String,
     function: Option<StandardFunction>,

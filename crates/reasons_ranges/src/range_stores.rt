@@ -1,4 +1,4 @@
-// What is told of a stored value that may leave its variable's range.
+// What is reported of a stored value that may leave its variable's range.
 
 ghost use Rattle.std.specs.Prelude.{OnOk};
 ghost use Rattle.base_texts.specs.Puts.{Puts};
@@ -45,7 +45,7 @@ fn put_stored(
     put_into(text, unit, target, scalar)
 }
 
-// The same, where the current result has a range, and the target a scalar type.
+// The line of a store, where the current result has a range and the target a scalar type.
 fn put_result(
     text: &mut String,
     unit: &UnitScope,

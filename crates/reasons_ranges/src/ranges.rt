@@ -1,4 +1,4 @@
-// What is told of faults of ranges.
+// What is reported of faults of ranges.
 
 ghost use Rattle.std.specs.Prelude.{◌≡◌, ◌≢◌, [], if◌then◌else◌, IfOk, IfSome, None, OnOk, Some, slice_get, string_bytes};
 ghost use Rattle.base_texts.specs.Puts.{Puts};
@@ -21,7 +21,7 @@ use load_text::unbroken;
 use ranges_pass::{PlaceFacts, RangeFault, Witness, shown_unit};
 use std::alloc::{AllocError, Global};
 
-// Writes what is told of the instruction at an offset, should it have a fault.
+// Writes what is reported of the instruction at an offset, should it have a fault.
 #[derive(Drop)]
 struct Teller<'n> {
     unit: &'n UnitScope<'n>,
@@ -57,7 +57,7 @@ impl Witness for Teller<'_> {
     }
 }
 
-// What is told of an instruction that has a fault.
+// What is reported of an instruction that has a fault.
 fn put_fault(
     text: &mut String,
     unit: &UnitScope,
@@ -94,7 +94,7 @@ fn text_if(alloc: Global, there: bool, text: String) -> String
     if there { text } else { String::new(alloc) }
 }
 
-// What is told of a unit.
+// What is reported of a unit.
 fn unit_told(
     alloc: Global,
     names: &Scoped,
@@ -128,7 +128,7 @@ fn append(text: &mut String, more: &String) -> Result<(), AllocError>
     text.push_str(more.as_str())
 }
 
-// What is told of all units.
+// What is reported of all units.
 fn units_told(
     alloc: Global,
     names: &Scoped,
@@ -149,7 +149,7 @@ fn units_told(
     Ok(text)
 }
 
-// The same of a configuration of which no earlier rule is broken.
+// What is reported of a fault of ranges, in a configuration that breaks no earlier rule.
 fn ordered_told(
     alloc: Global,
     ordered: &Ordered,
@@ -178,7 +178,7 @@ fn numbered(number: u16) -> Option<RangeFault>
     }
 }
 
-// What is told of a text in which an instruction has a fault.
+// What is reported of a text in which an instruction has a fault.
 fn fault_told(
     alloc: Global,
     text: &[u8],
@@ -198,7 +198,7 @@ fn fault_told(
     }
 }
 
-/// What is told of a text that was refused with a number at a place, by the ranges that are known there (own rule): of 40
+/// What is reported of a text that was refused with a number at a place, by the ranges that are known there (own rule): of 40
 /// both sides of an operator with what it gives, of 41 the divisor, of 42 each index that may lie outside with the array's
 /// bounds, of 43 what is stored and the target with its type, of 44 each argument of an instance that may lie outside.
 pub fn told(alloc: Global, text: &[u8], number: u16, place: Place) -> Result<Vec<u8>, AllocError>

@@ -18,7 +18,7 @@ use Rattle.load_types.proofs.Deferred.{open_at, waits}
 use Rattle.load_types.proofs.Steps.{IsAt, arrives, goes_over}
 use Rattle.reasons_types.specs.ResultReasons.{IsStepBehind, IsResultOf, IsResultTold, at_step}
 
--- something stands at each place of a list
+-- something is at each place of a list
 stands_there : {X : Type 0} (xs : List X) (i : ℕ) → i < length xs → (x : X) × (slice_get xs i ≡ Some x)
 stands_there [] i low = absurd (omega arith)
 stands_there (x ∷ xs) zero low = (x, refl)
@@ -63,7 +63,7 @@ module _ (config : Config) (unit : ProgramUnit) (body : Body) (is : unit.body �
 
 -- INSTRUCTIONS BEHIND SO MANY BYTES
 
--- none of the first instructions stands there
+-- none of the first instructions is there
 abbrev pub NoneBelow : List Step → ℕ → ℕ → Type 0
 NoneBelow steps offset n = (at : ℕ) (step : Step) → at < n → slice_get steps at ≡ Some step → step.place.offset ≡ offset → ⊥
 
@@ -76,7 +76,7 @@ one_more_none steps offset at step low stands not_here before k s below there sa
   | inr n ↦ before k s (omega (arith, n.1)) there same
 ]
 
--- none of the instructions of the first units stands there
+-- none of the instructions of the first units is there
 abbrev pub NoneInUnits : List ProgramUnit → ℕ → ℕ → Type 0
 NoneInUnits units offset n = (k : ℕ) (unit : ProgramUnit) → k < n → slice_get units k ≡ Some unit → (at : ℕ) (step : Step) → slice_get unit.body.steps at ≡ Some step → step.place.offset ≡ offset → ⊥
 
@@ -89,7 +89,7 @@ unit_none units offset i unit stands nowhere before k u below there = elim (eqb_
   | inr n ↦ before k u (omega (arith, n.1)) there
 ]
 
--- where none stands in any unit, none stands in the configuration
+-- where none is in any unit, none is in the configuration
 pub none_there : (c : Config) (offset n : ℕ) → length c.units < n + 1 → NoneInUnits c.units offset n → (unit : ProgramUnit) (at : ℕ) (step : Step) → IsStepBehind c offset unit at step → ⊥
 none_there c offset n all none unit at step behind =
     let k = behind.0.written.0 in
@@ -99,7 +99,7 @@ none_there c offset n all none unit at step behind =
 pub unit_in : (c : Config) (k : ℕ) (unit : ProgramUnit) → slice_get c.units k ≡ Some unit → Contains c.units unit
 unit_in c k unit there = (k, slice_get_within c.units k unit there, get_or_from_slice_get c.units k unit unit there)
 
--- what is told where one stands
+-- what is reported where one is
 pub told_there : (c own : Config) (unit scoped : ProgramUnit) (k place offset : ℕ) (steps : List Step) (step any : Step) (lines : List ℕ)
     → slice_get c.units k ≡ Some unit → own ≡ c → scoped ≡ unit → steps ≡ unit.body.steps → slice_get steps place ≡ Some step → step.place.offset ≡ offset
     → IsResultOf own scoped place (get_or steps place any).instruction lines → IsResultTold c offset lines

@@ -1,4 +1,4 @@
--- What is told of arguments (own rules).
+-- What is reported of arguments (own rules).
 use Rattle.std.specs.Prelude.{ℕ, ◌+◌, ◌==◌, Bool, if◌then◌else◌, List, [], ◌∷◌, ◌++◌, map, length, flat_map, bytes_eq, Option, Some, None, is_some, option_and_then, codes, decimal}
 use Rattle.std.specs.List.{list_any}
 use Rattle.il_syntax.specs.declared.tree.Argument.{Argument}
@@ -80,11 +80,11 @@ abbrev pub word_line : Option BlockVariables → Spelling → Argument → List 
 word_line block instance (Input word operand) = no_input_line (has_input block word.name) word.name instance
 word_line block instance (Output word target) = no_output_line (has_output block word.name) word.name instance
 
--- of an argument behind others
+-- of an argument after others
 abbrev pub argument_lines : Option BlockVariables → Spelling → List Argument → Argument → List ℕ
 argument_lines block instance before a = twice_line (is_given before (argument_word a)) (argument_word a) ++ word_line block instance a
 
--- of arguments behind others
+-- of arguments after others
 abbrev pub arguments_lines : Option BlockVariables → Spelling → List Argument → List Argument → List ℕ
 arguments_lines block instance before [] = []
 arguments_lines block instance before (a ∷ arguments) = argument_lines block instance before a ++ arguments_lines block instance (before ++ a ∷ []) arguments
@@ -111,7 +111,7 @@ abbrev pub block_lines : Spelling → Option BlockVariables → List ℕ
 block_lines instance None = []
 block_lines instance (Some block) = inputs_line instance (words_of block.inputs) ++ outputs_line instance (words_of block.outputs)
 
--- of a CAL of an instance: the words that stand twice or that its block lacks, and those that it has (3.2.3)
+-- of a CAL of an instance: the words that are twice or that its block lacks, and those that it has (3.2.3)
 abbrev pub call_lines : Option BlockVariables → Spelling → List Argument → List ℕ
 call_lines block instance arguments = if is_some block then arguments_lines block instance [] arguments ++ block_lines instance block else []
 

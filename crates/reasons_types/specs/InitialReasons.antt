@@ -1,4 +1,4 @@
--- What is told of initial values (own rules).
+-- What is reported of initial values (own rules).
 use Rattle.std.specs.Prelude.{ℕ, ◌==◌, if◌then◌else◌, List, [], ◌++◌, flat_map, Option, Some, None, codes}
 use Rattle.il_syntax.specs.declared.tree.Config.{Config}
 use Rattle.il_syntax.specs.declared.tree.Declaration.{Declaration}
@@ -15,7 +15,7 @@ declared_line (OfScalar scalar) n = type_line n.name (Some scalar.elementary)
 declared_line (OfArray bounds element) n = n.name ++ codes " is an array\n"
 declared_line (OfBlock block) n = n.name ++ codes " is an instance\n"
 
--- the names of a declaration, and its initial value, where that stands behind so many bytes (2.4.3.2)
+-- the names of a declaration, and its initial value, where that follows so many bytes (2.4.3.2)
 abbrev pub initial_lines : ℕ → Declaration → Option Initial → List ℕ
 initial_lines offset d None = []
 initial_lines offset d (Some initial) = if initial.place.offset == offset then flat_map (declared_line d.declared.form) d.names ++ literal_line initial.literal else []

@@ -1,4 +1,4 @@
--- What is told of names that are no variable of the kind that their place asks for (own rules).
+-- What is reported of names that are no variable of the kind that their place asks for (own rules).
 use Rattle.std.specs.Prelude.{ℕ, ◌==◌, Bool, if◌then◌else◌, List, [], ◌++◌, flat_map, Option, Some, None, codes}
 use Rattle.std.specs.List.{list_any}
 use Rattle.il_syntax.specs.declared.tree.Argument.{Argument}
@@ -27,7 +27,7 @@ array_line c unit name = if is_other_kind (scalar_numbers (meaning c unit name))
 abbrev pub no_array_line : Config → ProgramUnit → Spelling → List ℕ
 no_array_line c unit name = if is_other_kind (array_numbers (meaning c unit name)) then name ++ codes " is no array\n" else []
 
--- `V is no instance of a function block`, behind CAL (3.2.3)
+-- `V is no instance of a function block`, after CAL (3.2.3)
 abbrev pub no_instance_line : Config → ProgramUnit → Spelling → List ℕ
 no_instance_line c unit name = if is_other_kind (called_numbers (meaning c unit name)) then name ++ codes " is no instance of a function block\n" else []
 

@@ -1,4 +1,4 @@
--- How ranges, types, operands and the lines of declarations are told (own rules).
+-- How ranges, types, operands and the lines of declarations are reported (own rules).
 use Rattle.std.specs.Prelude.{ℕ, int_le, List, [], ◌∷◌, ◌++◌, if◌then◌else◌, Option, Some, None, codes, decimal, bytes_eq}
 use Rattle.std.specs.Fmt.{signed_decimal}
 use Rattle.il_syntax.specs.declared.tree.Declaration.{Declaration}

@@ -1,4 +1,4 @@
--- What is told of the current result (own rules).
+-- What is reported of the current result (own rules).
 use Rattle.std.specs.Prelude.{◌≡◌, ℕ, ◌==◌, if◌then◌else◌, Bool, true, false, List, [], ◌∷◌, ◌++◌, Option, Some, None, codes, decimal}
 use Rattle.il_syntax.specs.declared.tree.Body.{Body}
 use Rattle.il_syntax.specs.declared.tree.Condition.{Condition}
@@ -80,7 +80,7 @@ result_lines jump (Return condition) before deferred = tested_line jump conditio
 result_lines jump (Call condition instance arguments) before deferred = tested_line jump condition before
 result_lines jump _ before deferred = result_line jump before
 
--- what is told of an instruction at a place of a unit, by the types that all paths give (3.2.2)
+-- what is reported of an instruction at a place of a unit, by the types that all paths give (3.2.2)
 pub record IsResultOf (c : Config) (unit : ProgramUnit) (at : ℕ) (instruction : Instruction) (lines : List ℕ) : Type 0 where
   pub before : Option Elementary
   pub deferred : Option Deferred
@@ -88,16 +88,16 @@ pub record IsResultOf (c : Config) (unit : ProgramUnit) (at : ℕ) (instruction 
   pub waits : IsDeferredAt c unit (opener unit.body at) deferred
   pub is : lines ≡ result_lines (jump_to unit.body at) instruction before deferred
 
--- an instruction stands at a place of a unit, behind so many bytes of the text
+-- an instruction is at a place of a unit, after so many bytes of the text
 abbrev pub IsStepBehind : Config → ℕ → ProgramUnit → ℕ → Step → Type 0
 IsStepBehind c offset unit at step = IsStep c unit at step × (step.place.offset ≡ offset)
 
--- what is told of the instruction that stands behind so many bytes; nothing, where none does
+-- what is reported of the instruction that follows so many bytes; nothing, where none does
 pub data IsResultTold (c : Config) (offset : ℕ) (lines : List ℕ) : Type 0 where
   at_step : (unit : ProgramUnit) (at : ℕ) (step : Step) → IsStepBehind c offset unit at step → IsResultOf c unit at step.instruction lines → IsResultTold c offset lines
   at_none : ((unit : ProgramUnit) (at : ℕ) (step : Step) → IsStepBehind c offset unit at step → ⊥) → lines ≡ [] → IsResultTold c offset lines
 
--- the same, where the types tell why
+-- the same, where the types report why
 abbrev pub IsResultToldIf : Bool → Config → ℕ → List ℕ → Type 0
 IsResultToldIf true c offset lines = IsResultTold c offset lines
 IsResultToldIf false c offset lines = lines ≡ []

@@ -1,4 +1,4 @@
--- What is told of types (own rules).
+-- What is reported of types (own rules).
 use Rattle.std.specs.Prelude.{◌≡◌, ℕ, ◌==◌, Bool, ◌||◌, List, [], ◌∷◌, ◌++◌, flat_map, Option, Some, None, codes}
 use Rattle.il_syntax.specs.declared.tree.Argument.{Argument}
 use Rattle.il_syntax.specs.declared.tree.Argument.TheVariants.{Input, Output}
@@ -68,7 +68,7 @@ first_lines c unit (Some operand) = reference_lines c unit operand.reference
 abbrev pub operands_lines : Config → ProgramUnit → List Operand → List ℕ
 operands_lines c unit operands = flat_map (λ (o : Operand). reference_lines c unit o.reference) operands
 
--- an argument of a CAL: the input or output of the instance, and what stands for it
+-- an argument of a CAL: the input or output of the instance, and what means it
 abbrev pub argument_lines : Config → ProgramUnit → Spelling → Argument → List ℕ
 argument_lines c unit instance (Input word operand) = member_line c unit instance word.name ++ reference_lines c unit operand.reference
 argument_lines c unit instance (Output word target) = member_line c unit instance word.name ++ name_line c unit target.name
@@ -196,7 +196,7 @@ called_lines c _ = []
 
 -- INSTRUCTIONS
 
--- whether the types of operands tell why: 30, 31 and 32
+-- whether the types of operands report why: 30, 31 and 32
 abbrev pub is_type_number : ℕ → Bool
 is_type_number number = number == 30 || number == 31 || number == 32
 

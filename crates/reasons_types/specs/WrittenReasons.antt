@@ -1,4 +1,4 @@
--- What is told of a written type that is not what its place asks for (own rules).
+-- What is reported of a written type that is not what its place asks for (own rules).
 use Rattle.std.specs.Prelude.{ℕ, ◌==◌, not, ◌&&◌, bytes_eq, if◌then◌else◌, List, [], ◌++◌, flat_map, is_some, codes, decimal}
 use Rattle.il_syntax.specs.declared.tree.Config.{Config}
 use Rattle.il_syntax.specs.declared.tree.Declaration.{Declaration}
@@ -62,7 +62,7 @@ wanted_line wanted (OfScalar scalar) = []
 wanted_line wanted (OfArray bounds element) = array_line wanted
 wanted_line wanted (OfBlock block) = instance_line wanted
 
--- the names of a declaration with their type, and what is wanted, where the type stands behind so many bytes
+-- the names of a declaration with their type, and what is wanted, where the type follows so many bytes
 abbrev pub written_lines : Wanted → ℕ → Declaration → List ℕ
 written_lines wanted offset d =
     if d.declared.place.offset == offset then flat_map (form_line d.declared.form) d.names ++ (wanted_line wanted d.declared.form ++ form_subrange_line d.declared.form) else []
@@ -80,7 +80,7 @@ global_lines name d = flat_map (global_line name d.declared.form) d.names
 abbrev pub globals_lines : List Declaration → Named → List ℕ
 globals_lines globals n = flat_map (global_lines n.name) globals
 
--- of an external whose type stands behind so many bytes
+-- of an external whose type follows so many bytes
 abbrev pub external_lines : List Declaration → ℕ → Declaration → List ℕ
 external_lines globals offset d =
     written_lines ScalarsAndArrays offset d ++ (if d.declared.place.offset == offset then flat_map (globals_lines globals) d.names else [])
@@ -105,6 +105,6 @@ unit_written globals offset unit =
     ++ (flat_map (written_lines Scalars offset) unit.outputs
     ++ (flat_map (written_lines (wanted_variables unit.kind) offset) unit.variables ++ flat_map (external_lines globals offset) unit.externals)))
 
--- of the written type that stands behind so many bytes
+-- of the written type that follows so many bytes
 abbrev pub misplaced_lines : Config → ℕ → List ℕ
 misplaced_lines c offset = flat_map (unit_written c.globals offset) c.units ++ flat_map (written_lines ScalarsAndArrays offset) c.globals

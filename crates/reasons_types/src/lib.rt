@@ -1,4 +1,4 @@
-//! What is reported of types beside a fault: the type that stands there, the one that must be there, and arguments.
+//! What is reported of types beside a fault: the type that is there, the one that must be there, and arguments.
 #![tactic(auto)]
 
 pub mod range_words;

@@ -1,4 +1,4 @@
-// Ranges, types, operands and the lines of declarations, as they are told.
+// Ranges, types, operands and the lines of declarations, as they are reported.
 
 ghost use Rattle.std.specs.Prelude.{◌≡◌, ◌++◌, OnOk, codes, decimal};
 ghost use Rattle.std.specs.Fmt.{signed_decimal};
@@ -159,7 +159,7 @@ fn line_among(names: &[Named], name: &str) -> Option<u32>
     None
 }
 
-// The same of the names of declarations.
+// The line of the first declaration of this name.
 fn line_in(declarations: &[Declaration], name: &str) -> Option<u32>
     ensures { result ≡ line_in declarations.now name.now }
 {
@@ -244,7 +244,7 @@ fn put_declared_name(text: &mut String, name: &str, line: u32) -> Result<(), All
     put_in_line(text, line)
 }
 
-// The same, where there is a line.
+// Where the instance is declared, if it is.
 fn put_instance(text: &mut String, name: &str, line: Option<u32>) -> Result<(), AllocError>
     ensures { OnOk result (Puts text.old text.new (instance_text name.now line)) }
 {

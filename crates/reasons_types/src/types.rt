@@ -1,4 +1,4 @@
-// What is told of the types of an instruction.
+// What is reported of the types of an instruction.
 
 ghost use Rattle.std.specs.Prelude.{◌≡◌, OnOk};
 ghost use Rattle.base_texts.specs.Puts.{Puts};
@@ -27,7 +27,7 @@ pub fn put_types(
     put_operands_of(text, scope, instruction)
 }
 
-/// Whether the types of operands tell why.
+/// Whether the types of operands report why.
 pub fn is_type_number(number: u16) -> bool
     ensures { result ≡ is_type_number number }
 {

@@ -166,7 +166,7 @@ fn put_lacks_output(text: &mut String, word: &str, instance: &str) -> Result<(),
     put_four(text, word, " is no output of ", instance, "\n")
 }
 
-// The same, where the block has no input of this word, and what there is instead.
+// That the block has no input of this word, and what it has instead.
 fn put_no_input(text: &mut String, has: bool, word: &str, instance: &str) -> Result<(), AllocError>
     ensures { OnOk result (Puts text.old text.new (no_input_line has word.now instance.now)) }
 {
@@ -178,7 +178,7 @@ fn put_no_input(text: &mut String, has: bool, word: &str, instance: &str) -> Res
     }
 }
 
-// The same of an output.
+// That the block has no output of this word, and what it has instead.
 fn put_no_output(text: &mut String, has: bool, word: &str, instance: &str) -> Result<(), AllocError>
     ensures { OnOk result (Puts text.old text.new (no_output_line has word.now instance.now)) }
 {
@@ -213,7 +213,7 @@ fn put_word(
     }
 }
 
-// Of an argument behind others.
+// Of an argument after others.
 fn put_argument(
     text: &mut String,
     scope: &UnitScope<'_>,
@@ -248,7 +248,7 @@ fn put_arguments(
     Ok(())
 }
 
-// Of a CAL: the words that stand twice or that the block lacks, and those that it has.
+// Of a CAL: the words that are twice or that the block lacks, and those that it has.
 fn put_call(
     alloc: Global,
     text: &mut String,

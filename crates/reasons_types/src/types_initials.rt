@@ -46,7 +46,7 @@ fn put_initial(
     }
 }
 
-// The same of a value.
+// The line of an initial value, where that is the one.
 fn put_value(
     text: &mut String,
     offset: u32,
@@ -102,7 +102,7 @@ fn put_units(text: &mut String, offset: u32, units: &[Unit]) -> Result<(), Alloc
     Ok(())
 }
 
-/// The names of the declaration whose initial value stands behind so many bytes, each with its type, and that value.
+/// The names of the declaration whose initial value follows so many bytes, each with its type, and that value.
 pub fn put_initials(text: &mut String, config: &Config, offset: u32) -> Result<(), AllocError>
     ensures { OnOk result (Puts text.old text.new (initials_lines config.now offset)) }
 {

@@ -49,7 +49,7 @@ fn is_no_instance(binding: Option<Binding>) -> bool
     }
 }
 
-// The same of a name.
+// Whether a name means an array.
 fn names_array(scope: &UnitScope<'_>, name: &str) -> bool
     ensures { result ≡ is_other_kind
         (scalar_numbers (meaning scope.now.config scope.now.unit name.now)) }
@@ -95,7 +95,7 @@ fn put_no_array(text: &mut String, scope: &UnitScope<'_>, name: &str) -> Result<
     }
 }
 
-// `V is no instance of a function block`, behind CAL.
+// `V is no instance of a function block`, after CAL.
 fn put_no_instance(text: &mut String, scope: &UnitScope<'_>, name: &str) -> Result<(), AllocError>
     ensures { OnOk result (Puts text.old text.new
         (no_instance_line scope.now.config scope.now.unit name.now)) }

@@ -95,7 +95,7 @@ fn put_jump_line(text: &mut String, line: u32) -> Result<(), AllocError>
     text.push_str(" leads here, and a JMP brings no current result\n")
 }
 
-// The same, where a JMP leads to the place.
+// That a JMP leads to the place, where one does.
 fn put_jump(text: &mut String, jump: Option<u32>) -> Result<(), AllocError>
     ensures { OnOk result (Puts text.old text.new (jump_lines jump)) }
 {
@@ -147,7 +147,7 @@ fn put_aside(text: &mut String, found: Option<Elementary>) -> Result<(), AllocEr
     }
 }
 
-// The same, where one was set aside.
+// What the result before the parenthesis is, where one was set aside.
 fn put_deferred(
     text: &mut String,
     deferred: Option<(Operator, Option<Elementary>)>,
@@ -198,7 +198,7 @@ fn put_taken(
     }
 }
 
-// What is told of the instruction at a place.
+// What is reported of the instruction at a place.
 fn told_at(
     alloc: Global,
     scope: &UnitScope<'_>,
@@ -216,7 +216,7 @@ fn told_at(
     Ok(text)
 }
 
-// The place of the first instruction that stands behind so many bytes.
+// The place of the first instruction that follows so many bytes.
 fn place_of(steps: &[Step], offset: u32) -> Option<usize>
     ensures some { IfSome result (λ at. (step : StepOf)
         × ((slice_get steps.now at ≡ Some step) × (step.place.offset ≡ offset))) }
@@ -231,7 +231,7 @@ fn place_of(steps: &[Step], offset: u32) -> Option<usize>
     None
 }
 
-/// What is told of the current result at the instruction that stands behind so many bytes (own rule): its type, which all
+/// What is reported of the current result at the instruction that follows so many bytes (own rule): its type, which all
 /// control paths to it give, and at a `)` that of the result that was set aside.
 pub fn result_told(alloc: Global, names: &Scoped, offset: u32) -> Result<String, AllocError>
     ensures { IfOk result (λ t. IsResultTold names.now offset (string_bytes t)) }

@@ -16,7 +16,7 @@ use reasons_names::names_spots::unit_at;
 use reasons_names::writing::{put_three, put_two};
 use std::alloc::{AllocError, Global};
 
-// Words behind others.
+// Words after others.
 fn put_others(text: &mut String, words: &[&str]) -> Result<(), AllocError>
     ensures { OnOk result (Puts text.old text.new
         (flat_map (λ w. codes ", " ++ w) (map (λ w. w.now) words.now))) }
@@ -137,7 +137,7 @@ fn put_unit_words(
     put_outputs(text, instance, outputs.as_slice())
 }
 
-// The same by the number of its unit.
+// The inputs and outputs of an own block, by the number of its unit.
 fn put_own(
     alloc: Global,
     text: &mut String,

@@ -59,7 +59,7 @@ fn put_form_words(text: &mut String, form: &Form, named: &Named) -> Result<(), A
     put_form(text, form)
 }
 
-// The same as a line.
+// The type of a declared name, as a line.
 fn put_named(text: &mut String, form: &Form, named: &Named) -> Result<(), AllocError>
     ensures { OnOk result (Puts text.old text.new (form_line form.now named.now)) }
 {
@@ -88,7 +88,7 @@ fn put_subrange(text: &mut String, scalar: Scalar) -> Result<(), AllocError>
     }
 }
 
-// The same of the elements of an array.
+// That the elements of an array have no subranges, where one is written.
 fn put_form_subrange(text: &mut String, form: &Form) -> Result<(), AllocError>
     ensures { OnOk result (Puts text.old text.new (form_subrange_line form.now)) }
 {
@@ -185,7 +185,7 @@ fn put_found(text: &mut String, form: &Form, named: &Named) -> Result<(), AllocE
     put_in_line(text, named.place.line)
 }
 
-// The same, of a global with this name.
+// The type of a global with this name, and its line.
 fn put_global(text: &mut String, name: &str, form: &Form, named: &Named) -> Result<(), AllocError>
     ensures { OnOk result (Puts text.old text.new (global_line name.now form.now named.now)) }
 {
@@ -340,7 +340,7 @@ fn put_units(
     Ok(())
 }
 
-/// The names whose type stands behind so many bytes, with that type, and what is wanted there; of an external also the globals with its name.
+/// The names whose type follows so many bytes, with that type, and what is wanted there; of an external also the globals with its name.
 pub fn put_misplaced(text: &mut String, config: &Config, offset: u32) -> Result<(), AllocError>
     ensures { OnOk result (Puts text.old text.new (misplaced_lines config.now offset)) }
 {

@@ -189,7 +189,7 @@ pub fn acts_on(condition: Condition, current: &Current) -> bool
     }
 }
 
-// A call of a standard block that acts, on the rows behind some in front. It stands apart, so that the loop keeps its registers.
+// A call of a standard block that acts, on the rows after some in front. It is a function of its own, so that the loop keeps its registers.
 #[cold]
 #[inline(never)]
 fn call_behind(
@@ -219,7 +219,7 @@ fn call_behind(
     }
 }
 
-/// A call of a standard block that acts, or does not, on the rows behind some in front.
+/// A call of a standard block that acts, or does not, on the rows after some in front.
 #[inline(always)]
 pub fn call_standard(
     front: &[i64],

@@ -50,7 +50,7 @@ pub struct Pair {
     pub left: Content,
 }
 
-// The same in 16 bytes, with the result in parts.
+// A deferred operation in 16 bytes, with the result in parts.
 #[derive(Clone, Copy)]
 struct Kept {
     operator: Operator,
@@ -260,7 +260,7 @@ impl Frames {
         self.callers.len()
     }
 
-    /// A frame that has called, by how many of these have called behind it.
+    /// A frame that has called, by how many of these have called after it.
     pub fn frame_at(&self, level: usize) -> Option<Frame>
         ensures { result ≡ option_map (λ s. s.frame) (slice_get self.now level) }
     {

@@ -1,4 +1,4 @@
-// Calls of the standard blocks (IEC 61131-3:2003, 2.5.2.3). The variables of an instance stand in the order of its
+// Calls of the standard blocks (IEC 61131-3:2003, 2.5.2.3). The variables of an instance are in the order of its
 // inputs, outputs and inner ones.
 
 ghost use Rattle.std.specs.Prelude.{◌≡◌, ◌+◌, [], IsSome, Some, None, pos};
@@ -348,7 +348,7 @@ fn call_tof(numbers: &mut [i64], flags: &mut [bool], now: u32, at: usize)
     put_delay_timer(numbers, flags, at, block);
 }
 
-// NOW, in milliseconds, at a slot of rows of which some stand in front.
+// NOW, in milliseconds, at a slot of rows of which some are in front.
 #[inline(always)]
 fn now_at(front: &[i64], numbers: &[i64], clock: usize) -> u32
     requires { IsSome (now_behind front.now clock numbers.now) }
@@ -361,7 +361,7 @@ fn now_at(front: &[i64], numbers: &[i64], clock: usize) -> u32
     }
 }
 
-/// A call of the block of an instance at a base, once its inputs are assigned, on the rows behind some in front. NOW stands at a
+/// A call of the block of an instance at a base, once its inputs are assigned, on the rows after some in front. NOW is at a
 /// slot of its own, counted from the first in front.
 #[inline(always)]
 pub fn call_block(

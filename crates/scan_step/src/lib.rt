@@ -1,4 +1,4 @@
-//! One instruction on rows of slots: values, instances of standard blocks, and where a scan stands.
+//! One instruction on rows of slots: values, instances of standard blocks, and where a scan is.
 #![tactic(auto)]
 
 pub mod blocks;

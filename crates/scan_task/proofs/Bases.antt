@@ -18,7 +18,7 @@ base_whole : (xs : Text) → ((i : ℕ) → i < length xs → get_or xs i 0 ≢ 
 base_whole [] never = refl
 base_whole (b ∷ bs) never = ap (λ t. if t then [] else b ∷ base_name bs) (ne_eqb b 91 (never 0 (omega arith))) ∙ ap (λ l. b ∷ l) (base_whole bs (λ i low. never (suc i) (omega (arith, low))))
 
--- what stands before an index, or all
+-- what comes before an index, or all
 pub base_cut : (path : Text) (r : Option (Bor Text × Bor Text)) → IsSplitOnceResult 91 path r → MatchOption r (path ≡ base_name path) (λ x. x.0.now ≡ base_name path)
 base_cut path r is = by r (split_parts 91 path r is (omega arith))
   where

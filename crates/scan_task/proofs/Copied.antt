@@ -28,7 +28,7 @@ use Rattle.scan_task.proofs.Starts.{take_front, drop_front}
 
 -- BETWEEN
 
--- what stands between
+-- what is between
 pub between_is : (own some last : List Cell) (n m : ℕ) → n ≡ length own → m ≡ length last → between n m (own ++ (some ++ last)) ≡ some
 between_is own some last n m first behind =
     let e : length (some ++ last) - m ≡ length some = let k = length-append some last in omega (arith, k, behind) in

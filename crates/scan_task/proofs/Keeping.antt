@@ -99,7 +99,7 @@ module _ (c : Config) (runs : IsRunnable c) (task : ℕ) (s : Stored) (scan : Is
       let here = fits_here r fits in
       subst (FitsOwn c task) (sym (wrote ∙ ap₂ (λ n m. rows (take n s.rows.numbers) (take m s.rows.flags)) here.numbers here.flags)) (part_own (length (own_cells c u)) refl)
 
-  -- variables that the scan still has stand at the front of its rows
+  -- variables that the scan still has are at the front of its rows
   pub still_there : (v : Rows) → FitsOwn c task v → StillHas (variables_in c task v) (state_of (kept_of c task s)) → variables_in c task (front (length v.numbers) s.rows) ≡ variables_in c task v
   still_there v fits still = left_so v (front (length v.numbers) s.rows) fits (part_variables (length v.numbers) (fits_here v fits).numbers) ∙ still
 

@@ -194,7 +194,7 @@ get_there [] at low = let no : ⊥ = omega (arith, low) in absurd no
 get_there (x ∷ xs) zero low = refl
 get_there (x ∷ xs) (suc at) low = get_there xs at (omega (arith, low))
 
--- what stands at an index stands below the length
+-- what is at an index is below the length
 pub got_within : {X : Type 0} (xs : List X) (at : ℕ) (x : X) → slice_get xs at ≡ Some x → at < length xs
 got_within [] at x is = cc
 got_within (y ∷ xs) zero x is = omega arith

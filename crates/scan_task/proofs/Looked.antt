@@ -1,4 +1,4 @@
--- What is seen of a scan where it stands.
+-- What is seen of a scan where it is.
 use Rattle.std.proofs.Common.{◌≡◌, ℕ, zero, suc, List, [], ◌∷◌, length, slice_get, refl, sym, ap, ◌∙◌, subst}
 use Rattle.std.specs.Prelude.{option_map, option_and_then}
 use Rattle.std.proofs.lemmas.List.{append-nil}
@@ -20,7 +20,7 @@ use Rattle.scan_task.proofs.Scans.{state_is}
 
 -- FRAMES
 
--- where a frame stands, by its code
+-- where a frame is, by its code
 abbrev pub flat_stand : List UnitCode → FlatFrame → Text × ℕ
 flat_stand units f = (name_of_code (slice_get units f.unit), f.place)
 

@@ -55,7 +55,7 @@ use Rattle.scan_task.specs.Nesting.{open_at, IsNestedFrame, AreNested}
 
 -- OPEN PARENTHESES
 
--- behind an instruction
+-- after an instruction
 open_next : (depth : ℕ) (steps : List BodyStep) (place : ℕ) → open_at depth steps (suc place) ≡ depth_after (open_at depth steps place) (instruction_or_return (slice_get steps place))
 open_next depth [] place = refl
 open_next depth (s ∷ []) zero = refl
@@ -266,14 +266,14 @@ module _ (c : Config) (values : Values) (result : Option Content) where
     goes_to_so : (place : ℕ) (ds : List Deferred) → length ds ≤ open_at 0 u.body.steps place → AreNested c ((record { unit = f.unit; path = f.path; place = place; deferred = ds }) ∷ below)
     goes_to_so place ds few = (λ v is. subst (λ (w : ProgramUnit). length ds ≤ open_at 0 w.body.steps place) (same_unit (unit_named c f.unit) u v named is) few, inner)
 
-    -- behind an instruction
+    -- after an instruction
     behind_so : (i : Instruction) → instruction_at u.body f.place ≡ i → (ds : List Deferred) → length ds ≤ depth_after (open_at 0 u.body.steps f.place) i → AreNested c ((record { unit = f.unit; path = f.path; place = f.place + 1; deferred = ds }) ∷ below)
     behind_so i is ds few =
         let next : open_at 0 u.body.steps (suc f.place) ≡ depth_after (open_at 0 u.body.steps f.place) i = open_next 0 u.body.steps f.place ∙ ap (depth_after (open_at 0 u.body.steps f.place)) is in
         let one : suc f.place ≡ f.place + 1 = omega arith in
         goes_to_so (f.place + 1) ds (subst (λ n. length ds ≤ open_at 0 u.body.steps n) one (omega (arith, few, next)))
 
-  -- a frame below goes on behind its call
+  -- a frame below goes on after its call
   resumed_so : (s : Scene) (returned : ProgramUnit) (path : Text) (i : Instruction) → s.config ≡ c → unit_named c s.frame.unit ≡ Some s.unit → instruction_at s.unit.body s.frame.place ≡ i → length s.frame.deferred ≤ open_at 0 s.unit.body.steps s.frame.place → AreNested c s.below
       → Leads Nested (resumed s returned path i)
   resumed_so s returned path (Call condition instance arguments) same named is few inner =
@@ -370,7 +370,7 @@ module _ (c : Config) (values : Values) (result : Option Content) where
     executed_so (Call condition instance arguments) is jumps = acting_so (Leads Nested) (λ trap. tt) tt condition result _ (λ b. call_so (Call condition instance arguments) is (λ n. refl) instance.name arguments b)
     executed_so (Invoke function operands) is jumps = result_so (Leads Nested) (λ trap. tt) tt result _ (λ first. invoked_so (Invoke function operands) is (λ n. refl) (standard_function function.name) (function_named c function.name) operands first)
 
--- nothing is set aside where a jump stands
+-- nothing is set aside where a jump is
 nothing_aside : (c : Config) (p : ProgramUnit) (values : Values) (f : Frame) (u : ProgramUnit) (k : Knowledge) → FrameAgrees c p values f u k → (condition : Condition) (label : Named) → instruction_at u.body f.place ≡ Jump condition label → length f.deferred ≡ 0
 nothing_aside c p values f u k agrees condition label is =
     let passes : Passes (record { config = c; unit = u; annotation = agrees.annotation; place = f.place; known = k }) (Jump condition label) =

@@ -295,7 +295,7 @@ module _ (c : Config) (runs : IsRunnable c) (s : Stored) (scan : IsScanOf c 0 s)
       ∙ ap (λ (n : ℕ). cells_of (external_scalars c program ++ (firsts c ++ calls c ++ (places c ++ motors c))) ++ cells_of (element_scalars n (codes "ASSIGN") (pos 1) limits)) many)
       ∙ sym (append_assoc (own_cells c program) (cells_of (external_scalars c program ++ (firsts c ++ calls c ++ (places c ++ motors c)))) cell_list)
 
-  -- they stand last
+  -- they are last
   pub ends_with : length (program_cells c program) ≡ length front + count
   ends_with = ap length cells_end ∙ length-append front cell_list ∙ ap (λ (n : ℕ). length front + n) (element_count count (codes "ASSIGN") (pos 1) limits)
 

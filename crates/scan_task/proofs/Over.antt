@@ -1,4 +1,4 @@
--- Values that stand over others, and rows in two parts.
+-- Values that are over others, and rows in two parts.
 use Rattle.std.proofs.Common.{◌≡◌, ℕ, ◌≤◌, Bool, true, false, List, [], ◌∷◌, ◌++◌, take, drop, length, refl, sym, ap, ◌∙◌, cond, Some, None, Option, ℤ, arith}
 use Rattle.std.proofs.lemmas.List.{length-take, length-append}
 use Rattle.std.specs.Prelude.{is_some}

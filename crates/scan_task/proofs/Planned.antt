@@ -15,7 +15,7 @@ pub none_yet : (c : Config) (list : List (Option TaskPlan)) → list ≡ [] → 
 none_yet c [] is task o at = cc
 none_yet c (x ∷ list) is task o at = cc
 
--- what stands at an index of a list with one more
+-- what is at an index of a list with one more
 either : {A : Type 0} (xs : List A) (last : A) (k : ℕ) (x : A) → slice_get (xs ++ last ∷ []) k ≡ Some x → (slice_get xs k ≡ Some x) ⊎ ((k ≡ length xs) × (last ≡ x))
 either [] last zero x at = inr (refl, same_Some last x at)
 either [] last (suc k) x at = cc

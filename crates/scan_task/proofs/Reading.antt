@@ -25,7 +25,7 @@ nothing cells bs (Some k) = by (slice_get cells k)
     by None = refl
     by (Some c) = refl
 
--- the cells behind the first
+-- the cells after the first
 next : (c : Cell) (cells : List Cell) (z : ℤ) (zs : List ℤ) (b : Bool) (bs : List Bool) (o : Option ℕ) → option_and_then (value_at (c ∷ cells) (rows (z ∷ zs) (b ∷ bs))) (option_map suc o) ≡ option_and_then (value_at cells (rows zs bs)) o
 next c cells z zs b bs None = refl
 next c cells z zs b bs (Some k) = refl

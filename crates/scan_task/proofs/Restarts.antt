@@ -55,7 +55,7 @@ filled_behind a (z ∷ zs) (b ∷ bs) n (e ∷ es) h g l m =
     longer : {A : Type 0} (xs : List A) (v : A) → length xs ≡ n → length (xs ++ v ∷ []) ≡ n + 1
     longer xs v is = let k = length-append xs (v ∷ []) in omega (arith, k, is)
 
--- what is written behind the first rows
+-- what is written after the first rows
 pub seen_written : (old listed after : Rows) (vs ws : List Value) (own count more : ℕ) → length vs ≡ count → length old.numbers ≡ own + (count + more) → length old.flags ≡ own + (count + more) → length ws ≡ more
     → listed ≡ filled old own vs → after ≡ filled listed (own + count) ws
     → (given : List (Text × Value)) → map (λ e. e.1) given ≡ vs ++ ws → after ≡ joined (front own old) (first_rows given)
@@ -80,7 +80,7 @@ seen_written old listed after vs ws own count more first numbers flags second wr
     flags_left : length (drop own old.flags) ≡ length given
     flags_left = let m = many in let d = length-drop own old.flags in omega (arith, m, d, flags)
 
--- there is room behind what is listed
+-- there is room after what is listed
 pub seen_room : (old listed : Rows) (vs : List Value) (own count more : ℕ) → length old.numbers ≡ own + (count + more) → length old.flags ≡ own + (count + more) → listed ≡ filled old own vs
     → (own + count + more ≤ length listed.numbers) × (own + count + more ≤ length listed.flags)
 seen_room old listed vs own count more numbers flags wrote =
@@ -180,7 +180,7 @@ module _ (c : Config) (runs : IsRunnable c) (task : ℕ) (r : Rows) (fits : Fits
       let f = fits.2.flags in
       (omega (arith, all, seen, own, n), omega (arith, all, seen, own, f))
 
-  -- what was written behind the first rows
+  -- what was written after the first rows
   pub written_behind : (own : ℕ) (before after : Rows) → own ≡ length v.numbers → before ≡ r → after ≡ joined (front own before) (first_rows given) → after ≡ joined first (first_rows given)
   written_behind own before after count was wrote = wrote ∙ ap₂ (λ n x. joined (front n x) (first_rows given)) count was
 

@@ -253,7 +253,7 @@ module _ (c : Config) (runs : IsRunnable c) (task : ℕ) (u : ProgramUnit) (is :
       (seen_cells_are c (sound_of c runs) task u is ∙ map-append (λ (p : Text × Scalar). cell p.0 p.1) (external_scalars c u) (given_scalars c task)
       ∙ ap (λ xs. xs ++ cells_of (given_scalars c task)) (sym (shallow_cells c (entities u.externals))))
 
-  -- they stand between the task's own variables and the image
+  -- they are between the task's own variables and the image
   pub externals_are : (cells : List Cell) (own image : ℕ) → cells ≡ program_cells c u → own ≡ length (own_cells c u) → image ≡ image_count (sizes_of c) task → between own image cells ≡ external_cells c u
   externals_are cells own image same first last =
       ap (between own image) (same ∙ cells_are)

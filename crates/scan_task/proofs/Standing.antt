@@ -1,4 +1,4 @@
--- A store, as its scan stands.
+-- A store, as its scan is.
 use Rattle.std.proofs.Common.{◌≡◌, ◌≢◌, ℕ, true, false, List, [], ◌∷◌, Some, refl, sym, arith, ap, ap₂, ◌∙◌, subst}
 use Rattle.il_syntax.specs.declared.tree.Config.{Config}
 use Rattle.il_syntax.specs.declared.tree.Unit.{Unit as ProgramUnit}
@@ -28,7 +28,7 @@ use Rattle.scan_task.specs.Standing.{Standing, IsOf, IsAtStart, IsScan}
 use Rattle.scan_task.specs.Ran.{stands, standing, Begins, Ran, IsRan, finished}
 use Rattle.scan_task.proofs.Scans.{sound_of, accepted, state_is, goes}
 
--- a scan that begins with something stands at a start
+-- a scan that begins with something is at a start
 pub at_start : (c : Config) (task : ℕ) (b : Beginning) (s : Standing) → IsOf c task s → s.state ≡ scan_begins c task b → IsAtStart s
 at_start c task b s of begins = record { beginning = b; begins = begins ∙ ap₂ (λ k n. scan_begins k n b) (sym of.0) (sym of.1) }
 
@@ -53,7 +53,7 @@ module _ (k : Config) (n : ℕ) (old : Stored) (s : Standing) (view_is : standin
   pub scan_back : (x : Stored) → IsScanOf c task x → IsScanOf k n x
   scan_back x scan = subst (λ a. IsScanOf a n x) (sym config_is) (subst (λ m. IsScanOf c m x) (sym task_is) scan)
 
-  -- and stands there
+  -- and is there
   pub stands_here : (x : Stored) → stands k n x ≡ stands c task x
   stands_here x = ap₂ (λ a m. stands a m x) config_is task_is
 

@@ -1,4 +1,4 @@
--- What is seen of a scan where it stands (own rules).
+-- What is seen of a scan where it is (own rules).
 use Rattle.std.specs.Prelude.{◌≡◌, ℕ, List, [], ◌∷◌}
 use Rattle.il_syntax.specs.declared.tree.Config.{Config}
 use Rattle.base_maps.specs.NameMap.{Text}
@@ -6,7 +6,7 @@ use Rattle.il_semantics.specs.State.{Frame}
 use Rattle.scan_loop.specs.Framing.{path_over}
 use Rattle.scan_task.specs.declared.looking.Standpoint.{Standpoint}
 
--- where a body stands: the name of its unit, and the place
+-- where a body is: the name of its unit, and the place
 abbrev pub stand_of : Frame → Text × ℕ
 stand_of f = (f.unit, f.place)
 

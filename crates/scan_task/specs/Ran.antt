@@ -10,7 +10,7 @@ use Rattle.group_spec.specs.Snapshot.{Beginning, scan_begins}
 use Rattle.scan_task.specs.Scanning.{IsRunnable, IsScanOf, kept_of, state_of, value_at}
 use Rattle.scan_task.specs.Standing.{Standing, Finished}
 
--- where a task's scan stands
+-- where a task's scan is
 abbrev pub stands : Config → ℕ → Stored → State
 stands c task s = state_of (kept_of c task s)
 
@@ -18,7 +18,7 @@ stands c task s = state_of (kept_of c task s)
 abbrev pub standing : Config → ℕ → Stored → Standing
 standing c task s = record { config = c; task = task; state = stands c task s }
 
--- a store of a task stands where a scan begins with some variables, in some snapshot
+-- a store of a task is where a scan begins with some variables, in some snapshot
 pub record Begins (c : Config) (task : ℕ) (s : Stored) : Type 0 where
   pub scan : IsScanOf c task s
   pub beginning : Beginning

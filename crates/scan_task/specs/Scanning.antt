@@ -54,7 +54,7 @@ HasTask c task = (u : ProgramUnit) × IsTaskOf c task u
 abbrev pub over : Values → Values → Values
 over values above = with_entries values above.list
 
--- What a scan keeps, by names: the task's variables, what it was given of globals and image as it stands, the frames and the current result.
+-- What a scan keeps, by names: the task's variables, what it was given of globals and image as it is, the frames and the current result.
 pub record Kept : Type 0 where
   pub variables : Values
   pub written : Values
@@ -65,7 +65,7 @@ pub record Kept : Type 0 where
 abbrev pub state_of : Kept → State
 state_of k = record { values = over k.written k.variables; frames = k.frames; result = k.result }
 
--- the first rows, and those behind them
+-- the first rows, and those after them
 abbrev pub front : ℕ → Rows → Rows
 front n r = rows (take n r.numbers) (take n r.flags)
 

@@ -40,12 +40,12 @@ FitsGlobals c r = Fits (global_cells c) r
 abbrev pub external_cells : Config → ProgramUnit → List Cell
 external_cells c u = entity_cells (instance_cells zero c) [] (entities u.externals)
 
--- how many slots of the image a task sees; they stand behind the externals
+-- how many slots of the image a task sees; they follows the externals
 abbrev pub image_count : Sizes → ℕ → ℕ
 image_count z zero = 6 + 4 * z.slots + (2 * z.cars + z.slots)
 image_count z (suc k) = 6 + 4 * z.slots + CAR_VALUES
 
--- the cells behind the first ones and before the last ones
+-- the cells after the first ones and before the last ones
 abbrev pub between : ℕ → ℕ → List Cell → List Cell
 between first last cells = take (length (drop first cells) - last) (drop first cells)
 
@@ -55,7 +55,7 @@ slot_in cells x = place_or_zero (slot_at cells x.path)
 
 -- STORES
 
--- the name of the variable of a path: what stands before the index
+-- the name of the variable of a path: what comes before the index
 abbrev pub base_name : Text → Text
 base_name [] = []
 base_name (b ∷ bs) = if b == 91 then [] else b ∷ base_name bs

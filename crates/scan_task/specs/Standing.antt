@@ -1,4 +1,4 @@
--- Where a store's scan stands, and whole scans, as the definitions see them (own rules).
+-- Where a store's scan is, and whole scans, as the definitions see them (own rules).
 use Rattle.std.specs.Prelude.{◌≡◌, ℕ, ◌≤◌, List, [], All, length, Option, Some, None, refl}
 use Rattle.std.specs.Coded.{Coded, code_by, coded×, coded_ℕ}
 use Rattle.il_syntax.specs.declared.tree.Config.{Config}
@@ -20,7 +20,7 @@ use Rattle.scan_task.specs.Scanning.{IsRunnable, HasTask, FitsOwn, OwnsDeclared,
 use Rattle.scan_task.specs.Sharing.{globals_in, FitsGlobals}
 use Rattle.scan_task.specs.declared.store.Begin.{Begin}
 
--- a scan of a task of a configuration, and where it stands
+-- a scan of a task of a configuration, and where it is
 pub record Standing : Type 0 where
   pub config : Config
   pub task : ℕ
@@ -35,7 +35,7 @@ standing_code =
 abbrev pub IsOf : Config → ℕ → Standing → Type 0
 IsOf c task s = (s.config ≡ c) × (s.task ≡ task)
 
--- it stands where a scan begins, with some variables and in some snapshot
+-- it is where a scan begins, with some variables and in some snapshot
 pub record IsAtStart (s : Standing) : Type 0 where
   pub beginning : Beginning
   pub begins : s.state ≡ scan_begins s.config s.task beginning
@@ -89,7 +89,7 @@ finished_code =
     code_by (Config × (ℕ × (State × State))) (coded× config.the_row.coded (coded× coded_ℕ (coded× state_code state_code))) (λ f. (f.config, (f.task, (f.first, f.last))))
     (λ c. record { config = c.0; task = c.1.0; first = c.1.1.0; last = c.1.1.1 }) (λ _. refl)
 
--- where it stands at its end
+-- where it is at its end
 abbrev pub at_its_end : Finished → Standing
 at_its_end f = record { config = f.config; task = f.task; state = f.last }
 

@@ -21,7 +21,7 @@ use Rattle.scan_task.specs.Scanning.{value_at}
 abbrev pub first_frame : Config → ProgramUnit → Frame
 first_frame c u = record { unit = number_in c.units u.name.name; base = base_of c u u.name.name; place = 0 }
 
--- some rows, and others behind them
+-- some rows, and others after them
 abbrev pub joined : Rows → Rows → Rows
 joined first others = rows (first.numbers ++ others.numbers) (first.flags ++ others.flags)
 

@@ -1,4 +1,4 @@
-// What is seen of a task's scan where it stands.
+// What is seen of a task's scan where it is.
 
 ghost use Rattle.std.specs.Prelude.{◌≡◌, length, slice_get, option_map};
 ghost use Rattle.base_maps.specs.NameMap.{get};
@@ -14,7 +14,7 @@ use load_slots::flat::UnitCode;
 use scan_loop::ScanState;
 use scan_loop::frames::Frame;
 
-/// A body that runs or has called: the name of its unit, and the place at which it stands. Behind the last instruction stands a RET.
+/// A body that runs or has called: the name of its unit, and the place at which it is. After the last instruction is a RET.
 #[derive(Clone, Copy)]
 pub struct Standpoint<'v> {
     pub unit: &'v str,
@@ -53,7 +53,7 @@ fn name_of_code(units: &[UnitCode], number: usize) -> &str
     }
 }
 
-// Where one of these bodies stands.
+// Where one of these bodies is.
 pub fn stands_at<'v>(
     verified: &'v Verified,
     task: u8,

@@ -66,7 +66,7 @@ impl<'v> Model for Scanned<'v> {
 }
 
 impl OpenScan {
-    /// A scan that begins as this store stands. No allocation.
+    /// A scan that begins as this store is. No allocation.
     pub fn of(store: Store) -> OpenScan
         requires { IsAtStart store }
         ensures { result ≡ store }
@@ -74,7 +74,7 @@ impl OpenScan {
         OpenScan { store }
     }
 
-    /// It stands at a scan's start.
+    /// It is at a scan's start.
     pub fn begins(&self)
         ensures { IsAtStart self.now }
     {
@@ -153,7 +153,7 @@ fn same_values(rows: &Rows, others: &Rows, cells: &[Cell]) -> bool
     is_same_rows(rows, others) || same_by_slots(rows, others, cells)
 }
 
-// The same, slot by slot.
+// Whether rows hold the same value at each slot, slot by slot.
 fn same_by_slots(rows: &Rows, others: &Rows, cells: &[Cell]) -> bool
     ensures { (result ≡ true) ↔ HaveSameValues cells.now rows.now others.now }
 {

@@ -56,7 +56,7 @@ pub fn step(verified: &Verified, task: u8, scan: &mut ScanState) -> Stepped
     }
 }
 
-// A task's scan from where it stands to its end, and how many steps that takes (IEC 61131-3:2003, 3.2).
+// A task's scan from where it is to its end, and how many steps that takes (IEC 61131-3:2003, 3.2).
 pub fn finish(verified: &Verified, task: u8, scan: &mut ScanState) -> u32
     requires scan { IsScanOf verified.now.config task scan.old }
     requires going { (kept_of verified.now.config task scan.old).frames ≢ [] }
@@ -70,7 +70,7 @@ pub fn finish(verified: &Verified, task: u8, scan: &mut ScanState) -> u32
     scan.run(verified.running(task), budget)
 }
 
-// Writes what a scan starts with behind the task's variables: the globals that its program lists, and the image.
+// Writes what a scan starts with after the task's variables: the globals that its program lists, and the image.
 #[inline(always)]
 fn write_seen(
     rows: &mut Rows,
@@ -111,7 +111,7 @@ fn enter(scan: &mut ScanState, frame: Frame)
     scan.result = None;
 }
 
-// A scan's start with what is lent behind the task's variables, which the first rows hold.
+// A scan's start with what is lent after the task's variables, which the first rows hold.
 #[inline(always)]
 pub fn start_behind(verified: &Verified, task: u8, scan: &mut ScanState, begin: &Begin<'_>)
     requires rows { FitsTask verified.now.config task scan.old.rows }

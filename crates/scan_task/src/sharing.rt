@@ -30,7 +30,7 @@ pub fn image_count(sizes: Sizes, task: u8) -> usize
     }
 }
 
-/// The cells behind the first ones and before the last ones.
+/// The cells after the first ones and before the last ones.
 pub fn between(cells: &[Cell], first: usize, last: usize) -> &[Cell]
     requires first { first ≤ length cells.now }
     requires last { last ≤ length (drop first cells.now) }
@@ -66,7 +66,7 @@ pub fn slots_in(
     Ok(slots)
 }
 
-// The name of the variable of a path: what stands before the index.
+// The name of the variable of a path: what comes before the index.
 fn base_name(path: &str) -> &str
     ensures { result.now ≡ base_name path.now }
 {

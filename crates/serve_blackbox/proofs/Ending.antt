@@ -13,7 +13,7 @@ pub consumes_none : (a : Option (List ℕ)) → Consumes a a []
 consumes_none None = tt
 consumes_none (Some xs) = refl
 
--- where a group begins, by its world, how many events stand in its trace, and as which files that was made
+-- where a group begins, by its world, how many events are in its trace, and as which files that was made
 abbrev begins_at : Option (List ℕ) → Option (List ℕ) → Option (List ℕ) → WorldOf → ℕ → Made → Spot
 begins_at left out trace x count made = record { world = x.world; count = count; heard = 0; left = left; out = out; trace = trace; made = made }
 

@@ -18,7 +18,7 @@ pub turned : (c : Config) (source : List ℕ) (s t : Spot) (name head last : Lis
     → Turns name (head_text c source s.world) (last_line s.count ++ 10 ∷ []) kept s.trace t.trace s.made t.made
 turned c source s t name head last kept is ends turns = subst (λ l. Turns name (head_text c source s.world) l kept s.trace t.trace s.made t.made) ends (subst (λ h. Turns name h last kept s.trace t.trace s.made t.made) is turns)
 
--- how many events stand in the trace then
+-- how many events are in the trace then
 pub counted : (kept : Bool) (w : World) (count events next : ℕ) → events ≡ length (waiting_events w) → next ≡ (if kept then events else count) → next ≡ count_behind w count kept
 counted true w count events next is so = so ∙ is
 counted false w count events next is so = so

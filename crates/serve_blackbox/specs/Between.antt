@@ -11,7 +11,7 @@ use Rattle.serve_blackbox.specs.Keeping.{Spot}
 abbrev pub spot : {R O T : Type 0} → Read R → Sink O → Sink T → World → ℕ → ℕ → R → O → T → Spot
 spot reader out trace w count heard r o t = record { world = w; count = count; heard = heard; left = reader.remaining r; out = out.contents o; trace = trace.contents t; made = trace.made t }
 
--- how a reader, an output and a trace stand in the end
+-- how a reader, an output and a trace are in the end
 abbrev pub final : {R O T : Type 0} → Read R → Sink O → Sink T → R → O → T → Final
 final reader out trace r o t = record { left = reader.remaining r; out = out.contents o; trace = trace.contents t; made = trace.made t; out_failed = out.has_failed o; trace_failed = trace.has_failed t }
 

@@ -34,7 +34,7 @@ is_output_stop (stop.Line fault.Full) = false
 is_output_stop (stop.Input c) = false
 is_output_stop stop.Lines = false
 
--- how the streams stand in the end: what the reader has left, what was answered, the trace and as which files it was made, and which of the sinks failed
+-- how the streams are in the end: what the reader has left, what was answered, the trace and as which files it was made, and which of the sinks failed
 pub record Final : Type 0 where
   pub left : Option (List ℕ)
   pub out : Option (List ℕ)
@@ -47,7 +47,7 @@ pub record Final : Type 0 where
 abbrev pub before_stop : Final → Option (List ℕ) → Bool → Final
 before_stop f out failed = record f { out = out; out_failed = failed }
 
--- a spot, behind what is first in its trace
+-- a spot, after what is first in its trace
 abbrev pub with_trace : Spot → Option (List ℕ) → Spot
 with_trace s trace = record s { trace = trace }
 
@@ -71,7 +71,7 @@ is_output (halt.Keep unkept.Output) = true
 
 -- TO THE END
 
--- It came to its end: from this spot on each line that the reader gave was answered, and the trace of each part is that of events which lead to the world behind them, so that a replay of it does.
+-- It came to its end: from this spot on each line that the reader gave was answered, and the trace of each part is that of events which lead to the world after them, so that a replay of it does.
 pub record IsEndedFrom (c : Config) (source : List ℕ) (s : Spot) (f : Final) : Type 0 where
   pub m : Spot
   pub leads : Leads c source s m
@@ -81,7 +81,7 @@ pub record IsEndedFrom (c : Config) (source : List ℕ) (s : Spot) (f : Final) :
   pub replays : (events : List TraceEvent) × TakesAll c m.world events v × Appends m.trace f.trace (behind_head m.count events)
   pub made : f.made ≡ m.made
 
--- the same behind this head of its trace
+-- the same after this head of its trace
 abbrev pub IsEnded : Config → List ℕ → List ℕ → Spot → Final → Type 0
 IsEnded c source head s f = (headed : Option (List ℕ)) × Appends s.trace headed head × IsEndedFrom c source (with_trace s headed) f
 
@@ -95,7 +95,7 @@ IsUnkept c source s name f unkept.Trace = (f.trace_failed ≡ true) × (f.out �
 IsUnkept c source s name f unkept.Output =
     (f.out_failed ≡ true) × ((kept : Bool) × Turns name (head_text c source s.world) (last_line s.count ++ 10 ∷ []) kept s.trace f.trace s.made f.made × AppendsFront s.out f.out (kept_line name kept))
 
--- how the streams stand where serving stops
+-- how the streams are where serving stops
 abbrev pub stop_at : Final → AtStop
 stop_at f = at_stop f.left f.out_failed f.trace_failed
 
@@ -108,7 +108,7 @@ IsHaltedFrom c source s f (halt.Stop h) =
 IsHaltedFrom c source s f (halt.Keep why) =
     (m : Spot) × (a : Spot) × (name : List ℕ) × Leads c source s m × IsAskedAt c m a name × (f.left ≡ a.left) × IsUnkept c source a name f why
 
--- the same behind this head of its trace; then the stop is the last line that was written, behind the answers
+-- the same after this head of its trace; then the stop is the last line that was written, after the answers
 abbrev pub IsHaltedBehind : Config → List ℕ → List ℕ → Spot → Final → Halt → Type 0
 IsHaltedBehind c source head s f why =
     (headed : Option (List ℕ)) × (out : Option (List ℕ)) × (failed : Bool) × Appends s.trace headed head × IsHaltedFrom c source (with_trace s headed) (before_stop f out failed) why × IsStopWritten c out failed f (is_output why)

@@ -40,7 +40,7 @@ abbrev pub kept_line : List ℕ → Bool → List ℕ
 kept_line name true = codes "kept " ++ (name ++ codes "\n")
 kept_line name false = codes "kept " ++ (name ++ codes " refused\n")
 
--- Where a group that serves is between two lines: its world, how many events stand in its trace, and how many lines came; what the reader has left; what was answered; and its trace, and as
+-- Where a group that serves is between two lines: its world, how many events are in its trace, and how many lines came; what the reader has left; what was answered; and its trace, and as
 -- which files that was made.
 pub record Spot : Type 0 where
   pub world : World
@@ -63,7 +63,7 @@ pub record IsAskedAt (c : Config) (s t : Spot) (name : List ℕ) : Type 0 where
   pub leads : LeadsOn c s.world s.count t.world t.count (Appends s.trace t.trace)
   pub made : t.made ≡ s.made
 
--- the events that stand in the trace behind the line: those of the head of the new one, or those of the one that goes on
+-- the events that are in the trace after the line: those of the head of the new one, or those of the one that goes on
 abbrev pub count_behind : World → ℕ → Bool → ℕ
 count_behind w count true = length (waiting_events w)
 count_behind w count false = count

@@ -10,12 +10,12 @@ use Rattle.group_spec.specs.World.{World}
 use Rattle.group_state.specs.Beginnings.{BeginsTrace, IsUnbegun}
 use Rattle.serve_lines.specs.Going.{GoesOn, IsBroken}
 
--- In which line a trace is cut off whose state may not be whole: so many lines stand before its events, of which there is none. A state may lack its last lines and still read as one.
+-- In which line a trace is cut off whose state may not be whole: so many lines come before its events, of which there is none. A state may lack its last lines and still read as one.
 abbrev pub unfinished : ℕ → List TraceEvent → Option ℕ → Option ℕ
 unfinished lines [] cut = if nat_lt 1 lines then cut else None
 unfinished lines (e ∷ events) cut = None
 
--- A trace of a configuration whose text is the source leads to where a group goes on: this world. So many of its events are dropped, those behind its last whole line.
+-- A trace of a configuration whose text is the source leads to where a group goes on: this world. So many of its events are dropped, those after its last whole line.
 pub record IsLeft (c : Config) (source trace : List ℕ) (w : World) (dropped : ℕ) : Type 0 where
   pub base : World
   pub events : List TraceEvent
@@ -26,7 +26,7 @@ pub record IsLeft (c : Config) (source trace : List ℕ) (w : World) (dropped : 
   pub goes_on : GoesOn c base events w dropped
 
 -- The events lead nowhere, with this fault: the state before them may not be whole, 81 where it is cut off; or one of them, up to the last whole line, is refused, at its line. So many
--- lines stand before the first.
+-- lines come before the first.
 abbrev pub LeadsNowhere : Config → World → List TraceEvent → ℕ → Option ℕ → Fault → Type 0
 LeadsNowhere c base events lines cut fault =
     ((line : ℕ) × (unfinished lines events cut ≡ Some line) × (fault ≡ Refused 81 line))

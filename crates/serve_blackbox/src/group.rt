@@ -33,7 +33,7 @@ pub enum Halt {
     Keep(KeepFault),
 }
 
-/// The head of a trace, and how many events stand in it.
+/// The head of a trace, and how many events are in it.
 #[derive(Clone, Copy)]
 pub struct Head<'h> {
     pub text: &'h [u8],

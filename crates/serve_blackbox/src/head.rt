@@ -11,7 +11,7 @@ use serve_lines::waiting::put_waiting;
 use sha2::{Digest, Sha256};
 use std::alloc::{AllocError, Global};
 
-/// The head of the trace that begins at a world, and how many events stand in it.
+/// The head of the trace that begins at a world, and how many events are in it.
 #[derive(Drop)]
 pub struct TraceHead {
     pub text: String,

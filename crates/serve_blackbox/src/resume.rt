@@ -22,7 +22,7 @@ pub struct Origin {
     pub dropped: usize,
 }
 
-// The fault of an event that was refused, where so many lines stand before the first event.
+// The fault of an event that was refused, where so many lines come before the first event.
 fn fault_of_event(refused: Refused, lines: u32) -> Fault
     requires few { lines + refused.index ≤ greatest_trace }
     ensures { result
@@ -34,7 +34,7 @@ fn fault_of_event(refused: Refused, lines: u32) -> Fault
     }
 }
 
-// In which line a trace is cut off whose state may not be whole: no line stands behind it.
+// In which line a trace is cut off whose state may not be whole: no line follows it.
 fn unfinished(lines: u32, events: &Trace<'_>, cut: Option<u32>) -> Option<u32>
     ensures { result ≡ unfinished lines events.now cut }
 {
@@ -87,7 +87,7 @@ fn gone_on(beginning: Beginning<'_>) -> Result<Origin, Fault>
     }
 }
 
-/// Where the text of a trace ends: the group of a configuration whose text is `source` goes on there. Of its events those behind its last whole
+/// Where the text of a trace ends: the group of a configuration whose text is `source` goes on there. Of its events those after its last whole
 /// line are dropped; a text that isn't a trace of this configuration is a fault.
 pub fn resume(
     alloc: Global,

@@ -1,4 +1,4 @@
--- Lines, one behind the other, from a reader.
+-- Lines, one after the other, from a reader.
 use Rattle.std.proofs.Common.{◌≡◌, ◌≤◌, ℕ, ◌+◌, arith, Bool, true, false, List, [], ◌∷◌, ◌++◌, length, length-append, append-nil, Option, Some, None, refl, sym, ap, ◌∙◌, subst}
 use Rattle.std.specs.Prelude.{is_some, IfNone}
 use Rattle.std.specs.Io.KnownBytes.{Appends, Consumes}
@@ -42,7 +42,7 @@ if_none (Some x) is p = absurd (cc)
 pub none_asked : (other line : List ℕ) → other ≡ line → ((name : List ℕ) → AsksFor other name → ⊥) → (name : List ℕ) → AsksFor line name → ⊥
 none_asked other line is none name asks = none name (subst (λ l. AsksFor l name) (sym is) asks)
 
--- what the lines so far left, behind so many
+-- what the lines so far left, after so many
 abbrev pub SoFar : Config → World → ℕ → ℕ → World → ℕ → ℕ → Option (List ℕ) → Option (List ℕ) → Option (List ℕ) → Option (List ℕ) → Option (List ℕ) → Option (List ℕ) → Type 0
 SoFar c w a h m b n r0 r o0 o t0 t =
     (lines : List (List ℕ)) × (text : List ℕ) × (events : List ℕ) × Serves c lines w a m b text events × Consumes r0 r (text_of_lines lines) × Appends o0 o text × Appends t0 t events × (h + length lines ≡ n)
@@ -57,7 +57,7 @@ end_of (Press call) is = absurd (cc)
 end_of End is = refl
 
 module _ (p : Program) (w m : World) (a h b n : ℕ) (r0 r o0 o t0 t : Option (List ℕ)) (before : SoFar p.config w a h m b n r0 r o0 o t0 t) where
-  -- serving stops behind the lines so far
+  -- serving stops after the lines so far
   stopped_at : (at : AtStop) (s z u : Option (List ℕ)) (stop : Stop) (k : ℕ) → k ≡ n + 1
       → IsStoppedBy p.config m b (h + length before.0) at (λ l. Consumes r0 s (text_of_lines before.0 ++ l)) (λ l. Appends o0 z (before.1 ++ l)) (λ l. AppendsFront o0 z (before.1 ++ l)) (λ l. Appends t0 u (before.2 ++ l)) (λ l. AppendsFront t0 u (before.2 ++ l)) stop
       → IsStopped p.config w a h at (Consumes r0 s) (Appends o0 z) (AppendsFront o0 z) (Appends t0 u) (AppendsFront t0 u) stop k

@@ -154,7 +154,7 @@ serves_taken c (line ∷ lines) w v count next text events (said, m, k, first, o
       joined c here more.0 w m v (acts_taken c said w m first hears.acts) more.3,
     )
 
--- the same of all lines up to the end: it is what stands behind the head of the trace of those events
+-- the same of all lines up to the end: it is what follows the head of the trace of those events
 pub served_taken : (c : Config) (w : World) (count : ℕ) (v : World) (next : ℕ) (Taken Out Trace : List ℕ → Type 0) → (s : IsServed c w count v next Taken Out Trace) → (es : List TraceEvent) × TakesAll c w es v × (s.events ++ s.ends ≡ behind_head count es)
 served_taken c w count v next Taken Out Trace s =
     let before = serves_taken c s.lines w s.behind count s.many s.text s.events s.serves in

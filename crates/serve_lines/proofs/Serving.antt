@@ -1,4 +1,4 @@
--- One line behind the other.
+-- One line after the other.
 use Rattle.std.proofs.Common.{◌≡◌, ℕ, true, false, List, [], ◌∷◌, ◌++◌, append-nil, Option, Result, Ok, Err, OnErr, OnOk, inl, inr, refl, sym, ap, ◌∙◌, subst}
 use Rattle.std.specs.Prelude.{is_err, ◌⊎◌, Bool}
 use Rattle.std.specs.Io.KnownBytes.{Appends}
@@ -58,7 +58,7 @@ serves_next c (x ∷ lines) line said w m v a b d text events first one (other, 
 pub front_behind : (a b d : Option (List ℕ)) (x y : List ℕ) → Appends a b x → AppendsFront b d y → AppendsFront a d (x ++ y)
 front_behind a b d x y first (front, rest, grown, is) = (x ++ front, rest, appends_more a b d x front first grown, append_assoc x front rest ∙ ap (λ l. x ++ l) is)
 
--- a line that is not heard behind others
+-- a line that is not heard after others
 pub unheard_behind : (c : Config) (line : List ℕ) (w : World) (count : ℕ) (of tf : Bool) (f : ServeFault) (o p q t u v : Option (List ℕ)) (text events : List ℕ) → Appends o p text → Appends t u events
     → Unheard c line w count of tf (Appends p q) (AppendsFront p q) (Appends u v) (AppendsFront u v) f
     → Unheard c line w count of tf (λ l. Appends o q (text ++ l)) (λ l. AppendsFront o q (text ++ l)) (λ l. Appends t v (events ++ l)) (λ l. AppendsFront t v (events ++ l)) f
@@ -71,7 +71,7 @@ unheard_behind c line w count of tf fault.Full o p q t u v text events out trace
 front_all : (a b : Option (List ℕ)) (x : List ℕ) → Appends a b x → AppendsFront a b x
 front_all a b x grown = (x, [], grown, append-nil x)
 
--- a line whose answer failed, behind all that is traced of it
+-- a line whose answer failed, after all that is traced of it
 pub unheard_answer : (line : List ℕ) (said : Said) (old mid : WorldOf) (v : World) (count : ℕ) (of tf : Bool) (f : ServeFault) (o q t u : Option (List ℕ)) → mid ≡ old → Says old.program.config line said → Appends t u (traced_text old.program.config said count)
     → ((f ≡ fault.Memory) × Appends o q []) ⊎ ((f ≡ fault.Output) × (of ≡ true) × ((text : List ℕ) × Acts mid.program.config said mid.world v text × AppendsFront o q text)) → Unheard old.program.config line old.world count of tf (Appends o q) (AppendsFront o q) (Appends t u) (AppendsFront t u) f
 unheard_answer line said old mid v count of tf f o q t u same says traced (inl (is, none)) =

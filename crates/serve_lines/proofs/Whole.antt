@@ -1,4 +1,4 @@
--- Behind whole lines no scan is open.
+-- After whole lines no scan is open.
 use Rattle.std.proofs.Common.{◌≡◌, ℕ, zero, suc, ◌+◌, ◌≤◌, ◌<◌, ◌⊎◌, inl, inr, ◌==◌, Bool, true, false, List, [], ◌∷◌, ◌++◌, length, length-append, take, drop, Some, if◌then◌else◌, refl, sym, ap, ◌∙◌, subst, arith, zero-add, Option}
 use Rattle.std.proofs.lemmas.Bool.Decides.{nat_tests}
 use Rattle.std.specs.Prelude.{nat_lt, ◌&&◌, get_or, slice_get, slice_set, is_some}
@@ -23,7 +23,7 @@ use Rattle.group_journal.proofs.Along.{along, along_reached}
 use Rattle.serve_lines.specs.Going.{opened, are_shut, ends_line, whole_from, all_shut, whole_events}
 use Rattle.trace_text.proofs.Left.{left_after}
 
--- whose scans are open behind events, one behind the other
+-- whose scans are open after events, one after the other
 abbrev along_all : List Bool → List TraceEvent → List Bool
 along_all marks [] = marks
 along_all marks (e ∷ events) = along_all (opened marks e) events
@@ -82,7 +82,7 @@ shut_at (false ∷ marks) (suc t) shut = shut_at marks t shut
 
 -- THE FRONT THAT IS CHOSEN
 
--- so many events, behind which no scan is open
+-- so many events, after which no scan is open
 pub record IsShutAt (marks : List Bool) (events : List TraceEvent) (n : ℕ) : Type 0 where
   pub within : n ≤ length events
   pub shut : are_shut (along_all marks (take n events)) ≡ true
@@ -112,7 +112,7 @@ chosen last (e ∷ events) marks whole count =
 
 -- IN A WORLD
 
--- no scan is open behind the events that stand in whole lines
+-- no scan is open after the events that are in whole lines
 shut_front : (c : Config) → IsSound c → (w v : World) (events : List TraceEvent) (n t : ℕ) → IsReached c w → IsClosed w → IsShutAt all_shut events n → TakesAll c w (take n events) v → t < 9 → is_some (scan_at v t) ≡ false
 shut_front c sound w v events n t reached closed shut taken low =
     along c sound (take n events) w v t reached taken ∙ ap (λ b. open_along t b (take n events)) (closed t ∙ sym (shut_at all_shut t refl))
@@ -135,7 +135,7 @@ front_closes c sound few w v events n reached closed shut taken t = by (nat_lt t
         let high : 9 ≤ t = grind (arith, nat_tests) in
         no_scan v.scans t (omega (arith, long, few, high))
 
--- behind the events that stand in whole lines no scan is open
+-- after the events that are in whole lines no scan is open
 pub whole_closes : (c : Config) → IsSound c → (sizes_of c).cars ≤ 8 → (last : ℕ) (w v : World) (events : List TraceEvent) → IsReached c w → IsClosed w → TakesAll c w (take (whole_events last events) events) v → IsClosed v
 unfolding whole_events
 whole_closes c sound few last w v events reached closed taken = by (chosen last events all_shut 0 0)
@@ -172,7 +172,7 @@ refused_within c w events n index why r =
 
 -- THE COUNT, ONE EVENT MORE
 
--- how many stand in whole lines after an event
+-- how many are in whole lines after an event
 abbrev pub whole_after : ℕ → TraceEvent → List Bool → ℕ → ℕ → ℕ
 whole_after last e marks count whole = if ends_line last e && are_shut (opened marks e) then count + 1 else whole
 

@@ -56,7 +56,7 @@ abbrev pub ServesAll : {R O T : Type 0} → Read R → Sink O → Sink T → Ser
 ServesAll reader out trace before after r s o p t u =
     IsServed (config_of before) (world_of before) before.count (world_of after) after.count (IsRead reader r s) (IsPut out o p) (IsPut trace t u)
 
--- Lines are served, behind so many, up to the end or to the one that asks for another trace.
+-- Lines are served, after so many, up to the end or to the one that asks for another trace.
 abbrev pub Pauses : {R O T : Type 0} → Read R → Sink O → Sink T → Server → Server → ℕ → List ℕ → R → R → O → O → T → T → Pause → Type 0
 Pauses reader out trace before after heard line r s o p t u End = ServesAll reader out trace before after r s o p t u
 Pauses reader out trace before after heard line r s o p t u (Asked number) =

@@ -17,7 +17,7 @@ ByteComes (byte.Of b) old new = Consumes old new (b ∷ [])
 ByteComes byte.End old new = Consumes old new [] × IsAtEnd new
 ByteComes byte.Failed old new = Consumes old new []
 
--- what a reader gave up to there: a line and its line feed; what stands behind the last line feed; a byte more than a line may have; or what it gave before it failed
+-- what a reader gave up to there: a line and its line feed; what follows the last line feed; a byte more than a line may have; or what it gave before it failed
 abbrev pub LineComes : Came → Option (List ℕ) → Option (List ℕ) → List ℕ → Type 0
 LineComes Whole old new line = IsOneLine line × Consumes old new (line ++ 10 ∷ [])
 LineComes Ended old new line = IsOneLine line × Consumes old new line × IsAtEnd new

@@ -12,7 +12,7 @@ use Rattle.group_journal.specs.Rounds.{TakesAll, IsRefusedAt}
 
 -- WHOLE LINES
 
--- whose scans are open behind an event, each task at the place of its number
+-- whose scans are open after an event, each task at the place of its number
 abbrev pub opened : List Bool → TraceEvent → List Bool
 opened marks (traced.Start t) = slice_set marks t true
 opened marks (traced.Commit t) = slice_set marks t false
@@ -33,7 +33,7 @@ ends_line last (traced.Press call) = true
 ends_line last (traced.Gather floor) = false
 ends_line last (traced.Refresh fields) = false
 
--- how many events stand in whole lines, where so many of those before do, and so many there are
+-- how many events are in whole lines, where so many of those before do, and so many there are
 abbrev pub whole_from : ℕ → List Bool → ℕ → ℕ → List TraceEvent → ℕ
 whole_from last marks whole count [] = whole
 whole_from last marks whole count (e ∷ events) =
@@ -43,7 +43,7 @@ whole_from last marks whole count (e ∷ events) =
 abbrev pub all_shut : List Bool
 all_shut = replicate 9 false
 
--- How many of the events of a trace stand in whole lines: those up to the last press, or commit of the last task, behind which no scan is open.
+-- How many of the events of a trace are in whole lines: those up to the last press, or commit of the last task, after which no scan is open.
 unfoldable pub whole_events : ℕ → List TraceEvent → ℕ
 whole_events last events = whole_from last all_shut 0 0 events
 
@@ -53,11 +53,11 @@ last_task c = if has_task c 0 then 0 else (sizes_of c).cars
 
 -- GOING ON
 
--- the events of a trace that stand in whole lines
+-- the events of a trace that are in whole lines
 abbrev pub whole_front : Config → List TraceEvent → List TraceEvent
 whole_front c events = take (whole_events (last_task c) events) events
 
--- From a world lead the events of a trace that stand in whole lines to one which, with every output still, is this; behind them stand so many.
+-- From a world lead the events of a trace that are in whole lines to one which, with every output still, is this; after them come so many.
 pub record GoesOn (c : Config) (w : World) (events : List TraceEvent) (v : World) (dropped : ℕ) : Type 0 where
   pub behind : World
   pub taken : TakesAll c w (whole_front c events) behind

@@ -1,4 +1,4 @@
--- A group behind lines, and what each line leaves (own rules).
+-- A group driven by lines, and what each line leaves (own rules).
 use Rattle.std.specs.Prelude.{◌≡◌, ◌≢◌, ◌≤◌, ◌<◌, ℕ, ◌+◌, Bool, Option, true, false, if◌then◌else◌, List, [], ◌∷◌, ◌++◌, length, map, flat_map, string_bytes}
 use Rattle.il_syntax.specs.declared.tree.Config.{Config}
 use Rattle.group_spec.specs.declared.trace.TraceEvent.{TraceEvent}
@@ -35,7 +35,7 @@ pub record IsServer (s : Server) : Type 0 where
 
 -- THE BLACK BOX
 
--- The lines that are traced of it, behind so many events. The end has the last line of a trace.
+-- The lines that are traced of it, after so many events. The end has the last line of a trace.
 abbrev pub traced_text : Config → Said → ℕ → List ℕ
 traced_text c (Round fields) count = events_text (events_of c (Round fields))
 traced_text c (Press call) count = events_text (events_of c (Press call))
@@ -55,7 +55,7 @@ is_end (Round fields) = false
 is_end (Press call) = false
 is_end End = true
 
--- A line says this, which leads from a world to another and is answered so. So much is traced of it, behind so many events, and so many are then traced.
+-- A line says this, which leads from a world to another and is answered so. So much is traced of it, after so many events, and so many are then traced.
 pub record Hears (c : Config) (line : List ℕ) (said : Said) (w v : World) (count next : ℕ) (text events : List ℕ) : Type 0 where
   pub says : Says c line said
   pub acts : Acts c said w v text
@@ -76,7 +76,7 @@ IsUntraced c said count old new failed fault.Memory = AppendsFront old new (trac
 IsUntraced c said count old new failed fault.Full = (most_events < count + length (events_of c said)) × Appends old new []
 
 -- Why a line isn't answered, by what the answers and the trace grew, in whole or by a front: it says nothing to the group; the trace failed, and nothing was answered; the output
--- failed, behind all that is traced of the line; memory is missing; or the events of the line can't be counted any more.
+-- failed, after all that is traced of the line; memory is missing; or the events of the line can't be counted any more.
 abbrev pub Unheard : Config → List ℕ → World → ℕ → Bool → Bool → (List ℕ → Type 0) → (List ℕ → Type 0) → (List ℕ → Type 0) → (List ℕ → Type 0) → ServeFault → Type 0
 Unheard c line w count out_failed trace_failed Out OutFront Trace TraceFront (fault.WrongLine why) = SaysNothing c line why × Out [] × Trace []
 Unheard c line w count out_failed trace_failed Out OutFront Trace TraceFront fault.Trace = (said : Said) × Says c line said × (trace_failed ≡ true) × Out [] × TraceFront (traced_text c said count)
@@ -84,19 +84,19 @@ Unheard c line w count out_failed trace_failed Out OutFront Trace TraceFront fau
 Unheard c line w count out_failed trace_failed Out OutFront Trace TraceFront fault.Memory = (said : Said) × Says c line said × Out [] × TraceFront (traced_text c said count)
 Unheard c line w count out_failed trace_failed Out OutFront Trace TraceFront fault.Full = (said : Said) × Says c line said × (most_events < count + length (events_of c said)) × Out [] × Trace []
 
--- what stands behind the head of a trace, in which so many events stand: the lines of further events, and the last line
+-- what follows the head of a trace, in which so many events are: the lines of further events, and the last line
 abbrev pub behind_head : ℕ → List TraceEvent → List ℕ
 behind_head before events = text_of_lines (map (line_of Two) events ++ last_line (before + length events) ∷ [])
 
 -- ALL LINES
 
--- Lines lead from a world to another, each of them as it says, which is not the end; they are answered so, one behind the other, and so much is traced of them.
+-- Lines lead from a world to another, each of them as it says, which is not the end; they are answered so, one after the other, and so much is traced of them.
 abbrev pub Serves : Config → List (List ℕ) → World → ℕ → World → ℕ → List ℕ → List ℕ → Type 0
 Serves c [] w count v next text events = (w ≡ v) × (count ≡ next) × (text ≡ []) × (events ≡ [])
 Serves c (line ∷ lines) w count v next text events =
     (said : Said) × (m : World) × (k : ℕ) × (first : List ℕ) × (one : List ℕ) × (rest : List ℕ) × (others : List ℕ) × Hears c line said w m count k first one × (is_end said ≡ false) × Serves c lines m k v next rest others × (text ≡ first ++ rest) × (events ≡ one ++ others)
 
--- how the streams stand where serving stops: what the reader has left, where it tells that, and which of the sinks failed
+-- how the streams are where serving stops: what the reader has left, where it tells that, and which of the sinks failed
 pub record AtStop : Type 0 where
   pub left : Option (List ℕ)
   pub out_failed : Bool
@@ -105,11 +105,11 @@ pub record AtStop : Type 0 where
 abbrev pub at_stop : Option (List ℕ) → Bool → Bool → AtStop
 at_stop left out_failed trace_failed = record { left = left; out_failed = out_failed; trace_failed = trace_failed }
 
--- so many lines can be counted, and the number of the one behind them
+-- so many lines can be counted, and the number of the one after them
 abbrev pub most_lines : ℕ
 most_lines = 18446744073709551614
 
--- Why serving stopped, behind so many lines: the next line was whole and was not answered; none came whole, and nothing of it was traced or answered: the input ended, the
+-- Why serving stopped, after so many lines: the next line was whole and was not answered; none came whole, and nothing of it was traced or answered: the input ended, the
 -- line was too long, or the reader failed; or no line more can be counted.
 abbrev pub IsStoppedBy : Config → World → ℕ → ℕ → AtStop → (List ℕ → Type 0) → (List ℕ → Type 0) → (List ℕ → Type 0) → (List ℕ → Type 0) → (List ℕ → Type 0) → Stop → Type 0
 IsStoppedBy c w count heard at Taken Out OutFront Trace TraceFront (Line fault) = (line : List ℕ) × IsOneLine line × ((name : List ℕ) → AsksFor line name → ⊥) × Taken (line ++ 10 ∷ []) × Unheard c line w count at.out_failed at.trace_failed Out OutFront Trace TraceFront fault
@@ -149,7 +149,7 @@ pub record IsAsked (c : Config) (w : World) (count : ℕ) (v : World) (next : �
   pub answered : Out text
   pub traced : Trace events
 
--- Serving stopped, behind so many lines and then lines that were answered and traced, at the line of this number.
+-- Serving stopped, after so many lines and then lines that were answered and traced, at the line of this number.
 pub record IsStopped (c : Config) (w : World) (count before : ℕ) (at : AtStop) (Taken Out OutFront Trace TraceFront : List ℕ → Type 0) (stop : Stop) (number : ℕ) : Type 0 where
   pub lines : List (List ℕ)
   pub place : number ≡ before + length lines + 1

@@ -12,7 +12,7 @@ use trace_text::trace::Trace;
 // A place for each number of a task.
 const TASKS: usize = 9;
 
-// Whose scans are open behind an event.
+// Whose scans are open after an event.
 fn put_open(marks: &mut [bool], event: &TraceEvent)
     ensures { marks.new ≡ opened marks.old event.now }
 {
@@ -55,7 +55,7 @@ fn ends_line(last: u8, event: &TraceEvent) -> bool
     }
 }
 
-/// How many of the events of a trace stand in whole lines: those up to the last press, or commit of the last task, behind which no
+/// How many of the events of a trace are in whole lines: those up to the last press, or commit of the last task, after which no
 /// scan is open (own rule).
 pub fn whole_events(events: &Trace<'_>, last: u8) -> usize
     ensures whole { result ≡ whole_events last events.now }
@@ -87,8 +87,8 @@ fn last_task(world: &World) -> u8
     }
 }
 
-/// Leads a world between scans along the events of a trace up to its last whole line, with every output still behind it, as after a stop.
-/// The answer is how many events stand behind that line; nothing of them happens. Where an event up to there is refused, it is named.
+/// Leads a world between scans along the events of a trace up to its last whole line, with every output still after it, as after a stop.
+/// The answer is how many events follows that line; nothing of them happens. Where an event up to there is refused, it is named.
 pub fn go_on(world: &mut World, events: &Trace<'_>) -> Result<usize, Refused>
     requires { IsClosed world.old.world }
     ensures goes_on { IfOk result (GoesOn world.old.program.config world.old.world events.now

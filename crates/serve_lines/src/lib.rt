@@ -1,4 +1,4 @@
-//! A lift group behind lines: what a line says, what it does, and what it is answered.
+//! A lift group driven by lines: what a line says, what it does, and what it is answered.
 #![tactic(auto)]
 
 pub mod act;

@@ -60,7 +60,7 @@ pub fn read_said(world: &World, line: &[u8]) -> Result<Said, WrongLine>
     Ok(said)
 }
 
-// What stands behind a byte, which is the first.
+// What follows a byte, which is the first.
 fn behind(text: &[u8], byte: u8) -> Option<&[u8]>
     ensures found { IfSome result (λ rest. text.now ≡ byte ∷ rest.now) }
     ensures none { IfNone result ((rest : List ℕ) → text.now ≡ byte ∷ rest → ⊥) }

@@ -1,4 +1,4 @@
-// Lines, one behind the other.
+// Lines, one after the other.
 
 ghost use Rattle.std.specs.Prelude.{◌≡◌, ◌≤◌, None, OnOk, IfOk, IfErr, vec_capacity};
 ghost use Rattle.serve_lines.specs.Serving.{IsServer, most_lines};
@@ -31,7 +31,7 @@ pub struct Stopped {
     pub line: u64,
 }
 
-// So many lines can be counted, and the number of the one behind them.
+// So many lines can be counted, and the number of the one after them.
 const MOST_LINES: u64 = 18_446_744_073_709_551_614;
 
 /// How serving pauses: the end was said, or another trace was asked for by the line of this number.

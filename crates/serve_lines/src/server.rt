@@ -1,4 +1,4 @@
-// A group behind lines.
+// A group driven by lines.
 
 ghost use Rattle.std.specs.Prelude.{◌≡◌, ◌≢◌, ◌≤◌, ◌⊎◌, ◌++◌, ◌+◌, ◌∷◌, [], ℕ, List, Bool, true, length, OnOk, OnErr, IfOk, IfErr, None, string_bytes, map, flat_map};
 ghost use Rattle.std.specs.Io.KnownBytes.{Appends};
@@ -43,7 +43,7 @@ pub enum ServeFault {
     Full,
 }
 
-/// A group behind lines: with what is traced of each of its rounds, with the stop, and with room for an answer and for what is traced of a
+/// A group driven by lines: with what is traced of each of its rounds, with the stop, and with room for an answer and for what is traced of a
 /// line.
 pub struct Server {
     pub rounds: Rounds,
@@ -291,7 +291,7 @@ impl Server {
         ensures same { self.new.rounds.world.program ≡ self.old.rounds.world.program }
         ensures stop { self.new.stop ≡ self.old.stop }
         ensures server { OnOk result (IsServer self.new) }
-        // the events that are traced of the line lead to the world behind it
+        // the events that are traced of the line lead to the world after it
         ensures replays { OnOk result ((said : SaidOf)
             × Says (config_of self.old) line.now said × TakesAll (config_of self.old)
             (world_of self.old) (events_of (config_of self.old) said) (world_of self.new)) }

@@ -16,7 +16,7 @@ one_more call [] n p at other are = let no : None ≡ Some p = at in cc
 one_more call (x ∷ presses) zero p at other are = let same : x ≡ p = cc in (ap (λ (y : Pressed). is_same y.call call) same ∙ other, tt)
 one_more call (x ∷ presses) (suc n) p at other are = let next : suc n + 1 ≡ suc (n + 1) = omega arith in subst (AreOthers call (x ∷ presses)) (sym next) (are.0, one_more call presses n p at other are.1)
 
--- behind them stands the first one
+-- after them is the first one
 pub first_is : (call : Call) (presses : List Pressed) (n : ℕ) (p : Pressed) → slice_get presses n ≡ Some p → is_same p.call call ≡ true → AreOthers call presses n → IsFirstOf call presses n
 first_is call [] n p at same are = let no : None ≡ Some p = at in cc
 first_is call (x ∷ presses) zero p at same are =

@@ -12,12 +12,12 @@ use Rattle.show_calls.specs.declared.journey.Told.{Told}
 
 -- AS A LINE OF CSV
 
--- a number behind a comma; nothing but the comma where there is none
+-- a number after a comma; nothing but the comma where there is none
 abbrev pub number_text : Option ℕ → List ℕ
 number_text None = codes ","
 number_text (Some n) = codes "," ++ decimal n
 
--- TRUE or FALSE behind a comma
+-- TRUE or FALSE after a comma
 abbrev pub truth_text : Option Bool → List ℕ
 truth_text None = codes ","
 truth_text (Some true) = codes ",TRUE"

@@ -1,4 +1,4 @@
--- What is known of a trace's calls behind each of its events (own rules).
+-- What is known of a trace's calls after each of its events (own rules).
 use Rattle.std.specs.Prelude.{ℕ, zero, suc, ◌+◌, ◌-◌, nat_lt, Bool, true, false, List, [], ◌∷◌, ◌++◌, slice_get, slice_set, Option, Some, None, ◌==◌, ◌&&◌, if◌then◌else◌}
 use Rattle.group_spec.specs.declared.calls.Answer.{Answer}
 use Rattle.group_spec.specs.declared.calls.Answer.TheVariants.{Done, Stale, NotYours, NoSlot}
@@ -173,7 +173,7 @@ abbrev pub answers_of : Reply → List Answered
 answers_of (Committed report) = report.answers
 answers_of _ = []
 
--- what is known behind an event, by what the world replied to it and how it stands behind it
+-- what is known after an event, by what the world replied to it and how it follows it
 abbrev pub log_after : TraceEvent → Reply → World → Log → Log
 log_after (traced.Start t) reply after log = log
 log_after (traced.Commit t) reply after log = committed_in t (answers_of reply) after.group.image.fields.cars log

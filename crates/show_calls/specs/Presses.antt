@@ -19,7 +19,7 @@ without_first call (p ∷ presses) = if is_same p.call call then presses else p 
 
 -- PARTS
 
--- the first press of a call stands at this index
+-- the first press of a call is at this index
 pub record IsFirstOf (call : Call) (presses : List Pressed) (index : ℕ) : Type 0 where
   pub within : index < length presses
   pub pressed : Pressed

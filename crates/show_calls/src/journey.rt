@@ -33,7 +33,7 @@ pub struct Journey {
     /// The refresh that entered it.
     pub entered: Moment,
     pub told: Option<Told>,
-    /// The first refresh behind the telling that found its car at the landing with its door wholly open.
+    /// The first refresh after the telling that found its car at the landing with its door wholly open.
     pub boarded: Option<Moment>,
     pub served: Option<Served>,
 }

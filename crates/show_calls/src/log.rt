@@ -11,7 +11,7 @@ use group_spec::image::CarFields;
 use group_spec::report::{Answered, EnteredCall};
 use std::alloc::{AllocError, Global};
 
-/// What is known of a trace's calls behind one of its events. A round begins with a refresh; the first is round 1.
+/// What is known of a trace's calls after one of its events. A round begins with a refresh; the first is round 1.
 #[derive(Drop)]
 pub struct Log {
     /// The last round, and NOW of it.
@@ -51,7 +51,7 @@ impl Log {
         Ok(())
     }
 
-    /// A refresh at a time, with the calls that it entered, the cars as it reports them and the call slots behind it.
+    /// A refresh at a time, with the calls that it entered, the cars as it reports them and the call slots after it.
     pub fn refresh(
         &mut self,
         now: u32,
@@ -88,7 +88,7 @@ impl Log {
         self.journeys.push(beginning(self.at, pressed, entered))
     }
 
-    /// A commit of a task, 0 is GROUP, with its tells or its serve, and the cars behind it.
+    /// A commit of a task, 0 is GROUP, with its tells or its serve, and the cars after it.
     pub fn commit(&mut self, task: u8, answers: &[Answered], cars: &[CarFields])
         ensures { self.new ≡ committed_in task answers.now cars.now self.old }
     {

@@ -20,7 +20,7 @@ take_next (y ∷ xs) (suc i) x at = let next : suc i + 1 ≡ suc (i + 1) = omega
 pub units_next : (form : Form) (source : Option (List ℕ)) (c : Config) (units : List ProgramUnit) (i : ℕ) (u : ProgramUnit) (text new one : List ℕ) → slice_get units i ≡ Some u → AreUnitsShown form source c (take i units) text → IsUnitShown form source c u one → new ≡ text ++ one → AreUnitsShown form source c (take (i + 1) units) new
 units_next form source c units i u text new one at before here is = subst (λ us. AreUnitsShown form source c us new) (sym (take_next units i u at)) (subst (AreUnitsShown form source c (take i units ++ u ∷ [])) (sym is) (units_more form source c (take i units) u text one before here))
 
--- the parts of a unit's text, one behind the other
+-- the parts of a unit's text, one after the other
 pub parts_joined : (old heading steps refused : List ℕ) → ((old ++ heading) ++ steps) ++ refused ≡ old ++ (heading ++ (steps ++ refused))
 parts_joined old heading steps refused = append_assoc (old ++ heading) steps refused ∙ append_assoc old heading (steps ++ refused)
 

@@ -131,7 +131,7 @@ variable_shown v = record { name = v.name.now; range = v.range }
 
 -- LINES
 
--- `line L`, and behind it `: TEXT`, the text of the instruction, where that is to be shown
+-- `line L`, and after it `: TEXT`, the text of the instruction, where that is to be shown
 abbrev pub front_text : Option (List ℕ) → Step → List ℕ
 front_text source s = codes "line " ++ (decimal s.place.line ++ told_source source s.place.offset)
 
@@ -186,7 +186,7 @@ abbrev pub step_row : Form → Option (List ℕ) → Step → Option Knowledge �
 step_row form source s None = row_in form (not_reached_text source s) (not_reached_members s)
 step_row form source s (Some k) = row_in form (reached_text source s k) (reached_members s k)
 
--- behind the instruction at which a unit is refused
+-- after the instruction at which a unit is refused
 abbrev pub refused_row : Form → Option NumberedFault → List ℕ
 refused_row form None = []
 refused_row form (Some f) = row_in form (refused_line f.place.line f.number) (refused_members f.place.line f.number)

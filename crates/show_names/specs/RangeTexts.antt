@@ -16,7 +16,7 @@ pub record IsUnitShown (form : Form) (source : Option (List ℕ)) (c : Config) (
   pub are : AreKnownTo c u known found
   pub is : text ≡ unit_rows form source u known found
 
--- The texts of units, one behind the other.
+-- The texts of units, one after the other.
 abbrev pub AreUnitsShown : Form → Option (List ℕ) → Config → List ProgramUnit → List ℕ → Type 0
 AreUnitsShown form source c [] text = text ≡ []
 AreUnitsShown form source c (u ∷ units) text = (one rest : List ℕ) × IsUnitShown form source c u one × AreUnitsShown form source c units rest × (text ≡ one ++ rest)

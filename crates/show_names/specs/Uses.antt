@@ -139,6 +139,6 @@ abbrev pub head_shown : Option Head → List NameUse
 head_shown None = []
 head_shown (Some h) = found_shown h.found ++ rest_shown h.rest
 
--- the uses that are left: of an index, of the instruction that is begun, and of the steps behind it
+-- the uses that are left: of an index, of the instruction that is begun, and of the steps after it
 abbrev pub uses_left : UsesLeft → List NameUse
 uses_left l = index_shown l.index ++ (rest_shown l.rest ++ uses l.steps.now)

@@ -24,17 +24,17 @@ abbrev pub is_there : {T : Type 0} → List T → Bool
 is_there [] = false
 is_there (x ∷ xs) = true
 
--- a word and a text behind it; nothing where there is no text
+-- a word and a text after it; nothing where there is no text
 abbrev pub behind : List ℕ → List ℕ → List ℕ
 behind word [] = []
 behind word (b ∷ text) = word ++ (b ∷ text)
 
--- what stands before a part: a colon before the first of a line, a comma before the others
+-- what comes before a part: a colon before the first of a line, a comma before the others
 abbrev pub mark : Bool → List ℕ
 mark false = codes ":"
 mark true = codes ","
 
--- the parts that are there, each behind its mark
+-- the parts that are there, each after its mark
 abbrev pub parts_text : Bool → List (List ℕ) → List ℕ
 parts_text begun [] = []
 parts_text begun (part ∷ parts) = behind (mark begun) part ++ parts_text (begun || is_there part) parts
@@ -61,7 +61,7 @@ used_part manner places = behind (manner_word manner) places
 abbrev pub used_parts : (Manner → List ℕ) → List (List ℕ)
 used_parts places = used_part Read (places Read) ∷ used_part Written (places Written) ∷ used_part Called (places Called) ∷ []
 
--- lines, each behind a blank
+-- lines, each after a blank
 abbrev pub lines_text : List ℕ → List ℕ
 lines_text lines = flat_map (λ line. codes " " ++ decimal line) lines
 
@@ -172,7 +172,7 @@ unit_places manner name unit = if is_declared unit.externals name then placed un
 abbrev pub global_places : List ProgramUnit → Spelling → Manner → List UnitPlaces
 global_places units name manner = flat_map (unit_places manner name) units
 
--- the units' names, each behind a blank and before its lines
+-- the units' names, each after a blank and before its lines
 abbrev pub place_text : UnitPlaces → List ℕ
 place_text p = codes " " ++ (p.unit ++ lines_text p.lines)
 

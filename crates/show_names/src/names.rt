@@ -28,7 +28,7 @@ pub struct DeclaredNames<'c> {
     pub is_instance: bool,
     /// Whether that one has an initial value.
     pub has_initial: bool,
-    /// The declarations behind it.
+    /// The declarations after it.
     pub declarations: &'c [Declaration],
 }
 

@@ -51,7 +51,7 @@ impl Witness for Lines<'_> {
     }
 }
 
-// `line L`, and behind it the text of the instruction, where that is to be shown.
+// `line L`, and after it the text of the instruction, where that is to be shown.
 fn put_front(text: &mut String, source: Option<&[u8]>, step: &Step) -> Result<(), AllocError>
     ensures { OnOk result (Puts text.old text.new
         (front_text (option_map (λ s. s.now) source.entry) step.now)) }

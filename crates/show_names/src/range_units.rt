@@ -12,7 +12,7 @@ use load_scope::Scoped;
 use ranges_pass::shown_unit;
 use std::alloc::{AllocError, Global};
 
-// The lines of a unit, behind others.
+// The lines of a unit, after others.
 fn unit_lines(
     alloc: Global,
     names: &Scoped,
@@ -63,10 +63,10 @@ fn units_text(
     Ok(lines)
 }
 
-/// What the verifier knows before each instruction of each unit, in the written order: behind a heading for each unit a
+/// What the verifier knows before each instruction of each unit, in the written order: after a heading for each unit a
 /// line for each instruction, with the range of the current result and of the variables that it names (own rule). The
-/// lines of a unit that is refused end behind the instruction that is refused. TIME is in milliseconds. `with_text` has
-/// each line show the text of its instruction, as it stands in `source`, the text of the configuration.
+/// lines of a unit that is refused end after the instruction that is refused. TIME is in milliseconds. `with_text` has
+/// each line show the text of its instruction, as it is in `source`, the text of the configuration.
 /// In a form: lines, or an object for each of them. Objects have no text of an instruction.
 pub fn ranges_in(
     alloc: Global,

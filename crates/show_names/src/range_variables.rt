@@ -98,7 +98,7 @@ fn add_reference<'c>(
     }
 }
 
-// The same of an operand that may not be there.
+// The variable of an operand that may not be there.
 fn add_first<'c>(
     variables: &mut Items<RangedVariable<'c>>,
     known: &PlaceFacts,

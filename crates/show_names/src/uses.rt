@@ -12,7 +12,7 @@ use il_syntax::tree::{Argument, Index, Instruction, Named, Operand, Reference, S
 pub enum Manner {
     Read,
     Written,
-    /// An instance behind CAL, or a function.
+    /// An instance after CAL, or a function.
     Called,
 }
 
@@ -54,7 +54,7 @@ pub struct UsesLeft<'c> {
     pub index: Option<Use<'c>>,
     /// What is left of the instruction that is begun.
     pub rest: Rest<'c>,
-    /// The steps behind it.
+    /// The steps after it.
     pub steps: &'c [Step],
 }
 
@@ -96,7 +96,7 @@ impl<'c> Iterator for UsesLeft<'c> {
     }
 }
 
-// The first use of what is left of an instruction, and what is left behind it.
+// The first use of what is left of an instruction, and what is left after it.
 fn first_of_rest<'c>(rest: Rest<'c>) -> Option<(Found<'c>, Rest<'c>)>
     ensures { MatchOption result (rest_shown rest.entry ≡ [])
         (λ r. rest_shown rest.entry ≡ found_shown r.0 ++ rest_shown r.1) }
@@ -113,7 +113,7 @@ fn first_of_rest<'c>(rest: Rest<'c>) -> Option<(Found<'c>, Rest<'c>)>
     }
 }
 
-// The first operand that uses a name, and the operands behind it.
+// The first operand that uses a name, and the operands after it.
 fn first_of_operands<'c>(operands: &'c [Operand]) -> Option<(Found<'c>, &'c [Operand])>
     ensures { MatchOption result (operands_uses operands.now ≡ [])
         (λ r. operands_uses operands.now ≡ found_shown r.0 ++ operands_uses r.1.now) }
@@ -128,7 +128,7 @@ fn first_of_operands<'c>(operands: &'c [Operand]) -> Option<(Found<'c>, &'c [Ope
     None
 }
 
-// The first argument that uses a name, and the arguments behind it.
+// The first argument that uses a name, and the arguments after it.
 fn first_of_arguments<'c>(arguments: &'c [Argument]) -> Option<(Found<'c>, &'c [Argument])>
     ensures { MatchOption result (arguments_uses arguments.now ≡ [])
         (λ r. arguments_uses arguments.now ≡ found_shown r.0 ++ arguments_uses r.1.now) }
@@ -143,7 +143,7 @@ fn first_of_arguments<'c>(arguments: &'c [Argument]) -> Option<(Found<'c>, &'c [
     None
 }
 
-// The first step that uses a name, and the steps behind it.
+// The first step that uses a name, and the steps after it.
 fn first_of_steps<'c>(steps: &'c [Step]) -> Option<(Head<'c>, &'c [Step])>
     ensures { MatchOption result (uses steps.now ≡ [])
         (λ r. uses steps.now ≡ (found_shown r.0.found ++ rest_shown r.0.rest) ++ uses r.1.now) }

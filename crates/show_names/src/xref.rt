@@ -182,7 +182,7 @@ fn put_other_line(
     text.push_str("\n")
 }
 
-// Where a unit uses a name, in each manner; `begun` says whether a part stands before.
+// Where a unit uses a name, in each manner; `begun` says whether a part comes before.
 fn put_uses(
     alloc: Global,
     text: &mut String,
@@ -199,7 +199,7 @@ fn put_uses(
     Ok(())
 }
 
-// Where a unit uses a name in one manner, and whether a part stands before the next.
+// Where a unit uses a name in one manner, and whether a part comes before the next.
 fn put_used_lines(
     alloc: Global,
     text: &mut String,
@@ -218,7 +218,7 @@ fn put_used_lines(
     put_used(text, manner, &places, begun)
 }
 
-// Lines, each behind a blank.
+// Lines, each after a blank.
 fn put_lines(text: &mut String, lines: &[u32]) -> Result<(), AllocError>
     ensures { OnOk result (Puts text.old text.new (lines_text lines.now)) }
 {
@@ -228,7 +228,7 @@ fn put_lines(text: &mut String, lines: &[u32]) -> Result<(), AllocError>
     Ok(())
 }
 
-// Where a name is used in one manner, and whether a part stands before the next.
+// Where a name is used in one manner, and whether a part comes before the next.
 fn put_used(
     text: &mut String,
     manner: Manner,
@@ -247,7 +247,7 @@ fn put_used(
     Ok(true)
 }
 
-// The word of a manner, behind its mark.
+// The word of a manner, after its mark.
 fn put_word(text: &mut String, manner: Manner, begun: bool) -> Result<(), AllocError>
     ensures { OnOk result (Puts text.old text.new (mark begun ++ manner_word manner)) }
 {
@@ -259,7 +259,7 @@ fn put_word(text: &mut String, manner: Manner, begun: bool) -> Result<(), AllocE
     }
 }
 
-// The same as members.
+// The uses of a name in a unit, as members.
 fn add_uses(object: &mut Object, uses: &UnitUses<'_>, name: &str) -> Result<(), AllocError>
     ensures { OnOk result (object.new ≡ object.old
         ++ used_members (use_member uses.now.unit.now.body.steps name.now)) }
@@ -426,7 +426,7 @@ fn put_global_line(
     text.push_str("\n")
 }
 
-// Where units use a global, in each manner, behind the line where it is declared.
+// Where units use a global, in each manner, after the line where it is declared.
 fn put_global_uses(
     alloc: Global,
     text: &mut String,
@@ -442,7 +442,7 @@ fn put_global_uses(
     Ok(())
 }
 
-// Where units use a global in one manner, and whether a part stands before the next.
+// Where units use a global in one manner, and whether a part comes before the next.
 fn put_used_places(
     alloc: Global,
     text: &mut String,
@@ -461,7 +461,7 @@ fn put_used_places(
     put_used(text, manner, &places, begun)
 }
 
-// Units with their lines, each behind a blank.
+// Units with their lines, each after a blank.
 fn put_places(text: &mut String, places: &[UnitLines<'_>]) -> Result<(), AllocError>
     ensures { OnOk result (Puts text.old text.new
         (places_text (map unit_places_shown places.now))) }
@@ -480,7 +480,7 @@ fn put_place(text: &mut String, place: &UnitLines<'_>) -> Result<(), AllocError>
     put_lines(text, place.lines.as_slice())
 }
 
-// The same as members.
+// The uses of a global, as members.
 fn add_global_uses(object: &mut Object, uses: &GlobalUses<'_>, name: &str) -> Result<(), AllocError>
     ensures { OnOk result (object.new ≡ object.old
         ++ used_members (global_member uses.now.units.now name.now)) }

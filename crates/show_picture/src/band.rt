@@ -178,7 +178,7 @@ fn put_rest(
     pen.draw(text, corner(frame, from.car, behind, from.place.floor))
 }
 
-// The line behind the change before, or its beginning.
+// The line after the change before, or its beginning.
 fn put_next(
     text: &mut String,
     pen: &mut Pen,
@@ -195,7 +195,7 @@ fn put_next(
     }
 }
 
-// Whether a change of a car is one of its place, behind the change before.
+// Whether a change of a car is one of its place, after the change before.
 fn is_turn(before: Option<Change>, change: &Change) -> bool {
     match before {
         Some(from) => !is_same(from.place, change.place),

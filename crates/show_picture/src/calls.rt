@@ -65,7 +65,7 @@ fn point(frame: Frame, corner: Corner) -> Point {
     }
 }
 
-// The lane of the call behind one that is shown.
+// The lane of the call after one that is shown.
 fn next_lane(ride: &Ride, lane: u64) -> u64 {
     if ride.told.is_none() {
         lane.saturating_add(1)
@@ -96,7 +96,7 @@ fn put_entry(text: &mut String, window: Window, ride: &Ride) -> Result<(), Alloc
     }
 }
 
-// No mark at the right edge, where a call was served behind it.
+// No mark at the right edge, where a call was served after it.
 fn put_exit(text: &mut String, window: Window, served: u64) -> Result<(), AllocError> {
     if window.has(served) {
         Ok(())
@@ -135,7 +135,7 @@ fn beginning(frame: Frame, ride: &Ride, from: Corner) -> Corner {
     Corner { round, y }
 }
 
-// The steps of the line behind its beginning: level to its turn, and straight to its end, as far as the picture shows them.
+// The steps of the line after its beginning: level to its turn, and straight to its end, as far as the picture shows them.
 fn put_way(text: &mut String, frame: Frame, turn: Corner, end: Corner) -> Result<(), AllocError> {
     let window = frame.window();
     if window.first <= turn.round {

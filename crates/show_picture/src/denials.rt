@@ -9,7 +9,7 @@ use std::alloc::{AllocError, Global};
 // Denials of a car by a rule that are no more rounds apart are one.
 const GAP: u64 = 5;
 
-// The index of the stops at the ends of the shaft, behind those of the rules.
+// The index of the stops at the ends of the shaft, after those of the rules.
 const END_STOP: usize = 7;
 
 // The places of a car: one for each rule, which count from 1, and one for its stops at the ends of the shaft.

@@ -30,7 +30,7 @@ fn note(
     }
 }
 
-/// The events of a trace, one behind the other, up to the first that is refused, and what happens along them.
+/// The events of a trace, one after the other, up to the first that is refused, and what happens along them.
 pub fn follow(world: &mut World, events: &Trace<'_>, story: &mut Story) -> Result<(), Stop>
     ensures taken { OnOk result (TakesAll world.old.program.config world.old.world events.now
         world.new.world) }

@@ -1,4 +1,4 @@
-// Where things stand in the picture, in pixels.
+// Where things are in the picture, in pixels.
 
 ghost use Rattle.std.specs.Prelude.{◌≤◌};
 
@@ -96,7 +96,7 @@ impl Frame {
         LEFT + self.inner()
     }
 
-    /// The left edge of a round; of the one behind the last it is the right edge of the bands. It is never outside of them: that of an
+    /// The left edge of a round; of the one after the last it is the right edge of the bands. It is never outside of them: that of an
     /// earlier round is the left edge, and that of a later one the right edge.
     pub fn x(self, round: u64) -> u64
         ensures low { 72 ≤ result }

@@ -1,4 +1,4 @@
-// Where the labels of the calls stand, so that none overlaps another.
+// Where the labels of the calls are, so that none overlaps another.
 
 use crate::svg::Point;
 use group_spec::calls::Call;
@@ -9,7 +9,7 @@ const CHARACTER: u64 = 6;
 
 const LINE: u64 = 11;
 
-// How far to the right a label may stand of where its call begins.
+// How far to the right a label may be of where its call begins.
 const FAR: u64 = 60;
 
 // The room of a label: from its left end, along its base line.

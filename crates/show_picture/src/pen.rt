@@ -39,7 +39,7 @@ impl Pen {
         Pen { frame, at: None }
     }
 
-    /// The next corner, in the round of the last one or behind it.
+    /// The next corner, in the round of the last one or after it.
     pub fn draw(&mut self, text: &mut String, to: Corner) -> Result<(), AllocError> {
         match self.at {
             Some(from) => put_stretch(text, self.frame, from, to)?,

@@ -99,7 +99,7 @@ impl Rides {
         }
     }
 
-    /// The call slots behind a commit, slot 1 first: which calls were told a car, and which were served.
+    /// The call slots after a commit, slot 1 first: which calls were told a car, and which were served.
     pub fn follow(&mut self, slots: &[Slot], round: u64) {
         'slots: for (index, slot) in slots.iter().enumerate() {
             self.follow_slot(index, slot, round);

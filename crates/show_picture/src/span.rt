@@ -29,7 +29,7 @@ pub struct Window {
 }
 
 impl Window {
-    /// The round behind the last.
+    /// The round after the last.
     pub fn end(self) -> u64
         ensures { result ≤ self.first + self.count }
     {

@@ -82,7 +82,7 @@ impl Story {
         Ok(())
     }
 
-    /// A commit, with its report and the call slots behind it.
+    /// A commit, with its report and the call slots after it.
     pub fn note_commit(&mut self, slots: &[Slot], report: &Report) -> Result<(), AllocError> {
         let round = self.rounds();
         self.rides.follow(slots, round);

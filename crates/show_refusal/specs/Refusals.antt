@@ -36,13 +36,13 @@ line_byte byte = if byte == 10 then 10 else shown byte
 abbrev pub line_tokens : List ℕ → List Token
 line_tokens line = if bytes_eq line [] then [] else string line ∷ []
 
--- lines that are told, as they are shown
+-- lines that are reported, as they are shown
 abbrev pub told_member : List ℕ → List Token
 told_member told = key (codes "told") ∷ begin_array ∷ (flat_map line_tokens (lines_of told) ++ end_array ∷ [])
 
 -- THE OBJECT
 
--- the tokens of the refusal of a text with a number at a place, of which these lines are told
+-- the tokens of the refusal of a text with a number at a place, of which these lines are reported
 pub record AreRefusalTokens (name text : List ℕ) (fault : ℕ) (place : Place) (reason : List ℕ) (tokens : List Token) : Type 0 where
   pub front : List ℕ
   pub back : List ℕ

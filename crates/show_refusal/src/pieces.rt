@@ -4,7 +4,7 @@ ghost use Rattle.std.specs.Prelude.{◌≡◌, ◌∷◌, ◌<◌, Some, length,
 ghost use Rattle.std.specs.List.{before_first, after_first};
 ghost use Rattle.show_refusal.specs.Pieces.{is_feed, feed_place, lines_left};
 
-// What stands before the first line feed and what stands behind it.
+// What comes before the first line feed and what follows it.
 fn parts(text: &str) -> Option<(&str, &str)>
     ensures { MatchOption result (feed_place text.now ≡ length text.now)
         (λ x. (feed_place text.now < length text.now)
@@ -14,7 +14,7 @@ fn parts(text: &str) -> Option<(&str, &str)>
     text.split_once('\n')
 }
 
-/// The first line, and what is left behind it.
+/// The first line, and what is left after it.
 pub fn first_line(text: &str) -> (&str, Option<&str>)
     ensures { lines_left (Some text.now)
         ≡ result.0.now ∷ lines_left (option_map (λ left. left.now) result.1) }

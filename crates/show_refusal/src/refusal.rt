@@ -16,7 +16,7 @@ use json::Writer;
 use std::alloc::{AllocError, Global};
 
 /// The refusal of a text with a number at a place as a JSON object in one line: the name of the file, the line and the column, both counted from 1,
-/// how many bytes are marked, the number, what it means, and the lines that are told of it.
+/// how many bytes are marked, the number, what it means, and the lines that are reported of it.
 pub fn refusal_line(
     alloc: Global,
     name: &str,
@@ -93,7 +93,7 @@ fn put_title(json: &mut Writer<Global>, number: u16) -> Result<(), AllocError>
     Ok(())
 }
 
-// The lines that are told.
+// The lines that are reported.
 fn put_told(json: &mut Writer<Global>, told: &str) -> Result<(), AllocError>
     ensures { OnOk result (Adds json.old json.new (told_member told.now)) }
 {
@@ -140,7 +140,7 @@ fn put_number(json: &mut Writer<Global>, name: &str, number: u64) -> Result<(), 
     json.u64(number)
 }
 
-// What is told, as it is shown.
+// What is reported, as it is shown.
 fn told_text(alloc: Global, reason: &[u8]) -> Result<String, AllocError>
     ensures { IfOk result (λ told. string_bytes told ≡ map line_byte reason.now) }
 {

@@ -20,7 +20,7 @@ refused_in_front c w n events index fault r = record {
   refused = r.refused;
 }
 
--- and stands in front of what is behind
+-- and is in front of what follows
 pub early_in_front : (c : Config) (w : World) (n : ℕ) (events : List TraceEvent) (index : ℕ) (fault : EventFault) → IsRefusedAt c w (take n events) index fault → index < n
 early_in_front c w n events index fault r =
     let long = ap (λ (es : List TraceEvent). length es) r.are in

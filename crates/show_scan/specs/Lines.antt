@@ -154,10 +154,10 @@ abbrev pub front_text : List ℕ → Seen → List ℕ
 front_text source seen =
     replicate (seen.depth - 1) 32 ++ (replicate (seen.depth - 1) 32 ++ (codes "line " ++ (decimal seen.place.line ++ (codes ": " ++ (source_text source seen.place.offset ++ codes ": ")))))
 
--- the current result before a step and behind it
+-- the current result before a step and after it
 abbrev pub results_text : Seen → State → List ℕ
 results_text seen s = result_text seen.result ++ (codes " -> " ++ result_text s.result)
 
--- a line: the step, the current result before and behind it, and what it names, behind it
+-- a line: the step, the current result before and after it, and what it names, after it
 abbrev pub line_text : Config → List ℕ → Seen → State → List ℕ
 line_text c source seen s = front_text source seen ++ (results_text seen s ++ (names_text c seen s ++ codes "\n"))

@@ -45,7 +45,7 @@ abbrev pub is_until : Option ℕ → ℕ → Bool
 is_until None line = false
 is_until (Some until) line = until == line
 
--- whether nothing more is shown behind a step at a line
+-- whether nothing more is shown after a step at a line
 abbrev pub is_last : Asked → ℕ → Bool
 is_last asked line = has_begun asked.from && is_until asked.until line
 
@@ -66,7 +66,7 @@ line_by c source seen (Some s) = line_text c source seen s
 abbrev pub line_of : Config → List ℕ → Asked → Seen → World → List ℕ
 line_of c source asked seen v = if is_shown asked seen.place.line then line_by c source seen (scan_at v asked.task) else []
 
--- what is asked for behind a step at a line, if more is shown
+-- what is asked for after a step at a line, if more is shown
 abbrev pub asked_more : Asked → ℕ → Option Asked
 asked_more asked line = if is_last asked line then None else Some asked
 
@@ -75,7 +75,7 @@ abbrev pub rest_if : Option Asked → (Asked → World → List ℕ) → World �
 rest_if None rest w = []
 rest_if (Some asked) rest w = rest asked w
 
--- what is shown of a step and behind it, by what it is answered
+-- what is shown of a step and after it, by what it is answered
 abbrev pub behind_reply : Config → List ℕ → Asked → (Asked → World → List ℕ) → Seen → Next → List ℕ
 behind_reply c source asked rest seen (Ok (v, More)) = line_of c source asked seen v ++ rest_if (asked_more asked seen.place.line) rest v
 behind_reply c source asked rest seen (Ok (v, End)) = line_of c source asked seen v
@@ -91,7 +91,7 @@ abbrev pub ShowsNext : Config → Asked → List ℕ → World → World → Lis
 ShowsNext c asked source w v old new more =
     (rest : Asked → World → List ℕ) → old ++ from_seen c source asked rest w (seen_in c w asked.task) ≡ new ++ rest_if more rest v
 
--- What is asked for of the lines of the next instructions of a task's open scan, so many at most: those of the definitions' world, up to the scan's end or the line behind which
+-- What is asked for of the lines of the next instructions of a task's open scan, so many at most: those of the definitions' world, up to the scan's end or the line after which
 -- nothing more is shown.
 unfoldable pub lines_text : Config → List ℕ → ℕ → Asked → World → List ℕ
 lines_text c source zero asked w = []
@@ -109,7 +109,7 @@ pub record IsScanShown (c : Config) (opening : World) (asked : Asked) (events : 
   pub takes : TakesAll c opening (take it.front events) started
   pub text_is : text ≡ heading asked it ++ lines_text c source 1000000 asked started
 
--- an event of a trace is refused, the first one, and it stands in front of the scan that is asked for, or is its start
+-- an event of a trace is refused, the first one, and it is in front of the scan that is asked for, or is its start
 pub record IsRefusedInFront (c : Config) (opening : World) (asked : Asked) (events : List TraceEvent) (index : ℕ) (why : EventFault) : Type 0 where
   pub it : Chosen
   pub is : chosen asked events ≡ Some it

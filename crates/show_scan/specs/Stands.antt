@@ -17,7 +17,7 @@ use Rattle.il_semantics.specs.Meaning.{under, element_path, member_path}
 use Rattle.scan_loop.specs.Framing.{path_in}
 use Rattle.show_scan.specs.declared.view.Stand.{Stand}
 
--- a body of a scan: the name of its unit, its path and the place at which it stands
+-- a body of a scan: the name of its unit, its path and the place at which it is
 pub record StandOf : Type 0 where
   pub unit : Text
   pub path : Text

@@ -20,7 +20,7 @@ pub struct Before {
     pub depth: usize,
     /// The current result.
     pub result: Option<Content>,
-    /// Where the step stands in the text.
+    /// Where the step is in the text.
     pub place: Place,
 }
 
@@ -43,7 +43,7 @@ pub fn next_step(alloc: Global, view: &View<'_>) -> Result<Option<Before>, Alloc
     }))
 }
 
-// Where a body stands in the text; at the implicit RET, that of the END word.
+// Where a body is in the text; at the implicit RET, that of the END word.
 fn place_at(view: &View<'_>, stand: &Stand) -> Option<Place>
     ensures { result ≡ place_at view.now.config (of_stand stand.now) }
 {

@@ -31,7 +31,7 @@ pub struct Asked {
 /// A scan of a trace.
 #[derive(Clone, Copy)]
 pub struct Chosen {
-    /// How many events of the trace stand up to its start, that with them.
+    /// How many events of the trace are up to its start, that with them.
     pub front: usize,
     /// The round of its commit.
     pub round: u32,
@@ -55,7 +55,7 @@ fn is_asked(wanted: Option<u32>, round: u32) -> bool
     }
 }
 
-// The scan that a commit ends, by how many events stand up to its start; without one that has started since the last commit it ends none.
+// The scan that a commit ends, by how many events are up to its start; without one that has started since the last commit it ends none.
 fn committed(started: Option<usize>, round: u32, found: Option<Chosen>) -> Option<Chosen>
     ensures { result ≡ committed started round found }
 {
@@ -65,7 +65,7 @@ fn committed(started: Option<usize>, round: u32, found: Option<Chosen>) -> Optio
     }
 }
 
-// The last scan that is asked for, behind a commit of its task.
+// The last scan that is asked for, after a commit of its task.
 fn found_behind(wanted: Option<u32>, search: Search) -> Option<Chosen>
     ensures { result ≡ found_behind wanted search }
 {
@@ -76,7 +76,7 @@ fn found_behind(wanted: Option<u32>, search: Search) -> Option<Chosen>
     }
 }
 
-// What is known behind an event, with which there are so many.
+// What is known after an event, with which there are so many.
 fn noted(asked: Asked, count: usize, event: &TraceEvent, search: Search) -> Search
     ensures { result ≡ noted asked count event.now search }
 {

@@ -17,7 +17,7 @@ use std::alloc::{AllocError, Global};
 // The most of what a call hands over that are shown.
 const MOST_SHOWN: usize = 32;
 
-/// The line of a step: where it stands, the current result before and behind it, and what it names, as it stands behind it.
+/// The line of a step: where it is, the current result before and after it, and what it names, as it follows it.
 pub fn put_line(
     alloc: Global,
     text: &mut String,
@@ -45,7 +45,7 @@ fn put_front(text: &mut String, source: &[u8], before: &Before) -> Result<(), Al
     text.push_str(": ")
 }
 
-// The current result before a step and behind it.
+// The current result before a step and after it.
 fn put_results(text: &mut String, before: &Before, after: &View<'_>) -> Result<(), AllocError>
     ensures { OnOk result (Puts text.old text.new
         (results_text (of_before before.now) after.now.state)) }

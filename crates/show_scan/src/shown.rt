@@ -44,7 +44,7 @@ impl From<AllocError> for ScanStop {
 }
 
 /// The last scan of a task that a trace commits, or that of a round, instruction by instruction: a line for each that is asked for, with its place in
-/// `source`, the text of the configuration, the current result before and behind it, and the values that it names, as they stand behind it.
+/// `source`, the text of the configuration, the current result before and after it, and the values that it names, as they follows it.
 pub fn scan_text(
     alloc: Global,
     world: &mut World,
@@ -231,7 +231,7 @@ fn is_shown(asked: Asked, line: u32) -> bool
     asked.from.is_none() && is_of_unit(asked.unit, line)
 }
 
-// What is asked for behind a step at a line, if more is shown.
+// What is asked for after a step at a line, if more is shown.
 fn asked_more(asked: Asked, line: u32) -> Option<Asked>
     ensures { result ≡ asked_more asked line }
 {
@@ -242,7 +242,7 @@ fn asked_more(asked: Asked, line: u32) -> Option<Asked>
     }
 }
 
-// Whether nothing more is shown behind a step at a line.
+// Whether nothing more is shown after a step at a line.
 fn is_last(asked: Asked, line: u32) -> bool
     ensures { result ≡ is_last asked line }
 {

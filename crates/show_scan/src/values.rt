@@ -84,7 +84,7 @@ pub fn put_member(
     put_named(text, view, path.as_str())
 }
 
-/// The same of an instance that may lack it: nothing where it does.
+/// An input or output of an instance that may lack it, and its value: nothing where it does.
 pub fn put_member_there(
     alloc: Global,
     text: &mut String,
@@ -129,7 +129,7 @@ fn put_numbered(
     put_named(text, view, path.as_str())
 }
 
-// The same of an element whose index is a variable.
+// An element whose index is a variable, and its value.
 fn put_indexed(
     text: &mut String,
     view: &View<'_>,

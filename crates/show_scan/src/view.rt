@@ -1,4 +1,4 @@
-// The open scan of a task, as it stands.
+// The open scan of a task, as it is.
 
 ghost use Rattle.std.specs.Prelude.{◌≡◌, ◌+◌, IfOk, IfSome, Some, bytes_eq, drop, find, length, option_copied, option_map, slice_get, string_bytes};
 ghost use Rattle.base_maps.specs.NameMap.{get};
@@ -18,7 +18,7 @@ use scan_task::{Store, Value, Verified};
 use std::alloc::{AllocError, Global};
 use std::marker::Model;
 
-/// The open scan of a task, as it stands.
+/// The open scan of a task, as it is.
 #[derive(Drop)]
 pub struct View<'v> {
     verified: &'v Verified,
@@ -38,7 +38,7 @@ impl<'v> Model for View<'v> {
     ghost invariant = { λ v. v.store.now.config ≡ v.verified.now.config };
 }
 
-/// A body that runs or has called: its unit, its path, and the place at which it stands.
+/// A body that runs or has called: its unit, its path, and the place at which it is.
 #[derive(Drop)]
 pub struct Stand {
     pub unit: String,
@@ -59,7 +59,7 @@ impl<'v> View<'v> {
         })
     }
 
-    /// How many bodies run or have called; none behind the scan's end.
+    /// How many bodies run or have called; none after the scan's end.
     pub fn depth(&self) -> usize
         ensures { result ≡ length self.now.state.frames }
     {

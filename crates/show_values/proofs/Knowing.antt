@@ -26,7 +26,7 @@ each_more names from (suc count) =
     ∙ ap (λ (n : ℕ). names from ++ (each_from names (suc from) count ++ names n)) (omega arith)
     ∙ sym (append_assoc (names from) (each_from names (suc from) count) (names (from + suc count)))
 
--- and its names, behind those before it
+-- and its names, after those before it
 pub each_added : (names : ℕ → List (List ℕ)) (from count next at : ℕ) → next ≡ count + 1 → at ≡ from + count → (before so_far new : List (List ℕ)) → so_far ≡ before ++ each_from names from count → new ≡ so_far ++ names at → new ≡ before ++ each_from names from next
 each_added names from count next at is place before so_far new e f =
     let further : suc count ≡ next = omega (arith, is) in

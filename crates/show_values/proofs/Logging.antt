@@ -1,4 +1,4 @@
--- The log behind one event more.
+-- The log after one event more.
 use Rattle.std.proofs.Common.{◌≡◌, ℕ, ◌+◌, ◌≤◌, List, [], ◌∷◌, ◌++◌, take, Bool, true, false, refl, ap, ◌∙◌, sym, subst, arith}
 use Rattle.std.specs.Prelude.{Some, slice_get, zero, suc}
 use Rattle.il_syntax.specs.declared.tree.Config.{Config}

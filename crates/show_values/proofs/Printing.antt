@@ -17,7 +17,7 @@ use Rattle.show_values.specs.Following.{round_behind, denied_at, denied_along, r
 
 -- ROUNDS
 
--- the round behind steps
+-- the round after steps
 abbrev pub round_along : List Step → ℕ → ℕ
 round_along [] round = round
 round_along (s ∷ steps) round = round_along steps (round_behind s.event round)
@@ -77,7 +77,7 @@ denied_all form all c w v events n text round e to = record { steps = to.steps; 
 
 -- ROWS
 
--- what is asked for behind steps
+-- what is asked for after steps
 abbrev pub asked_along : List Step → Asked → Asked
 asked_along [] asked = asked
 asked_along (s ∷ steps) asked = asked_along steps (asked_at s.event s.reply asked)
@@ -109,7 +109,7 @@ rows_last watched c w v (x ∷ steps) round asked lead =
     ap (λ (l : List ℕ). row_before watched x.event round asked w ++ l) (rows_last watched c x.after v steps next wish lead.1)
     ∙ sym (append_assoc (row_before watched x.event round asked w) (rows_before watched steps next wish x.after) (row_of watched (round_along steps next) (asked_along steps wish) v))
 
--- behind a text stand the rows of the rounds that ended so far; the round that has not, and what is asked for
+-- after a text are the rows of the rounds that ended so far; the round that has not, and what is asked for
 pub record AreRowsTo (watched : List Watched) (c : Config) (w : World) (events : List TraceEvent) (v : World) (before text : List ℕ) (round : ℕ) (asked : Asked) : Type 0 where
   pub steps : List Step
   pub are : AreStepsOf c w events v steps

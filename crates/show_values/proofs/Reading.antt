@@ -1,4 +1,4 @@
--- The task whose name stands before the first period of a name.
+-- The task whose name comes before the first period of a name.
 use Rattle.std.proofs.Common.{arith, ◌≡◌, ℕ, zero, suc, ◌<◌, ◌≤◌, ◌+◌, Bool, true, false, not, List, [], ◌∷◌, ◌++◌, length, get_or, refl, sym, ap, ◌∙◌, subst}
 use Rattle.std.specs.Prelude.{◌==◌, codes}
 use Rattle.std.specs.List.{position_or_len, before_first, after_first}
@@ -24,7 +24,7 @@ pub named : (car : ℕ) → 1 ≤ car → car ≤ 8 → task_name car ≡ codes 
 named zero least most = absurd (omega (arith, least))
 named (suc k) least most = ap (λ (l : List ℕ). codes "CAR" ++ l) (decimal_digit (suc k) (omega (arith, most)))
 
--- a name ends before the first period behind it
+-- a name ends before the first period after it
 abbrev EndsThere : List ℕ → List ℕ → Type 0
 EndsThere name rest = (before_first is_dot (name ++ 46 ∷ rest) ≡ name) × (position_or_len is_dot (name ++ 46 ∷ rest) < length (name ++ 46 ∷ rest))
 
@@ -67,7 +67,7 @@ no_period name none task rest is =
     let low : position_or_len is_dot name < length name = subst (λ n. position_or_len is_dot n < length n) (sym is.is) (ends_there task rest is.few).1 in
     omega (arith, low, none)
 
--- nor one before whose first period stands no name of a task
+-- nor one before whose first period is no name of a task
 pub no_task : (name front : List ℕ) → front ≡ before_first is_dot name → ((task : ℕ) → task ≤ 8 → front ≡ task_name task → ⊥) → (task : ℕ) (rest : List ℕ) → IsInTask name task rest → ⊥
 no_task name front e none task rest is = none task is.few (e ∙ ap (before_first is_dot) is.is ∙ (ends_there task rest is.few).0)
 
@@ -84,7 +84,7 @@ in_task name front rest task few low e f is = record {
 abbrev pub is_bracket : ℕ → Bool
 is_bracket b = b == 91
 
--- behind the name of an array of the call slots and the bracket stands the rest
+-- after the name of an array of the call slots and the bracket is the rest
 behind_array : (it : SlotName) (rest : List ℕ) → after_first is_bracket (word_of_slot_name it ++ 91 ∷ rest) ≡ rest
 behind_array of_slot.Waits rest = refl
 behind_array of_slot.From rest = refl

@@ -1,4 +1,4 @@
--- Rows of a small trace, computed: two refreshes, with a press before the first and a start behind it.
+-- Rows of a small trace, computed: two refreshes, with a press before the first and a start after it.
 use Rattle.std.proofs.Common.{◌≡◌, ℕ, List, [], ◌∷◌, ◌++◌, Bool, None, refl}
 use Rattle.std.specs.Prelude.{codes, decimal}
 use Rattle.base_json.specs.declared.form.Form.{Form}
@@ -43,7 +43,7 @@ stale : answers_rows Json 3 0 (record { slot = 1; ticket = None; car = 1; answer
 unfolding event_members answer_members
 stale = refl
 
--- What is asked for behind commits of a small group, computed.
+-- What is asked for after commits of a small group, computed.
 module _ (outputs : List CarOutputs) where
   abbrev tell : ℕ → ℕ → Answered
   tell slot car = record { slot = slot; ticket = None; car = car; answer = Stale }

@@ -29,7 +29,7 @@ serve_is_wished c g k task tickets values asked low =
 
 -- ASSIGN
 
--- the tells come behind the answers so far
+-- the tells come after the answers so far
 tells_behind : (calls : Calls) (answers : List Answered) (slot : ℕ) (tickets : List (Option ℕ)) (cars : List ℕ) → (tell_all calls answers slot tickets cars).1 ≡ answers ++ (tell_all calls [] slot tickets cars).1
 tells_behind calls answers slot [] cars = sym (append-nil answers)
 tells_behind calls answers slot (ticket ∷ tickets) [] = sym (append-nil answers)

@@ -18,22 +18,22 @@ abbrev pub serve_in : List Answered → ℕ
 serve_in [] = 0
 serve_in (a ∷ answers) = a.slot
 
--- What is asked for behind a task's commit, by what it was answered: of a car its serve, of GROUP its tells, in place of those of its commit before.
+-- What is asked for after a task's commit, by what it was answered: of a car its serve, of GROUP its tells, in place of those of its commit before.
 abbrev pub asked_after : ℕ → List Answered → Asked → Asked
 asked_after zero answers asked = record { serves = asked.serves; tells = answers }
 asked_after (suc k) answers asked = record { serves = slice_set asked.serves k (serve_in answers); tells = asked.tells }
 
--- and behind commits, in their order
+-- and after commits, in their order
 abbrev pub asked_behind : List Commit → Asked → Asked
 asked_behind [] asked = asked
 asked_behind (c ∷ commits) asked = asked_behind commits (asked_after c.task c.report.answers asked)
 
--- what is asked for behind a commit that has reported
+-- what is asked for after a commit that has reported
 abbrev pub asked_by : ℕ → Reply → Asked → Asked
 asked_by t (Committed report) asked = asked_after t report.answers asked
 asked_by t _ asked = asked
 
--- and behind an event of a trace, by what the world replied to it
+-- and after an event of a trace, by what the world replied to it
 abbrev pub asked_at : TraceEvent → Reply → Asked → Asked
 asked_at (traced.Start t) reply asked = asked
 asked_at (traced.Commit t) reply asked = asked_by t reply asked

@@ -7,12 +7,12 @@ use Rattle.group_rounds.specs.Along.{Step, AreStepsOf}
 use Rattle.group_spec.specs.declared.trace.TraceEvent.{TraceEvent}
 use Rattle.group_spec.specs.World.{World}
 
--- what is known of the calls behind steps
+-- what is known of the calls after steps
 abbrev pub log_along : List Step → Log → Log
 log_along [] log = log
 log_along (s ∷ steps) log = log_along steps (log_after s.event s.reply s.after log)
 
--- The log is what is known behind a trace's events, which the world takes one behind the other.
+-- The log is what is known after a trace's events, which the world takes one after the other.
 pub record IsLogOf (c : Config) (w : World) (events : List TraceEvent) (v : World) (log : Log) : Type 0 where
   pub steps : List Step
   pub are : AreStepsOf c w events v steps

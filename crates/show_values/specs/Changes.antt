@@ -3,7 +3,7 @@ use Rattle.std.specs.Prelude.{ℕ, Bool, false, if◌then◌else◌, List, [], �
 use Rattle.std.specs.List.{after_first}
 use Rattle.std.specs.Str.Lines.{lines}
 
--- the values of a row: what stands behind its first comma, as the number of the round stands before it
+-- the values of a row: what follows its first comma, as the number of the round comes before it
 abbrev pub values_in : List ℕ → List ℕ
 values_in row = after_first (λ b. b == 44) row
 
@@ -12,12 +12,12 @@ abbrev pub repeats : Option (List ℕ) → List ℕ → Bool
 repeats None row = false
 repeats (Some before) row = bytes_eq (values_in before) (values_in row)
 
--- of rows, behind one before them, those that don't repeat the row before them; each with its line feed
+-- of rows, after one before them, those that don't repeat the row before them; each with its line feed
 abbrev pub changed_rows : Option (List ℕ) → List (List ℕ) → List ℕ
 changed_rows before [] = []
 changed_rows before (row ∷ rows) = (if repeats before row then [] else row ++ codes "\n") ++ changed_rows (Some row) rows
 
--- the header, and of the rows behind it those whose values differ from those of the row before
+-- the header, and of the rows after it those whose values differ from those of the row before
 abbrev pub changed_lines : List (List ℕ) → List ℕ
 changed_lines [] = []
 changed_lines (header ∷ rows) = header ++ (codes "\n" ++ changed_rows None rows)

@@ -15,7 +15,7 @@ use Rattle.show_values.specs.Asked.{nothing_asked, asked_at}
 use Rattle.show_values.specs.Denials.{refresh_rows, denials_rows, answers_rows}
 use Rattle.show_values.specs.Values.{row_text}
 
--- the round behind an event: a refresh begins one
+-- the round after an event: a refresh begins one
 abbrev pub round_behind : TraceEvent → ℕ → ℕ
 round_behind (traced.Start t) round = round
 round_behind (traced.Commit t) round = round
@@ -39,12 +39,12 @@ denied_at form all (traced.Press call) reply round = []
 denied_at form all (traced.Gather floor) reply round = []
 denied_at form all (traced.Refresh fields) reply round = refresh_rows form all round (denials_in reply)
 
--- what is printed of steps, behind so many rounds
+-- what is printed of steps, after so many rounds
 abbrev pub denied_along : Form → Bool → List Step → ℕ → List ℕ
 denied_along form all [] round = []
 denied_along form all (s ∷ steps) round = denied_at form all s.event s.reply (round_behind s.event round) ++ denied_along form all steps (round_behind s.event round)
 
--- The text is what is printed of a trace's events in a form, which the world takes one behind the other.
+-- The text is what is printed of a trace's events in a form, which the world takes one after the other.
 pub record IsDeniedIn (form : Form) (all : Bool) (c : Config) (w : World) (events : List TraceEvent) (v : World) (text : List ℕ) : Type 0 where
   pub steps : List Step
   pub are : AreStepsOf c w events v steps
@@ -65,12 +65,12 @@ row_before watched (traced.Press call) round asked w = []
 row_before watched (traced.Gather floor) round asked w = []
 row_before watched (traced.Refresh fields) round asked w = row_of watched round asked w
 
--- a row of each round, with the values behind its last event
+-- a row of each round, with the values after its last event
 abbrev pub rows_along : List Watched → List Step → ℕ → Asked → World → List ℕ
 rows_along watched [] round asked w = row_of watched round asked w
 rows_along watched (s ∷ steps) round asked w = row_before watched s.event round asked w ++ rows_along watched steps (round_behind s.event round) (asked_at s.event s.reply asked) s.after
 
--- The rows are those of a trace's events, which the world takes one behind the other. Nothing was asked for before.
+-- The rows are those of a trace's events, which the world takes one after the other. Nothing was asked for before.
 pub record AreRowsAlong (watched : List Watched) (c : Config) (w : World) (events : List TraceEvent) (v : World) (rows : List ℕ) : Type 0 where
   pub steps : List Step
   pub are : AreStepsOf c w events v steps

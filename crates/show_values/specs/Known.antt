@@ -43,11 +43,11 @@ car_words = map word_of_car_name (Pos ∷ Level ∷ Top ∷ Bottom ∷ Locked �
 
 -- TASKS
 
--- a name behind that of a task and a period
+-- a name after that of a task and a period
 abbrev pub in_task : ℕ → List ℕ → List ℕ
 in_task t name = task_name t ++ (codes "." ++ name)
 
--- those of the image behind the name of a task: of GROUP what it tells, of a car its fields and outputs
+-- those of the image after the name of a task: of GROUP what it tells, of a car its fields and outputs
 abbrev pub image_names : ℕ → ℕ → List (List ℕ)
 image_names slots t = if t == 0 then slot_names of_slot.Assign slots else map (in_task t) car_words
 
@@ -71,7 +71,7 @@ known_names c = shared_names ++ (slots_names (sizes_of c).slots ++ (each_from (t
 
 -- PARTS
 
--- whether a name is that of a part of another: it begins with the other, and behind that a period or a bracket
+-- whether a name is that of a part of another: it begins with the other, and after that a period or a bracket
 abbrev pub is_part : List ℕ → List ℕ → Bool
 is_part whole name = starts_with nat_eq name (whole ++ codes ".") || starts_with nat_eq name (whole ++ codes "[")
 

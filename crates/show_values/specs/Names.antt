@@ -1,4 +1,4 @@
--- What the names of `watch` stand for (own rules).
+-- What the names of `watch` mean (own rules).
 use Rattle.std.specs.Prelude.{◌≡◌, ℕ, ◌≤◌, List, [], ◌∷◌, ◌++◌, codes, map}
 use Rattle.std.specs.Char.{to_ascii_uppercase}
 use Rattle.il_semantics.specs.declared.value.Value.{Value}
@@ -59,7 +59,7 @@ word_of_slot_name of_slot.To = codes "CALLTO"
 word_of_slot_name of_slot.Car = codes "CALLCAR"
 word_of_slot_name of_slot.Assign = codes "GROUP.ASSIGN"
 
--- behind an opening bracket stand the number of a slot, from 1 on, and the closing bracket
+-- after an opening bracket are the number of a slot, from 1 on, and the closing bracket
 pub record IsIndex (rest : List ℕ) (slot : ℕ) : Type 0 where
   pub digits : List ℕ
   pub is : rest ≡ digits ++ 93 ∷ []
@@ -76,7 +76,7 @@ pub record IsInTask (name : List ℕ) (task : ℕ) (rest : List ℕ) : Type 0 wh
   pub few : task ≤ most_cars
   pub is : name ≡ task_name task ++ 46 ∷ rest
 
--- Behind the name of a car stands a name of its image; otherwise, behind the name of a task, the path of a variable.
+-- After the name of a car stands a name of its image; otherwise, after the name of a task, the path of a variable.
 abbrev pub IsReadIn : ℕ → List ℕ → Watched → Type 0
 IsReadIn task rest (Shared name) = ⊥
 IsReadIn task rest (Slot name slot) = ⊥
@@ -100,7 +100,7 @@ IsNotShared name = (it : SharedName) → name ≡ word_of_shared it → ⊥
 abbrev pub IsNoSlot : List ℕ → Type 0
 IsNoSlot name = (it : SlotName) (slot : ℕ) → IsOfSlot name it slot → ⊥
 
--- A name is one of the image, or one of its call slots, or it stands behind that of a task, or it is the path of a global.
+-- A name is one of the image, or one of its call slots, or it follows that of a task, or it is the path of a global.
 pub data IsReadAs (name : List ℕ) (watched : Watched) : Type 0 where
   shared : (it : SharedName) → name ≡ word_of_shared it → watched ≡ Shared it → IsReadAs name watched
   slot : IsNotShared name → (it : SlotName) (slot : ℕ) → IsOfSlot name it slot → watched ≡ Slot it slot → IsReadAs name watched

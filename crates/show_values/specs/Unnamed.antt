@@ -4,7 +4,7 @@ use Rattle.il_syntax.specs.declared.tree.Config.{Config}
 use Rattle.reasons_names.specs.NamesNear.{Nearest, nearest, predeclared_name}
 use Rattle.show_values.specs.Known.{known_names, parts_in}
 
--- names behind a first one, at most seven
+-- names after a first one, at most seven
 abbrev pub more_text : List (List ℕ) → List ℕ
 more_text names = flat_map (λ (name : List ℕ). codes ", " ++ name) (take 7 names) ++ (if nat_lt 7 (length names) then codes " .." else [])
 

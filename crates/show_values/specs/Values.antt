@@ -62,7 +62,7 @@ slot_value_at (suc k) name assign slots = option_map (value_in_slot name assign)
 abbrev pub slot_value_in : ℕ → SlotName → Asked → Group → Option Value
 slot_value_in slot name asked g = if has_slot_name name g then slot_value_at slot name (assign_of slot asked) g.calls.slots else None
 
--- What a name stands for in a world, behind commits that asked for this; a variable has the value that its task's last commit left.
+-- What a name means in a world, after commits that asked for this; a variable has the value that its task's last commit left.
 abbrev pub value_of : Watched → Asked → World → Option Value
 value_of (Shared name) asked w = Some (shared_value name w.group.image.fields)
 value_of (Slot name slot) asked w = slot_value_in slot name asked w.group
@@ -70,22 +70,22 @@ value_of (Car car name) asked w = car_value_in car name asked w.group.image
 value_of (Variable task path) asked w = option_and_then (λ t. values.get t.variables path.now) (task_at w.group task)
 value_of (Global path) asked w = values.get w.group.globals path.now
 
--- TRUE, FALSE or a decimal, behind a comma; nothing but the comma where there is no value
+-- TRUE, FALSE or a decimal, after a comma; nothing but the comma where there is no value
 abbrev pub value_text : Option Value → List ℕ
 value_text None = codes ","
 value_text (Some (Boolean true)) = codes ",TRUE"
 value_text (Some (Boolean false)) = codes ",FALSE"
 value_text (Some (Integer z)) = codes "," ++ signed_decimal z
 
--- the values, one behind the other
+-- the values, one after the other
 abbrev pub values_text : List Watched → Asked → World → List ℕ
 values_text watched asked w = flat_map (λ (it : Watched). value_text (value_of it asked w)) watched
 
--- a line of the number of the round and the values behind it
+-- a line of the number of the round and the values after it
 abbrev pub row_text : List Watched → ℕ → Asked → World → List ℕ
 row_text watched round asked w = decimal round ++ (values_text watched asked w ++ codes "\n")
 
--- what is written of each round, behind commits that asked for this
+-- what is written of each round, after commits that asked for this
 abbrev pub watching_behind : Asked → List Watched → Shows
 watching_behind asked watched =
     record { of_refresh = λ round report. []; of_commit = λ round task report. []; of_round = λ round commits w. row_text watched round (asked_behind commits asked) w }
@@ -94,7 +94,7 @@ watching_behind asked watched =
 abbrev pub watching : List Watched → Shows
 watching watched = watching_behind nothing_asked watched
 
--- the names, each behind a comma
+-- the names, each after a comma
 abbrev pub names_text : List (List ℕ) → List ℕ
 names_text names = flat_map (λ (name : List ℕ). codes "," ++ name) names
 
@@ -102,7 +102,7 @@ names_text names = flat_map (λ (name : List ℕ). codes "," ++ name) names
 abbrev pub header_text : List (List ℕ) → List ℕ
 header_text names = codes "ROUND" ++ (names_text names ++ codes "\n")
 
--- the names stand for these, each of which has a value in the world, where nothing was asked for yet
+-- the names mean these, each of which has a value in the world, where nothing was asked for yet
 abbrev pub AreWatched : World → List (List ℕ) → List Watched → Type 0
 AreWatched w [] [] = Unit {0}
 AreWatched w [] (it ∷ watched) = ⊥

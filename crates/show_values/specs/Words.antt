@@ -1,4 +1,4 @@
--- What the words of `watch` stand for (own rules).
+-- What the words of `watch` mean (own rules).
 use Rattle.std.specs.Prelude.{ℕ, ◌-◌, if◌then◌else◌, nat_eq, List, [], ◌∷◌, Option, Some, None, codes, flat_map, length, map, take}
 use Rattle.std.specs.List.{ends_with}
 use Rattle.il_syntax.specs.declared.tree.Config.{Config}
@@ -19,10 +19,10 @@ abbrev pub expanded_by : Config → List ℕ → Option (List ℕ) → List (Lis
 expanded_by c word None = word ∷ []
 expanded_by c word (Some whole) = parts_or word (parts_of c whole)
 
--- the names that words in upper case stand for
+-- the names that words in upper case mean
 abbrev pub expanded : Config → List (List ℕ) → List (List ℕ)
 expanded c words = flat_map (λ (word : List ℕ). expanded_by c word (starred word)) words
 
--- the names that words stand for in a group, in any letter case
+-- the names that words mean in a group, in any letter case
 abbrev pub meant : Config → List (List ℕ) → List (List ℕ)
 meant c words = expanded c (map upper_case words)

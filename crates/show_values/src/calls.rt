@@ -17,7 +17,7 @@ use show_calls::log::Log;
 use std::alloc::{AllocError, Global};
 use trace_text::trace::Trace;
 
-/// What is known of the calls of a trace behind its events, which the world takes one behind the other, up to the first that is refused.
+/// What is known of the calls of a trace after its events, which the world takes one after the other, up to the first that is refused.
 pub fn call_log(alloc: Global, world: &mut World, events: &Trace<'_>) -> Result<Log, Stop>
     requires few { length events.now < 2 ^ 31 }
     ensures log { IfOk result (IsLogOf world.old.program.config world.old.world events.now
@@ -39,7 +39,7 @@ pub fn call_log(alloc: Global, world: &mut World, events: &Trace<'_>) -> Result<
     Ok(log)
 }
 
-// Notes an event that the world took, with its reply and the world behind it.
+// Notes an event that the world took, with its reply and the world after it.
 fn note(
     log: &mut Log,
     event: &TraceEvent,

@@ -63,7 +63,7 @@ fn repeats(before: Option<&str>, row: &str) -> bool
     }
 }
 
-// What stands behind the first comma of a row; nothing, where there is none.
+// What follows the first comma of a row; nothing, where there is none.
 fn values_in(row: &str) -> &str
     ensures { result.now ≡ values_in row.now }
 {

@@ -22,7 +22,7 @@ use group_world::World;
 use std::alloc::{AllocError, Global};
 use trace_text::trace::Trace;
 
-/// What the interlock denied along a trace's events, which the world takes one behind the other, up to the first that is refused; with
+/// What the interlock denied along a trace's events, which the world takes one after the other, up to the first that is refused; with
 /// the stops at the ends of the shaft, where all are asked for. In a form.
 pub fn denied_in(
     alloc: Global,
@@ -55,7 +55,7 @@ pub fn denied_in(
     Ok(text)
 }
 
-/// Writes the values of names behind each round of a trace, whose events the world takes one behind the other, up to the first that is
+/// Writes the values of names after each round of a trace, whose events the world takes one after the other, up to the first that is
 /// refused. A round ends where a refresh begins the next, and the last one at the end.
 pub fn rows_along(
     world: &mut World,
@@ -90,7 +90,7 @@ pub fn rows_along(
     Ok(())
 }
 
-// The round behind an event: a refresh begins one.
+// The round after an event: a refresh begins one.
 fn round_behind(event: &TraceEvent, round: u32) -> u32
     requires { round + 1 < 2 ^ 32 }
     ensures { result ≡ round_behind event.now round }
@@ -137,7 +137,7 @@ fn put_denied(
     }
 }
 
-// What is asked for behind an event, by what the world replied to it.
+// What is asked for after an event, by what the world replied to it.
 fn note_asked(asked: &mut Asked, event: &TraceEvent, reply: Reply, report: &Report)
     ensures { asked.new ≡ asked_at event.now (reply_with reply report.now) asked.old }
 {
@@ -146,7 +146,7 @@ fn note_asked(asked: &mut Asked, event: &TraceEvent, reply: Reply, report: &Repo
     }
 }
 
-// What is asked for behind a commit that has reported.
+// What is asked for after a commit that has reported.
 fn note_commit(asked: &mut Asked, task: u8, reply: Reply, report: &Report)
     ensures { asked.new ≡ asked_by task (reply_with reply report.now) asked.old }
 {

@@ -131,7 +131,7 @@ fn add_own(
     add_variables(alloc, names, task, verified.own_cells(task))
 }
 
-// The names of the image behind that of a task.
+// The names of the image after that of a task.
 fn add_image(alloc: Global, names: &mut Vec<String>, task: u8, slots: u8) -> Result<(), AllocError>
     ensures { OnOk result (map string_bytes names.new.items
         ≡ map string_bytes names.old.items ++ image_names slots task) }
@@ -183,7 +183,7 @@ fn add_globals(alloc: Global, names: &mut Vec<String>, cells: &[Cell]) -> Result
     Ok(())
 }
 
-// A name behind that of a task and a period.
+// A name after that of a task and a period.
 fn in_task(alloc: Global, task: u8, path: &str) -> Result<String, AllocError>
     ensures { IfOk result (λ name. string_bytes name ≡ in_task task path.now) }
 {

@@ -1,4 +1,4 @@
-//! What sees a simulation or a trace go by, and writes of it: what the interlock denied, values behind each round, the calls.
+//! What sees a simulation or a trace go by, and writes of it: what the interlock denied, values after each round, the calls.
 #![tactic(auto)]
 
 pub mod asked;

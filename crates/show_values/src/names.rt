@@ -1,4 +1,4 @@
-// What the names of `watch` stand for.
+// What the names of `watch` mean.
 
 ghost use Rattle.std.specs.Prelude.{◌≡◌, ◌≤◌, ◌<◌, ◌∷◌, ◌++◌, [], ℕ, List, IfSome, IfOk, OnOk, IsNone, map, string_bytes};
 ghost use Rattle.cli_host.specs.Requests.{words_of};
@@ -56,7 +56,7 @@ pub enum SlotName {
     Assign,
 }
 
-/// What a name stands for. A task is 0 for GROUP and k for CARk, and slots count from 1.
+/// What a name means. A task is 0 for GROUP and k for CARk, and slots count from 1.
 #[derive(Clone, Copy)]
 pub enum Watched<'n> {
     Shared(Shared),
@@ -68,7 +68,7 @@ pub enum Watched<'n> {
     Global(&'n str),
 }
 
-// A task, and what stands behind its name and a period.
+// A task, and what follows its name and a period.
 #[derive(Clone, Copy)]
 struct InTask<'n> {
     task: u8,
@@ -203,7 +203,7 @@ fn add_upper(alloc: Global, upper: &mut Vec<String>, names: &[String]) -> Result
     Ok(())
 }
 
-/// What a name stands for: a name of the image or of one of its call slots, otherwise a variable of the task whose name stands before
+/// What a name means: a name of the image or of one of its call slots, otherwise a variable of the task whose name comes before
 /// its first period, and otherwise a global.
 pub fn read(name: &str) -> Watched<'_>
     ensures { IsReadAs name.now result }
@@ -241,7 +241,7 @@ fn slot_of(rest: &str) -> Option<u8>
     Some(slot as u8)
 }
 
-// What a name stands for behind that of a task.
+// What a name means after that of a task.
 fn read_in(task: u8, rest: &str) -> Watched<'_>
     ensures { IsReadIn task rest.now result }
 {
@@ -251,7 +251,7 @@ fn read_in(task: u8, rest: &str) -> Watched<'_>
     }
 }
 
-// The task whose name stands before the first period.
+// The task whose name comes before the first period.
 fn in_task(name: &str) -> Option<InTask<'_>>
     ensures some { IfSome result (λ it. IsInTask name.now it.task it.rest.now) }
     ensures none { IsNone result → (task : ℕ) (rest : List ℕ) → IsInTask name.now task rest → ⊥ }

@@ -10,7 +10,7 @@ use reasons_names::names_near::{Candidate, nearest};
 use scan_task::Verified;
 use std::alloc::{AllocError, Global};
 
-// How many parts are shown behind the first.
+// How many parts are shown after the first.
 const MOST_MORE: usize = 7;
 
 /// What is said of a name that has no value: which parts it has, or which name is near.
@@ -81,7 +81,7 @@ fn candidates(alloc: Global, names: &[String]) -> Result<Vec<Candidate<'_>>, All
     Ok(all)
 }
 
-// The parts behind the first, as many as are shown.
+// The parts after the first, as many as are shown.
 fn put_more(text: &mut String, more: &[&str]) -> Result<(), AllocError>
     ensures { OnOk result (Puts text.old text.new (more_text (map (λ p. p.now) more.now))) }
 {

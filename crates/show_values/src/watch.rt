@@ -20,10 +20,10 @@ use group_world::World;
 use scan_task::Value;
 use std::alloc::{AllocError, Global};
 
-/// Writes the values of names behind each round, as lines of CSV.
+/// Writes the values of names after each round, as lines of CSV.
 #[derive(Drop)]
 pub struct Watch<'n> {
-    /// What the names stand for.
+    /// What the names mean.
     pub watched: Items<Watched<'n>>,
     /// What the commits so far asked for.
     pub asked: Asked,
@@ -80,7 +80,7 @@ impl Observer for Watch<'_> {
     }
 }
 
-// What names stand for, where each has a value.
+// What names mean, where each has a value.
 fn watched_of<'n>(
     alloc: Global,
     world: &World,
@@ -168,7 +168,7 @@ fn put_value(text: &mut String, value: Option<Value>) -> Result<(), AllocError>
     }
 }
 
-// The value in a world, behind commits that asked for this.
+// The value in a world, after commits that asked for this.
 fn value_of(world: &World, asked: &Asked, watched: Watched<'_>) -> Option<Value>
     ensures { result ≡ value_of watched.entry asked.now world.now.world }
 {

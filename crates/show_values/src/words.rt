@@ -1,4 +1,4 @@
-// What the words of `watch` stand for.
+// What the words of `watch` mean.
 
 ghost use Rattle.std.specs.Prelude.{◌≡◌, ◌++◌, ◌∷◌, [], IfOk, OnOk, map, option_map, string_bytes};
 ghost use Rattle.cli_host.specs.Requests.{words_of};
@@ -12,7 +12,7 @@ use group_world::World;
 use scan_task::Verified;
 use std::alloc::{AllocError, Global};
 
-/// The names that words stand for in a group: in the place of `NAME.*` all parts of the name, in the text's order. Where it has none, the word
+/// The names that words mean in a group: in the place of `NAME.*` all parts of the name, in the text's order. Where it has none, the word
 /// stays, which has no value.
 pub fn meant(alloc: Global, world: &World, words: Words<'_>) -> Result<Vec<String>, AllocError>
     ensures { IfOk result (λ names. map string_bytes names.items
@@ -22,7 +22,7 @@ pub fn meant(alloc: Global, world: &World, words: Words<'_>) -> Result<Vec<Strin
     expanded(alloc, world.verified(), &upper)
 }
 
-// The same of words in upper case.
+// The words that mean several, of words in upper case.
 fn expanded(alloc: Global, verified: &Verified, words: &[String]) -> Result<Vec<String>, AllocError>
     ensures { IfOk result (λ names. map string_bytes names.items
         ≡ expanded verified.now.config (map string_bytes words.now)) }

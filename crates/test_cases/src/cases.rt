@@ -84,7 +84,7 @@ impl Cases {
     }
 }
 
-// Prints the words of a run, its exit status and all that it wrote. A `\` stands for the end of an
+// Prints the words of a run, its exit status and all that it wrote. A `\` means the end of an
 // output that ends within a line, and `! ` before each line of the standard error.
 fn write_run<W: Write + Drop>(line: &str, outcome: &Outcome, to: &mut W) -> io::Result<()> {
     write!(to, "{line} -> {}\n", outcome.status.code())?;

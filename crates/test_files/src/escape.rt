@@ -19,7 +19,7 @@ pub fn add_bytes(to: &mut Vec<u8>, text: &str) -> io::Result<()> {
     Ok(())
 }
 
-// The byte of an escape, behind its `\`, and what follows.
+// The byte of an escape, after its `\`, and what follows.
 fn escaped(text: &[u8]) -> Option<(u8, &[u8])> {
     match text {
         [b'n', rest @ ..] => Some((b'\n', rest)),

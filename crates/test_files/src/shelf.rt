@@ -45,7 +45,7 @@ impl Shelf {
         Ok(())
     }
 
-    /// Adds a text so many times, and behind each a line feed.
+    /// Adds a text so many times, and after each a line feed.
     pub fn add_lines(&mut self, times: u32, text: &str) -> io::Result<()> {
         let bytes = self.last()?;
         for _ in 0..times {

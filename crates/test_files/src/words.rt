@@ -2,7 +2,7 @@
 
 use std::alloc::{AllocError, Global};
 
-/// The words of a line. Blanks part them, and what stands between two `"` is one word with its
+/// The words of a line. Blanks part them, and what is between two `"` is one word with its
 /// blanks: `""` is an empty word.
 pub fn words_of(alloc: Global, line: &str) -> Result<Vec<String>, AllocError> {
     let mut words = Vec::new(alloc);

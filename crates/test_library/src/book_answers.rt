@@ -72,7 +72,7 @@ static AGAIN: [Step; 14] = [
     Step::Enter(UP, Entering::Kept),
 ];
 
-// Behind 64 calls in 64 slots the slot that is served is the next to be entered.
+// After 64 calls in 64 slots the slot that is served is the next to be entered.
 static FULL: [Step; 4] = [
     Step::Enter(UP, Entering::Kept),
     Step::Tell(7, 7, 2, Answer::Done),

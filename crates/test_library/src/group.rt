@@ -93,7 +93,7 @@ fn applied(alloc: Global, world: &mut World, events: &[Event]) -> Left {
     }
 }
 
-// Runs over all of them, in two runs, one behind the other.
+// Runs over all of them, in two runs, one after the other.
 fn run(alloc: Global, world: &mut World, events: &[Event]) -> Result<Replies, AllocError> {
     let mut replies = Replies::with_room(alloc, events.len(), events.len())?;
     let (front, back) = events.split_at(events.len() / 2);

@@ -172,7 +172,7 @@ fn commits(rt: HostRuntime) {
     commit_keeps_obeying();
 }
 
-// The same while FIRE holds, where one may run, with car 1 at the top or not.
+// Two cars while FIRE holds, where one may run, with car 1 at the top or not.
 fn two_under_fire(first: Motor, second: Motor, top: bool) -> Image
     ensures cars { length result.fields.cars ≡ 2 }
     ensures outputs { length result.outputs ≡ 2 }

@@ -28,7 +28,7 @@ pub enum Step {
     Commit { scan: u8, by: u8 },
     /// So many cars stand at floor 1: 0, or the number of the fault.
     Refresh { cars: u8, time: u32, run_limit: u8 },
-    /// The same, but car 1 stands between floors 1 and 2, with its door shut.
+    /// So many cars, of which car 1 is between floors 1 and 2, with its door shut.
     Leave { time: u32 },
     /// A refresh by the plant, without FIRE: 0, or the number of the fault.
     Drive,
@@ -410,7 +410,7 @@ fn take_step<'s, G: Naming, R: Wait>(
     (refresher, collector, answer)
 }
 
-// The passes behind the steps, and what the steps answered.
+// The passes after the steps, and what the steps answered.
 struct Rest<G: Naming> {
     passes: Vec<TaskPass<G>>,
     panels: Vec<PanelPass>,
@@ -420,7 +420,7 @@ struct Rest<G: Naming> {
     answers: Vec<u64>,
 }
 
-// The steps of a row, one behind the other. An answer that finds no memory is missing.
+// The steps of a row, one after the other. An answer that finds no memory is missing.
 fn steps<'s, G: Naming, R: Wait>(
     rt: &R,
     alloc: Global,

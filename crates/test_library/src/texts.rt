@@ -16,7 +16,7 @@ END_RESOURCE
 END_CONFIGURATION
 ";
 
-/// The same with two call slots.
+/// Two cars with one empty program, and two call slots.
 pub const TWO_SLOTS: &[u8] = b"PROGRAM C
 END_PROGRAM
 CONFIGURATION K

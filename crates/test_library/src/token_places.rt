@@ -1,4 +1,4 @@
-// Where tokens stand in a text, and kinds that no supported text can show.
+// Where tokens are in a text, and kinds that no supported text can show.
 
 use il_syntax::token::{Kind, Sign, Token};
 use load_tokens::tokens;

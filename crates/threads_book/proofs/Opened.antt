@@ -1,4 +1,4 @@
--- The open scan of a task stands at its start in the ledger's store of it.
+-- The open scan of a task is at its start in the ledger's store of it.
 use Rattle.std.proofs.Common.{◌≡◌, ℕ, true, Option, Some, sym, ap, ◌∙◌}
 use Rattle.std.specs.Prelude.{slice_get, is_some}
 use Rattle.il_semantics.specs.State.{State}
@@ -20,7 +20,7 @@ module _ (l : Ledger) (is : IsLedger l) (t : ℕ) (so : is_open_in l.core.group 
   same_store : x.store ≡ s
   same_store = let both : Some x.store ≡ Some s = sym x.kept ∙ kept in cc
 
-  -- where its scan stands
+  -- where its scan is
   pub scan_open : scan_at (world_of l) t ≡ Some s.state
   scan_open = scan_in l is t x tickets ∙ ap (λ (y : Standing). Some y.state) same_store
 

@@ -76,7 +76,7 @@ module _ (l : Ledger) (is : IsLedger l) where
       pub tickets_so : (b : Bool) → is_open_in g t ≡ b → is_some x.task.tickets ≡ b
       tickets_so b e = ap holds_tickets (sym x.there) ∙ e
 
-      -- the scan stands in the store
+      -- the scan is in the store
       pub scan_in : is_some x.task.tickets ≡ true → scan_at (world_of l) t ≡ Some x.store.state
       scan_in so = open_scan c g l.stores.items [] [] t x.task x.store is.stores.as_many x.there x.kept so
 

@@ -22,7 +22,7 @@ world_of l = world_by l.core.group l.stores.items [] []
 abbrev pub page_of : Ledger → Page
 page_of l = record { config = l.program.value.config; capacity = l.capacity; journal = l.journal.items; world = world_of l }
 
--- What holds of every ledger: there is a store for each task, the open scan of each task stands at its start, and its journal leads
+-- What holds of every ledger: there is a store for each task, the open scan of each task is at its start, and its journal leads
 -- to its world.
 pub record IsLedger (l : Ledger) : Type 0 where
   pub runnable : IsRunnable l.program.value.config

@@ -26,7 +26,7 @@ use std::alloc::{AllocError, Global};
 use std::snapshot::Snapshot;
 
 /// What is kept of a group: the program, as contracts see it; what the tasks share; of each task a store in which its scan, if it is
-/// open, stands at its start; and the journal, with room for so many entries.
+/// open, is at its start; and the journal, with room for so many entries.
 #[derive(Drop)]
 pub struct Ledger {
     pub program: Snapshot<Verified>,

@@ -124,7 +124,7 @@ members-more hand added apart c = ap (λ (b : Bool). if b then 1 else 0) (has-wi
 
 -- THE CALLS OF A WORD
 
--- each stands there once
+-- each is there once
 pub times-member : (count from to word : ℕ) (wanted : Call) → times wanted (calls_of_bits count from to word) ≡ membership (calls_of_bits count from to word) wanted
 unfolding calls_of_bits
 times-member zero from to word wanted = refl
@@ -250,7 +250,7 @@ gathered-on h k l f g = record {
   held = λ from some. g.held from (from-kept h k f from some) ∙ f.held from some;
 }
 
--- the calls behind the first ones are a part of the set
+-- the calls after the first ones are a part of the set
 pub rest-is-part : (count : ℕ) (set : List Call) → IsPart (drop count set) set
 rest-is-part zero set c e = e
 rest-is-part (suc count) [] c e = e

@@ -16,7 +16,7 @@ use Rattle.threads_desk.specs.declared.rule.Size.{Size}
 abbrev pub call : ℕ → ℕ → Call
 call from to = record { from = from; to = to }
 
--- how often a call stands in a list
+-- how often a call is in a list
 abbrev pub times : Call → List Call → ℕ
 times wanted [] = 0
 times wanted (c ∷ calls) = (if same_call c wanted then 1 else 0) + times wanted calls

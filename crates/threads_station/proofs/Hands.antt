@@ -38,7 +38,7 @@ all_calls sizes floors same (x ∷ xs) are =
       all_calls sizes floors same xs (λ c there. are c (or_second (same_call x c) (has_call xs c) there)),
     )
 
--- what stays behind the first calls of a hand is a part of it
+-- what stays after the first calls of a hand is a part of it
 pub rest_is_part : (first rest hand : List Call) → hand ≡ first ++ rest → IsPart rest hand
 rest_is_part first rest hand is = subst (IsPart rest) (sym is) (by first)
   where
@@ -56,7 +56,7 @@ part_kept X Y Z (Err e) first rest hand whole is done refused = all_is_part rest
 
 -- COUNTS OF A SET
 
--- a call that stands behind another is no other call with its floors
+-- a call that follows another is no other call with its floors
 other_call : (x y c : Call) → Before x y → x.from ≡ c.from → x.to ≡ c.to → same_call y c ≡ false
 other_call x y c (inl less) from to = and_left _ _ (ne_eqb y.from c.from (λ same. absurd (omega (arith, less, from, same))))
 other_call x y c (inr less) from to = and_right _ _ (ne_eqb y.to c.to (λ same. absurd (omega (arith, less.1, to, same))))
@@ -67,7 +67,7 @@ none_behind x c (y ∷ ys) from to each =
     let rest = none_behind x c ys from to each.1 in
     ap (λ (b : Bool). (if b then 1 else 0) + times c ys) (other_call x y c each.0 from to) ∙ omega (arith, rest)
 
--- each call of a set stands there once
+-- each call of a set is there once
 once : (xs : List Call) (c : Call) → IsInOrder xs → times c xs ≡ membership xs c
 once [] c order = refl
 once (x ∷ xs) c order = by (same_call x c) refl (once xs c order.1)

@@ -108,7 +108,7 @@ module _ (P v : Program) (lent : v ≡ P) (inside before : Page) (same : inside 
   committed_under f report after there adds =
       record { before = before; config = config; kept = kept; counted = sym counted; is_open = open_there f there; after = after; adds = added_there entry.Commit inside before same n t number adds }
 
-  -- a commit, and right behind it a start
+  -- a commit, and right after it a start
   pub turned_under : (f : Finished) (report : Report) (after : Page) → IsOpenHere inside n f → Adds inside (entry.Commit n) (Committed report) after → (m : ℕ) → m ≡ n → (next : Result Standing StationFault) → fault_in next ≡ start_fault after m
       → IfOk next (λ (o : Standing). IsOf P.config m o × SnappedNow after m o.state) → IsTurned P.config t count f report next
   unfolding committed_under

@@ -50,7 +50,7 @@ pub record IsCommitted (c : Config) (t count : ℕ) (scan : Finished) (report : 
   pub after : Page
   pub adds : Adds before (entry.Commit t) (Committed report) after
 
--- The report is that of a commit of this very scan, at the end of a run that holds so many entries of the task. Right behind it comes a start of
+-- The report is that of a commit of this very scan, at the end of a run that holds so many entries of the task. Right after it comes a start of
 -- the task: it has the fault that it has there, and its scan begins with what the commit left.
 pub record IsTurned (c : Config) (t count : ℕ) (scan : Finished) (report : Report) (next : Result Standing StationFault) : Type 0 where
   pub committed : IsCommitted c t count scan report

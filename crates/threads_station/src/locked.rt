@@ -165,7 +165,7 @@ impl<G: Naming> Locked<G> {
         }
     }
 
-    /// A commit, and right behind it a start of the task's next scan. The store comes back where there was no start.
+    /// A commit, and right after it a start of the task's next scan. The store comes back where there was no start.
     pub fn turn<'v>(
         &mut self,
         verified: &Verified,

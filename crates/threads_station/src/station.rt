@@ -341,7 +341,7 @@ impl<G: Naming> Station<G> {
         }
     }
 
-    /// Turn: a commit of a scan of the station's own program, and right behind it a start of the task's next scan, under one lock. Where the
+    /// Turn: a commit of a scan of the station's own program, and right after it a start of the task's next scan, under one lock. Where the
     /// commit is refused there is no start; where the start is refused, the scan is committed. It waits for the lock.
     pub fn turn<'v>(
         &self,

@@ -14,7 +14,7 @@ use Rattle.group_spec.specs.Snapshot.{has_task}
 use Rattle.scan_task.proofs.Sizes.{sizes_fit}
 use Rattle.threads_station.specs.Passes.{TaskCount, is_task, all_tasks}
 
--- a number stands in a list
+-- a number is in a list
 abbrev Has : List ℕ → ℕ → Type 0
 Has [] t = ⊥
 Has (u ∷ us) t = (u ≡ t) ⊎ Has us t

@@ -87,7 +87,7 @@ fn end<G: Naming, T: Gate, R: Wait>(
     Ok(pass)
 }
 
-// The same, and the task's scan of the next round begins in the same step.
+// A scan that has begun runs to its end and is committed, and the task's scan of the next round begins in the same step.
 fn turn<G: Naming, T: Gate, R: Wait>(
     rt: &R,
     station: &Station<G>,

@@ -15,20 +15,20 @@ same_first a b x y e = cc
 pub same_rest : (a b : ℕ) (x y : List ℕ) → a ∷ x ≡ b ∷ y → x ≡ y
 same_rest a b x y e = cc
 
--- the first two bytes, and what stands behind them
+-- the first two bytes, and what follows them
 pub two_bytes : (text : List ℕ) → 2 ≤ length text → text ≡ get_or text 0 0 ∷ get_or text 1 0 ∷ take (length text - 2) (drop 2 text)
 two_bytes [] h = absurd (omega arith)
 two_bytes (a ∷ []) h = absurd (omega arith)
 two_bytes (a ∷ b ∷ rest) h = let all : take (length (a ∷ b ∷ rest) - 2) rest ≡ rest = take_all _ rest (omega arith) in ap (λ (r : List ℕ). a ∷ b ∷ r) (sym all)
 
--- the first three bytes, and what stands behind them
+-- the first three bytes, and what follows them
 pub three_bytes : (text : List ℕ) → 3 ≤ length text → text ≡ get_or text 0 0 ∷ get_or text 1 0 ∷ get_or text 2 0 ∷ take (length text - 3) (drop 3 text)
 three_bytes [] h = absurd (omega arith)
 three_bytes (a ∷ []) h = absurd (omega arith)
 three_bytes (a ∷ b ∷ []) h = absurd (omega arith)
 three_bytes (a ∷ b ∷ c ∷ rest) h = let all : take (length (a ∷ b ∷ c ∷ rest) - 3) rest ≡ rest = take_all _ rest (omega arith) in ap (λ (r : List ℕ). a ∷ b ∷ c ∷ r) (sym all)
 
--- the first four bytes, and what stands behind them
+-- the first four bytes, and what follows them
 pub four_bytes : (text : List ℕ) → 4 ≤ length text → text ≡ get_or text 0 0 ∷ get_or text 1 0 ∷ get_or text 2 0 ∷ get_or text 3 0 ∷ take (length text - 4) (drop 4 text)
 four_bytes [] h = absurd (omega arith)
 four_bytes (a ∷ []) h = absurd (omega arith)

@@ -88,7 +88,7 @@ within_list (y ∷ xs) (suc i) x at = omega (arith, within_list xs i x at)
 
 -- THE CURSOR IN A LOOP
 
--- the cursor over these events stands at this index
+-- the cursor over these events is at this index
 pub record IsAt (events : List TraceEvent) (index : ℕ) (left : List TraceEvent × ℕ) : Type 0 where
   pub all : left.0 ≡ events
   pub at : left.1 ≡ index

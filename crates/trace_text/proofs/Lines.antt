@@ -14,14 +14,14 @@ use Rattle.trace_text.specs.Parts.{Ends}
 use Rattle.trace_text.proofs.Bytes.{each_behind, same_first, same_rest}
 use Rattle.trace_text.proofs.Numbers.{part_once, flag_once, car_once}
 
--- a part with nothing behind it
+-- a part with nothing after it
 pub only_part : (n : ℕ) → part n ≡ part n ++ []
 only_part n = sym (append-nil (part n))
 
 pub part_alone : (n m : ℕ) → n < 2 ^ 64 → m < 2 ^ 64 → part n ≡ part m → n ≡ m
 part_alone n m h k e = (part_once n m [] [] h k tt tt (sym (only_part n) ∙ (e ∙ only_part m))).0
 
--- what is behind a part is the end of the text, or begins with a space
+-- what follows a part is the end of the text, or begins with a space
 pub cars_end : (cars : List CarFields) → Ends 32 (flat_map car_part cars)
 unfolding car_part
 cars_end [] = tt

@@ -13,7 +13,7 @@ use Rattle.trace_text.specs.Text.{part, flags, car_part, fire_part, line_of, fir
 use Rattle.trace_text.proofs.Bytes.{each_append, split_once, same_rest, same_first}
 use Rattle.trace_text.proofs.Numbers.{decimal_without, flag_not, flags_without}
 
--- a line feed stands in no line
+-- a line feed is in no line
 pub no_feed : (p m r : List ℕ) → IsOneLine p → p ≡ m ++ (10 ∷ r) → ⊥
 no_feed [] [] r h e = absurd (cc)
 no_feed (x ∷ p) [] r h e = h.0 (same_first x 10 p r e)
@@ -74,7 +74,7 @@ split_same (x ∷ xs) (y ∷ ys) p q h k f g e =
 pub splits_once : (text : List ℕ) (xs ys : List (List ℕ)) (p q : List ℕ) → Splits text xs p → Splits text ys q → (xs ≡ ys) × (p ≡ q)
 splits_once text xs ys p q s t = split_same xs ys p q s.each_line t.each_line s.last_piece t.last_piece (sym s.whole ∙ t.whole)
 
--- lines, and then what a text behind them is split into
+-- lines, and then what a text after them is split into
 pub splits_behind : (text rest : List ℕ) (before lines : List (List ℕ)) (piece : List ℕ) → AllByRecursion IsOneLine before → text ≡ text_of_lines before ++ rest → Splits rest lines piece
     → Splits text (before ++ lines) piece
 splits_behind text rest before lines piece h e s =

@@ -44,7 +44,7 @@ length_map : (format : Format) (events : List TraceEvent) → length (map (line_
 length_map format [] = refl
 length_map format (e ∷ events) = ap suc (length_map format events)
 
--- What comes behind the lines of events, where the lines go on as those of a trace: its last line at its place, or a further event.
+-- What comes after the lines of events, where the lines go on as those of a trace: its last line at its place, or a further event.
 abbrev Follows : Format → ℕ → List TraceEvent → List TraceEvent → List ℕ → List ℕ → List (List ℕ) → Type 0
 Follows format cars events others next last rest = ((next ≡ last) × (length events ≡ length others) × (rest ≡ [])) ⊎ ((e : TraceEvent) × IsTraced format cars e × (next ≡ line_of format e))
 
@@ -157,7 +157,7 @@ behind_by format cars text number events behind h one some e n (next ∷ more) p
     (subst (λ (l : List (List ℕ)). IsFirstWrong cars l (length (trace_lines format events) + 1)) all (first_wrong cars (trace_lines format events) next more begins (whole_ends format cars events next))) in
     record { lines = trace_lines format events ++ (next ∷ more); piece = piece; splits = splits_behind text behind (trace_lines format events) (next ∷ more) piece one e s; wrong = inl wrong }
 
--- something behind a whole trace
+-- something after a whole trace
 pub wrong_behind : (format : Format) (cars : ℕ) (text : List ℕ) (number : ℕ) (events : List TraceEvent) (behind : List ℕ) → AreTraced format cars events → AllByRecursion IsOneLine (trace_lines format events)
     → behind ≢ [] → text ≡ text_of_lines (trace_lines format events) ++ behind → number ≡ length (trace_lines format events) + 1 → IsWrongAt cars text number
 wrong_behind format cars text number events behind h one some e n = behind_by format cars text number events behind h one some e n (split behind).0 (split behind).1 (split behind).2
@@ -173,7 +173,7 @@ pub record HasRead (format : Format) (cars : ℕ) (text : List ℕ) (events : Li
   pub traced : AreTraced format cars events
   pub whole : text ≡ text_of_lines (opening format events) ++ rest
 
--- the text behind a first line
+-- the text after a first line
 abbrev pub behind_first : Format → List ℕ → List ℕ
 behind_first format text = first_line format ++ (10 ∷ text)
 
@@ -248,7 +248,7 @@ whole_text : (format : Format) (cars : ℕ) (text : List ℕ) (events : List Tra
 whole_text format cars text events rest line behind r s l =
     r.whole ∙ (ap (λ (t : List ℕ). text_of_lines (opening format events) ++ t) s ∙ (text_more (opening format events) line behind ∙ ap (λ (l : List ℕ). text_of_lines (opening format events ++ l ∷ []) ++ behind) l))
 
--- something is behind the last line
+-- something is after the last line
 reads_behind : (format : Format) (cars : ℕ) (text : List ℕ) (events : List TraceEvent) (rest : List ℕ) (number : ℕ) (line behind : List ℕ) → HasRead format cars text events rest → length text ≤ greatest_trace
     → rest ≡ line ++ (10 ∷ behind) → IsOneLine line → line ≡ last_line (length events) → behind ≢ [] → number ≡ length events + 2 → Reads cars text (Err (BadLine (number + 1)))
 reads_behind format cars text events rest number line behind r h s one l some n =
@@ -320,7 +320,7 @@ pub front_whole : (cars : ℕ) (text : List ℕ) (r : Result Front TraceFault) �
 front_whole cars text (Ok f) a whole = subst (ReadsFront cars text f.events) (sym whole) a
 front_whole cars text (Err fault) a whole = a
 
--- the front is read behind the first line
+-- the front is read after the first line
 pub front_behind : (format : Format) (cars : ℕ) (text first rest : List ℕ) (r : Result Front TraceFault) → text ≡ first ++ (10 ∷ rest) → first ≡ first_line format → FrontAnswers cars (behind_first format rest) r → FrontAnswers cars text r
 front_behind format cars text first rest r e f a =
     let whole : behind_first format rest ≡ text = sym (e ∙ ap (λ (l : List ℕ). l ++ (10 ∷ rest)) f) in

@@ -59,7 +59,7 @@ front_after_room a b before bytes f = front_along a b (before ++ []) bytes (befo
 pub written_after_room : (a b : Option (List ℕ)) (before w v bytes : List ℕ) → IsWritten a b w (before ++ []) → v ≡ w ++ bytes → IsWritten a b v (before ++ bytes)
 written_after_room a b before w v bytes f e = subst (λ (l : List ℕ). IsWritten a b v (l ++ bytes)) (append-nil before) (put_then a b w v (before ++ []) bytes f e)
 
--- A writing that is under way: a part of the whole text was written behind what waited at first, and a part is left.
+-- A writing that is under way: a part of the whole text was written after what waited at first, and a part is left.
 pub record Running (start now : Option (List ℕ)) (first waiting left whole : List ℕ) : Type 0 where
   pub so_far : List ℕ
   pub parts : so_far ++ left ≡ whole

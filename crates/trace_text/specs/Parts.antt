@@ -27,7 +27,7 @@ abbrev pub HasNoLeadingZero : List ℕ → Type 0
 HasNoLeadingZero [] = ⊥
 HasNoLeadingZero (digit ∷ digits) = digit ≡ 48 → digits ≡ []
 
--- where a line of no event is wrong: it is not the last one, or something is behind it
+-- where a line of no event is wrong: it is not the last one, or something is after it
 abbrev pub EndsWrong : Type 0 → List ℕ → ℕ → TraceFault → Type 0
 EndsWrong IsLast behind number fault = ((fault ≡ BadLine number) × (IsLast → ⊥)) ⊎ ((fault ≡ BadLine (number + 1)) × IsLast × (behind ≢ []))
 

@@ -11,7 +11,7 @@ use Rattle.trace_text.specs.Text.{first_line, line_of, trace_lines, text_of_line
 abbrev pub greatest_trace : ℕ
 greatest_trace = 67108864
 
--- a byte doesn't stand there
+-- a byte doesn't are there
 abbrev pub Without : ℕ → List ℕ → Type 0
 Without stop bytes = AllByRecursion (λ byte. byte ≢ stop) bytes
 
@@ -19,7 +19,7 @@ Without stop bytes = AllByRecursion (λ byte. byte ≢ stop) bytes
 abbrev pub IsOneLine : List ℕ → Type 0
 IsOneLine line = Without 10 line
 
--- a text is its complete lines, and the piece behind the last line feed
+-- a text is its complete lines, and the piece after the last line feed
 pub record Splits (text : List ℕ) (lines : List (List ℕ)) (piece : List ℕ) : Type 0 where
   pub whole : text ≡ text_of_lines lines ++ piece
   pub each_line : AllByRecursion IsOneLine lines
@@ -32,7 +32,7 @@ pub record AreTrace (cars : ℕ) (lines : List (List ℕ)) : Type 0 where
   pub traced : AreTraced format cars events
   pub spelled : lines ≡ trace_lines format events
 
--- the lines begin a trace: with some lines behind them they are a whole one
+-- the lines begin a trace: with some lines after them they are a whole one
 abbrev pub Begin : ℕ → List (List ℕ) → Type 0
 Begin cars lines = (rest : List (List ℕ)) × AreTrace cars (lines ++ rest)
 
@@ -42,14 +42,14 @@ pub record IsFirstWrong (cars : ℕ) (lines : List (List ℕ)) (number : ℕ) : 
   pub before : Begin cars (take (number - 1) lines)
   pub wrong : ¬ Begin cars (take number lines)
 
--- a complete line is wrong, or a piece stands behind a whole trace
+-- a complete line is wrong, or a piece follows a whole trace
 pub record IsWrongAt (cars : ℕ) (text : List ℕ) (number : ℕ) : Type 0 where
   pub lines : List (List ℕ)
   pub piece : List ℕ
   pub splits : Splits text lines piece
   pub wrong : IsFirstWrong cars lines number ⊎ (AreTrace cars lines × (piece ≢ []) × (number ≡ length lines + 1))
 
--- the complete lines begin a trace and are no whole one; the text ends in the line behind them
+-- the complete lines begin a trace and are no whole one; the text ends in the line after them
 pub record EndsAt (cars : ℕ) (text : List ℕ) (number : ℕ) : Type 0 where
   pub lines : List (List ℕ)
   pub piece : List ℕ
@@ -66,7 +66,7 @@ Reads cars text (Err (Truncated line)) = (length text ≤ greatest_trace) × End
 Reads cars text (Err Write) = ⊥
 Reads cars text (Err Memory) = Unit {0}
 
--- What reading a text gives that may be cut off behind its first line: the events of its complete lines, and the line in which it is cut off, if it isn't whole.
+-- What reading a text gives that may be cut off after its first line: the events of its complete lines, and the line in which it is cut off, if it isn't whole.
 abbrev pub ReadsFront : ℕ → List ℕ → List TraceEvent → Option ℕ → Type 0
 ReadsFront cars text events None = Reads cars text (Ok events)
 ReadsFront cars text events (Some line) =

@@ -15,7 +15,7 @@ events_code = coded_list event.the_row.coded
 abbrev pub event_lines : Format → List TraceEvent → List ℕ
 event_lines format events = text_of_lines (map (line_of format) events)
 
--- a text is the lines of events that a trace of so many cars may have, and what is behind them
+-- a text is the lines of events that a trace of so many cars may have, and what follows them
 pub record BeginsWith (format : Format) (cars : ℕ) (text : List ℕ) (events : List TraceEvent) : Type 0 where
   pub traced : AreTraced format cars events
   pub behind : List ℕ

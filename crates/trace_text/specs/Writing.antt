@@ -14,7 +14,7 @@ events_text events = text_of_lines (map (line_of Two) events)
 abbrev pub IsWritten : Option (List ℕ) → Option (List ℕ) → List ℕ → List ℕ → Type 0
 IsWritten old new waiting text = (taken : List ℕ) × Appends old new taken × (taken ++ waiting ≡ text)
 
--- the bytes are written behind those that waited, or the sink failed
+-- the bytes are written after those that waited, or the sink failed
 abbrev pub Puts : {X E : Type 0} → Result X E → Option (List ℕ) → Option (List ℕ) → Bool → Bool → List ℕ → List ℕ → List ℕ → Type 0
 Puts result old new failed fails before waiting bytes =
     MatchResult result (λ _. IsWritten old new waiting (before ++ bytes) × (fails ≡ failed)) (λ _. AppendsFront old new (before ++ bytes) × (fails ≡ true))

@@ -16,7 +16,7 @@ use group_spec::calls::Call;
 use group_spec::image::{CAR_PLACES, CarFields, Fields, MOST_CARS};
 use group_spec::trace::TraceEvent;
 
-// A number, and nothing behind it.
+// A number, and nothing after it.
 fn only_number(parts: &[u8]) -> Option<u8>
     ensures found { IfSome result (λ n. (n ≤ 255) × (parts.now ≡ part n)) }
     ensures none { IfNone result ((n : ℕ) → n ≤ 255 → parts.now ≡ part n → ⊥) }
@@ -28,7 +28,7 @@ fn only_number(parts: &[u8]) -> Option<u8>
     Some(value)
 }
 
-// The two floors of a call, and nothing behind them.
+// The two floors of a call, and nothing after them.
 fn call(parts: &[u8]) -> Option<Call>
     ensures found { IfSome result (λ call. (call.from ≤ 255) × (call.to ≤ 255)
         × (parts.now ≡ part call.from ++ part call.to)) }
@@ -42,7 +42,7 @@ fn call(parts: &[u8]) -> Option<Call>
     })
 }
 
-// FIRE, which the first format doesn't have, and what stands behind it.
+// FIRE, which the first format doesn't have, and what follows it.
 fn fire(format: Format, parts: &[u8]) -> Option<(bool, &[u8])>
     requires { Ends 32 parts.now }
     ensures found { IfSome result (λ p. CanSayFire format p.0
@@ -56,7 +56,7 @@ fn fire(format: Format, parts: &[u8]) -> Option<(bool, &[u8])>
     }
 }
 
-// So many cars, at most eight, and nothing behind them.
+// So many cars, at most eight, and nothing after them.
 fn cars(count: u8, parts: &[u8]) -> Option<Bounded<CarFields, CAR_PLACES>>
     requires { Ends 32 parts.now }
     ensures found { IfSome result (λ cars. (length cars ≡ count) × (count ≤ MOST_CARS)
@@ -80,7 +80,7 @@ fn cars(count: u8, parts: &[u8]) -> Option<Bounded<CarFields, CAR_PLACES>>
     Some(cars)
 }
 
-// The fields of a group of so many cars. They stand apart, so that the lines of other events clear no room for them.
+// The fields of a group of so many cars. They are a function of their own, so that the lines of other events clear no room for them.
 #[inline(never)]
 fn fields(format: Format, count: u8, parts: &[u8]) -> Option<Fields>
     ensures found { IfSome result (λ fields. AreFields format count fields

@@ -10,7 +10,7 @@ use thiserror::Error;
 /// Why a trace is not written, or not read. Lines count from 1.
 #[derive(Clone, Copy, Debug, Drop, PartialEq, Eq, Error)]
 pub enum TraceFault {
-    /// The line is complete and wrong, or stands behind the last line of a trace.
+    /// The line is complete and wrong, or follows the last line of a trace.
     #[error("line {line} is no line of a trace")]
     BadLine { line: u32 },
     /// The text ends in this line, before the trace's end.

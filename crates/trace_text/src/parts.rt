@@ -9,7 +9,7 @@ ghost use Rattle.trace_text.specs.Parts.{Ends, HasNoLeadingZero};
 use group_spec::image::CarFields;
 use memchr::memchr;
 
-// What stands before the first such byte, and the rest from it on.
+// What comes before the first such byte, and the rest from it on.
 fn split_before(stop: u8, text: &[u8]) -> (&[u8], &[u8])
     ensures whole { text.now ≡ result.0.now ++ result.1.now }
     ensures without { Without stop result.0.now }
@@ -19,7 +19,7 @@ fn split_before(stop: u8, text: &[u8]) -> (&[u8], &[u8])
     text.split_at(end)
 }
 
-/// The first line, without its line feed, and the text behind that; none where no line is complete.
+/// The first line, without its line feed, and the text after that; none where no line is complete.
 pub fn split_line(text: &[u8]) -> Option<(&[u8], &[u8])>
     ensures found { IfSome result (λ p. (text.now ≡ p.0.now ++ (10 ∷ p.1.now))
         × IsOneLine p.0.now) }
@@ -43,7 +43,7 @@ fn split_part(text: &[u8]) -> (&[u8], &[u8])
     text.split_at(end)
 }
 
-/// The next part of a line, without the space before it, and what stands behind it.
+/// The next part of a line, without the space before it, and what follows it.
 pub fn next_part(text: &[u8]) -> Option<(&[u8], &[u8])>
     ensures found { IfSome result (λ p. (text.now ≡ 32 ∷ (p.0.now ++ p.1.now))
         × Without 32 p.0.now × Ends 32 p.1.now) }
@@ -89,7 +89,7 @@ fn number_of(bytes: &[u8], greatest: u32) -> Option<u32>
     Some(value as u32)
 }
 
-/// A space and a number that is at most the greatest, and what stands behind it.
+/// A space and a number that is at most the greatest, and what follows it.
 pub fn number(text: &[u8], greatest: u32) -> Option<(u32, &[u8])>
     ensures found { IfSome result (λ p. (p.0 ≤ greatest) × (text.now ≡ part p.0 ++ p.1.now)
         × Ends 32 p.1.now) }
@@ -123,7 +123,7 @@ fn part_number(text: &[u8]) -> Option<(u8, &[u8])>
     Some((value as u8, rest))
 }
 
-// The same; two digits are read at once.
+// A space and a number that is at most 255, and what follows it; two digits are read at once.
 #[inline(always)]
 fn longer_number(text: &[u8]) -> Option<(u8, &[u8])>
     ensures found { IfSome result (λ p. (p.0 ≤ 255) × (text.now ≡ part p.0 ++ p.1.now)
@@ -139,7 +139,7 @@ fn longer_number(text: &[u8]) -> Option<(u8, &[u8])>
     }
 }
 
-/// A space and a number that is at most 255, and what stands behind it. One digit is read at once.
+/// A space and a number that is at most 255, and what follows it. One digit is read at once.
 #[inline(always)]
 pub fn small_number(text: &[u8]) -> Option<(u8, &[u8])>
     ensures found { IfSome result (λ p. (p.0 ≤ 255) × (text.now ≡ part p.0 ++ p.1.now)
@@ -164,7 +164,7 @@ fn flag_of(byte: u8) -> Option<bool>
     }
 }
 
-/// A space and a flag, and what stands behind it.
+/// A space and a flag, and what follows it.
 pub fn flag_part(text: &[u8]) -> Option<(bool, &[u8])>
     ensures found { IfSome result (λ p. (text.now ≡ 32 ∷ flag p.0 ∷ p.1.now) × Ends 32 p.1.now) }
     ensures none { IfNone result ((b : Bool) (rest : List ℕ) → Ends 32 rest → text.now
@@ -197,7 +197,7 @@ fn is_set(byte: u8) -> bool
     byte == b'1'
 }
 
-// A car at this floor, with LEVEL, TOP, BOTTOM, LOCKED and OPENED by a digit each, and what stands behind them. All digits
+// A car at this floor, with LEVEL, TOP, BOTTOM, LOCKED and OPENED by a digit each, and what follows them. All digits
 // are looked at before one is read, so that there is one way out.
 #[inline(always)]
 fn car_at(pos: u8, text: &[u8]) -> Option<(CarFields, &[u8])>
@@ -231,7 +231,7 @@ fn car_at(pos: u8, text: &[u8]) -> Option<(CarFields, &[u8])>
     Some((car, rest))
 }
 
-/// The part of a car, and what stands behind it.
+/// The part of a car, and what follows it.
 #[inline(always)]
 pub fn car(text: &[u8]) -> Option<(CarFields, &[u8])>
     ensures found { IfSome result (λ p. (p.0.pos ≤ 255) × (text.now ≡ car_part p.0 ++ p.1.now)

@@ -1,4 +1,4 @@
-// The lines of a trace, put behind bytes that wait for a sink.
+// The lines of a trace, put after bytes that wait for a sink.
 
 ghost use Rattle.std.specs.Prelude.{◌≡◌, ◌≤◌, ◌+◌, ◌*◌, [], ◌∷◌, ◌++◌, length, flat_map, decimal};
 ghost use Rattle.trace_text.specs.declared.format.Format.TheVariants.{Two};
@@ -44,7 +44,7 @@ pub fn put_first(waiting: &mut Waiting)
     waiting.put(b"LIFTTRACE 2\n");
 }
 
-/// Puts the last line, behind so many others.
+/// Puts the last line, after so many others.
 #[tactic(auto, unfolding(crate::specs::Text::last_line))]
 pub fn put_last(waiting: &mut Waiting, count: u128)
     requires { length waiting.old ≤ 3584 }

@@ -33,7 +33,7 @@ pub fn read_trace(alloc: Global, text: &[u8], cars: u8) -> Result<Vec<TraceEvent
     read_lines(alloc, text, cars)
 }
 
-// The same, by the front of the text.
+// The events that the lines of a text tell, line by line from its front.
 fn read_lines(alloc: Global, text: &[u8], cars: u8) -> Result<Vec<TraceEvent>, TraceFault>
     ensures { MatchResult result (λ events. Reads cars text.now (Ok events.items))
         (λ fault. Reads cars text.now (Err fault)) }
@@ -48,14 +48,14 @@ fn read_lines(alloc: Global, text: &[u8], cars: u8) -> Result<Vec<TraceEvent>, T
     }
 }
 
-/// What stands in a trace text that may be cut off: the events of its complete lines, and in which line it is cut off, if it isn't whole.
+/// What is in a trace text that may be cut off: the events of its complete lines, and in which line it is cut off, if it isn't whole.
 #[derive(Drop)]
 pub struct Front<'t> {
     pub events: Trace<'t>,
     pub cut: Option<u32>,
 }
 
-/// The events of a trace text, in either format, that may be cut off behind its first line. Where it is no front of a trace, the fault names
+/// The events of a trace text, in either format, that may be cut off after its first line. Where it is no front of a trace, the fault names
 /// its line. The events stay in the text: no memory is taken.
 pub fn read_front(text: &[u8], cars: u8) -> Result<Front<'_>, TraceFault>
     ensures { FrontAnswers cars text.now result }
@@ -96,7 +96,7 @@ fn is_first_line(line: &[u8], format: Format) -> bool
     line == text.as_slice()
 }
 
-// Whether it is the last line, behind so many events.
+// Whether it is the last line, after so many events.
 fn is_last_line(line: &[u8], count: usize) -> bool
     ensures { IsTrue result ↔ (line.now ≡ last_line count) }
 {
@@ -107,7 +107,7 @@ fn is_last_line(line: &[u8], count: usize) -> bool
     }
 }
 
-/// The events of the lines behind a first line, the last of which may be cut off.
+/// The events of the lines after a first line, the last of which may be cut off.
 pub fn read_events(format: Format, cars: u8, text: &[u8]) -> Result<Front<'_>, TraceFault>
     requires { length (first_line format ++ (10 ∷ text.now)) ≤ greatest_trace }
     ensures { FrontAnswers cars (first_line format ++ (10 ∷ text.now)) result }

@@ -26,7 +26,7 @@ impl Short {
     }
 }
 
-// A short line at the front, and what stands behind its line feed. It is read without a search for its end.
+// A short line at the front, and what follows its line feed. It is read without a search for its end.
 #[inline(always)]
 pub(crate) fn short_line(text: &[u8]) -> Option<(Short, &[u8])>
     ensures { (format : Format) (cars : ℕ)

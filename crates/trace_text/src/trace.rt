@@ -173,7 +173,7 @@ impl<'a> Events<'a> {
     }
 }
 
-// The event of the first line, and the text behind it.
+// The event of the first line, and the text after it.
 #[inline(always)]
 fn first_event(format: Format, cars: u8, text: &[u8]) -> (TraceEvent, &[u8])
     requires { (e : EventOf) × (behind : List ℕ) × IsTraced format cars e

@@ -142,7 +142,7 @@ fn write_fields<W: Sink>(
     Ok(())
 }
 
-// Writes a refresh, behind the presses and gatherings of the calls that it entered, and answers how many lines these are.
+// Writes a refresh, after the presses and gatherings of the calls that it entered, and answers how many lines these are.
 fn write_refresh<W: Sink>(
     waiting: &mut Waiting,
     sink: &mut W,
@@ -214,7 +214,7 @@ pub fn write_trace<W: Sink>(entries: &[Entry], sink: &mut W) -> Result<(), Trace
     Ok(write_all(entries, sink)?)
 }
 
-// The same, with the sink's fault.
+// Writes the trace of entries; the fault is the sink's.
 fn write_all<W: Sink>(entries: &[Entry], sink: &mut W) -> Result<(), SinkFault>
     ensures { Wrote result (W.contents sink.old) (W.contents sink.new) (W.has_failed sink.old)
         (W.has_failed sink.new) (text_of_entries entries.now) }

@@ -37,7 +37,7 @@ fn press_each(desk: &Desk, panel: PanelPass) -> (PanelPass, [bool; 4])
     (panel, [first, again, other, own])
 }
 
-// The same, of the last of all panels: whether all presses are answered so.
+// The last of all panels makes these presses: whether all are answered so.
 fn press_last(desk: &Desk, panels: &mut Vec<PanelPass>) -> bool
     requires floors { desk.now.floors ≡ FLOORS }
     requires panels { AreAllPanels desk.now panels.old.items }

@@ -59,7 +59,7 @@ fn readings(verified: &Verified, core: &Core) -> [i128; 5]
     ]
 }
 
-/// Each call: a refresh of how many cars, whether a scan of car 1 is open, and how many cars run behind its commit; then what reads the group.
+/// Each call: a refresh of how many cars, whether a scan of car 1 is open, and how many cars run after its commit; then what reads the group.
 pub fn all<R: Print>(
     rt: &R,
     alloc: Global,

@@ -37,7 +37,7 @@ pub fn fields(run_limit: u8) -> Fields
     }
 }
 
-/// How many denials a commit has, how many cars run on behind a refresh, what lies in its ranges, NOW behind a step of the plant, and how
+/// How many denials a commit has, how many cars run on after a refresh, what lies in its ranges, NOW after a step of the plant, and how
 /// many cars that has.
 pub fn answers() -> [i128; 6] {
     let up = CarOutputs {

@@ -16,7 +16,7 @@ fn range(lo: i128, hi: i128) -> Interval
     Interval { lo, hi }
 }
 
-/// The lower and the upper end of each result, whether a range that stands in itself does so, and the lower end of what is above 3.
+/// The lower and the upper end of each result, whether a range that is in itself does so, and the lower end of what is above 3.
 pub fn ranges() -> [i128; 22] {
     let add = range(0, 9).add(range(1, 1));
     let sub = range(0, 9).sub(range(0, 9));

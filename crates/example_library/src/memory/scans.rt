@@ -9,7 +9,7 @@ use scan_task::{Stepped, Store, Verified, finish, step};
 use std::alloc::{AllocError, Global};
 use std::io::Print;
 
-/// The scan goes to its end: whether it goes on behind a step, and the steps from there.
+/// The scan goes to its end: whether it goes on after a step, and the steps from there.
 pub fn run_out(verified: &Verified, task: u8, store: &mut Store) -> (bool, u32)
     requires { IsOf verified.now.config task store.old }
     ensures { IsOf verified.now.config task store.new }

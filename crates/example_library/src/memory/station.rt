@@ -58,7 +58,7 @@ fn close<G: Naming>(station: Station<G>, passes: Vec<TaskPass<G>>, pass: Refresh
     entries
 }
 
-// Two scans of the first task, one of each task, one of the first that finds the journal full behind its commit, and one that finds it full.
+// Two scans of the first task, one of each task, one of the first that finds the journal full after its commit, and one that finds it full.
 fn scans<G: Naming, R: Print + Wait>(
     rt: &R,
     station: &Station<G>,
@@ -131,7 +131,7 @@ fn in_station<G: Naming, R: Print + Wait>(
     }
 }
 
-// The same, of a program with as many floors as the collector has.
+// The station of a program with as many floors as the collector has, and each of its calls.
 fn over<R: Print + Wait>(
     rt: &R,
     alloc: Global,
@@ -171,7 +171,7 @@ fn once<R: Print + Wait>(
     }
 }
 
-/// The same. What is refused memory is done once more: a station that is refused takes its program with it.
+/// The station and each of its calls. What is refused memory is done once more: a station that is refused takes its program with it.
 pub fn all<R: Print + Wait>(
     rt: &R,
     alloc: Global,

@@ -8,7 +8,7 @@ use Rattle.cli_host.proofs.request.from_value.Goals.{then-has_option-via-then-ha
 cut : {x y : List ℕ} {xs ys : List (List ℕ)} → x ∷ xs ≡ y ∷ ys → (x ≡ y) × (xs ≡ ys)
 cut e = (cc, cc)
 
--- words apart behind the value
+-- words apart after the value
 behind : (option : List ℕ) (words : List (List ℕ)) (first : List ℕ) (rest : List (List ℕ)) (value : List ℕ) (others : List (List ℕ)) (other : Option (List ℕ)) → words ≡ first ∷ rest → IsBehind option words value others other
     → IsApart option rest others other
 behind option words first rest value others other e h = subst (λ ws. IsApart option ws others other) (sym (cut (sym e ∙ h.are)).1) h.apart

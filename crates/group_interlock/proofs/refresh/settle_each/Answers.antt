@@ -14,20 +14,20 @@ use Rattle.group_spec.specs.declared.image.Motor.TheVariants.{Up}
 use Rattle.group_interlock.specs.Beside.{settled_beside}
 use Rattle.group_interlock.proofs.refresh.settle_each.Goals as goal
 
--- what stands past the end of a slice
+-- what is past the end of a slice
 abbrev no_car : CarFields
 no_car = record { pos = 0; level = false; top = false; bottom = false; locked = false; opened = false }
 
 abbrev no_outputs : CarOutputs
 no_outputs = record { motor = Up; opens = false }
 
--- an item of a part behind
+-- an item of a part after
 same_item : (xs ys : List CarOutputs) (i : ℕ) → drop i xs ≡ drop i ys → get_or xs i no_outputs ≡ get_or ys i no_outputs
 same_item xs ys i is =
     let at : i + 0 ≡ i = omega arith in
     ap (λ n. get_or xs n no_outputs) (sym at) ∙ sym (get_or-drop i xs 0 no_outputs) ∙ ap (λ l. get_or l 0 no_outputs) is ∙ get_or-drop i ys 0 no_outputs ∙ ap (λ n. get_or ys n no_outputs) at
 
--- the rest behind one more
+-- the rest after one more
 next_rest : (xs ys : List CarOutputs) (i : ℕ) → drop i xs ≡ drop i ys → drop (i + 1) xs ≡ drop (i + 1) ys
 next_rest xs ys i is = sym (drop-drop 1 i xs) ∙ ap (drop 1) is ∙ drop-drop 1 i ys
 

@@ -2,7 +2,7 @@ use Rattle.std.proofs.Common.{length, ◌-◌, ◌≤◌, take}
 use Rattle.trace_text.specs.Reading.{Without}
 use Rattle.trace_text.proofs.parts.split_part.Given as goal
 
--- no space stands before the place
+-- no space comes before the place
 abbrev pub invariant-bytes : goal.invariant-bytes
 invariant-bytes l = record {
   within : l.end ≤ length l.text;

@@ -5,7 +5,7 @@ use Rattle.trace_text.specs.Parts.{short_event}
 use Rattle.trace_text.proofs.Traces.{HasRead, HasReadLines, lines_read_more, read_behind_first, answers_ended, front_whole, front_so_far, behind_first}
 use Rattle.trace_text.proofs.read.read_events.Goals as goal
 
--- the text behind a line is shorter
+-- the text after a line is shorter
 shorter : (line behind rest : List ℕ) → rest ≡ line ++ (10 ∷ behind) → length behind < length rest
 shorter line behind rest e = omega (arith, ap length e, length-append line (10 ∷ behind))
 
