@@ -3,16 +3,12 @@ use Rattle.std.specs.Prelude.{◌≡◌, List, [], ◌∷◌, ◌++◌, flat_map
 use Rattle.il_syntax.specs.declared.tree.Config.{Config}
 use Rattle.group_spec.specs.declared.event.Event.{Event}
 use Rattle.group_spec.specs.Replies.{Reply}
-use Rattle.group_spec.specs.World.{World, Halt, happens, run, and_then, opening}
+use Rattle.group_spec.specs.World.{World, Halt, happens, run, and_then}
 use Rattle.group_laws.specs.Runs.{RunsWell, WorldWellFrom, Begins}
 
 -- these events led from one world to another, and were answered so (own rule)
 abbrev pub IsHistoryFrom : Config → World → List Event → List Reply → World → Type 0
 IsHistoryFrom c base past answers w = run c base [] past ≡ Ok (w, answers)
-
--- the same from the opening (own rule)
-abbrev pub IsHistory : Config → List Event → List Reply → World → Type 0
-IsHistory c past answers w = IsHistoryFrom c (opening c) past answers w
 
 -- Events that follow a history run to their end, in a world to which the history and they lead, and which is well (own rule).
 pub record RunsOnWell (c : Config) (base : World) (past : List Event) (answers : List Reply) (w : World) (events : List Event) : Type 0 where
