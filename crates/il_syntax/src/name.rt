@@ -50,6 +50,7 @@ fn keep(alloc: Global, text: &str) -> Result<Kept, AllocError>
 
 impl Name {
     /// A name of this text. One of at most 32 bytes takes no memory.
+    #[inline(always)]
     pub fn of(alloc: Global, text: &str) -> Result<Name, AllocError>
         ensures { IfOk result (λ n. n ≡ text.now) }
     {

@@ -263,6 +263,7 @@ pub fn operand_for(known: Option<Known>, resolved: Resolved) -> Operand
 }
 
 /// The operand of LD, and of a short form.
+#[inline(always)]
 pub fn loaded(here: &Here, from: &Reference) -> Operand
     ensures { result ≡ operand_of (program_names here.now.scope.config
         here.now.scope.unit.name.name) (λ l. typed (natural (Constant l)) l)
@@ -272,6 +273,7 @@ pub fn loaded(here: &Here, from: &Reference) -> Operand
 }
 
 /// An operand beside a current result.
+#[inline(always)]
 pub fn beside(here: &Here, from: &Reference) -> Operand
     ensures { result ≡ operand_of (program_names here.now.scope.config
         here.now.scope.unit.name.name) untyped

@@ -141,6 +141,7 @@ pub fn wanted_fault<S: Scope>(scope: &S, reference: &Reference, wanted: Elementa
 }
 
 /// What an operand breaks where a type is wanted, or where none is known.
+#[inline(always)]
 pub fn maybe_wanted_fault<S: Scope>(
     scope: &S,
     reference: &Reference,

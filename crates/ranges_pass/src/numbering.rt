@@ -99,6 +99,7 @@ fn add(
 }
 
 // Gives the variable that a store or a load names a number, if it has a range and none yet.
+#[inline(always)]
 fn add_target(
     numbering: &mut Numbering,
     alloc: Global,

@@ -32,6 +32,7 @@ pub fn operand<S: Scope>(
 }
 
 /// The operand of LD and of a short form.
+#[inline(always)]
 pub fn loaded_operand<S: Scope>(scope: &S, row: &Row, reference: &Reference) -> Option<Known>
     requires { IsRowOf (S.names scope.now) row.now }
     ensures fine { IsFineResult result }
