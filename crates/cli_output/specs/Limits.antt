@@ -21,6 +21,8 @@ use Rattle.group_spec.specs.Snapshot.{program_of, task_name}
 use Rattle.cli_output.specs.declared.limits.Measure.{Measure}
 use Rattle.cli_output.specs.declared.limits.Measure.TheVariants.{Instructions, Nesting}
 use Rattle.cli_output.specs.declared.limits.Usage.{Usage}
+use Rattle.il_syntax.specs.declared.limits.TheConstants.{LONGEST_TEXT, MOST_UNITS, MOST_INSTRUCTIONS, MOST_OPEN}
+use Rattle.il_statics.specs.declared.limits.TheConstants.{MOST_TASK_SLOTS, LONGEST_CHAIN}
 
 -- `limit NAME used N of N`
 abbrev pub limit_words : List ℕ → ℕ → ℕ → List ℕ
@@ -98,7 +100,7 @@ chain_through used lengths from to = if holds used from to then number_at length
 
 -- a unit, and after it the longest chain that goes on at one that it uses; a chain has 16 units at most
 abbrev pub chain_from : List (List Bool) → List ℕ → ℕ → ℕ → ℕ
-chain_from used lengths count from = min (greatest_below count (λ to. chain_through used lengths from to) + 1) 16
+chain_from used lengths count from = min (greatest_below count (λ to. chain_through used lengths from to) + 1) LONGEST_CHAIN
 
 -- the longest chains from each unit on, of so many units at most
 unfoldable pub chains : List (List Bool) → ℕ → ℕ → List ℕ
@@ -111,13 +113,13 @@ longest_of lengths count = greatest_below count (λ from. number_at lengths from
 
 -- the units of the longest chain of uses, the first counted (2.5)
 abbrev pub longest_chain : List (List Bool) → ℕ → ℕ
-longest_chain used count = longest_of (chains used count 16) count
+longest_chain used count = longest_of (chains used count LONGEST_CHAIN) count
 
 -- SLOTS
 
 -- the row of so many slots of a task
 abbrev pub slots_row : Form → ℕ → ℕ → List ℕ
-slots_row form task slots = limit_row_in form (codes "slots") slots 4096 (task_name task)
+slots_row form task slots = limit_row_in form (codes "slots") slots MOST_TASK_SLOTS (task_name task)
 
 -- the slots of a task, its own and those of the functions that it reaches
 unfoldable pub slots_of_unit : Form → Config → Option ProgramUnit → ℕ → List ℕ
@@ -161,12 +163,12 @@ work_rows form c = work_row form (most_of None (map (work_use c) c.units))
 
 -- of a text of so many bytes, and of its units
 unfoldable pub text_limits : Form → Config → ℕ → List ℕ
-text_limits form c bytes = limit_row form (codes "bytes") bytes 262144 ++ limit_row form (codes "units") (length c.units) 64
+text_limits form c bytes = limit_row form (codes "bytes") bytes LONGEST_TEXT ++ limit_row form (codes "units") (length c.units) MOST_UNITS
 
 -- and of the bodies of its units
 unfoldable pub body_limits : Form → Config → List ℕ
 body_limits form c =
-    most_row form (codes "instructions") (most_of None (map (unit_use Instructions) c.units)) 4096 ++ most_row form (codes "nesting") (most_of None (map (unit_use Nesting) c.units)) 16
+    most_row form (codes "instructions") (most_of None (map (unit_use Instructions) c.units)) MOST_INSTRUCTIONS ++ most_row form (codes "nesting") (most_of None (map (unit_use Nesting) c.units)) MOST_OPEN
 
 abbrev pub unit_limits : Form → Config → ℕ → List ℕ
 unit_limits form c bytes = text_limits form c bytes ++ body_limits form c
@@ -174,9 +176,9 @@ unit_limits form c bytes = text_limits form c bytes ++ body_limits form c
 -- of chains, slots and costs
 unfoldable pub run_limits : Form → Program → List ℕ
 run_limits form p =
-    limit_row form (codes "chain") (longest_chain (uses p.config false) (length p.config.units)) 16
+    limit_row form (codes "chain") (longest_chain (uses p.config false) (length p.config.units)) LONGEST_CHAIN
     ++ (slots_rows form p.config
-    ++ (limit_row form (codes "globals") (length (global_cells p.config)) 4096 ++ most_row form (codes "cost") (most_of None (map cost_use (unit_lines p.config.units p.costs))) 1000000))
+    ++ (limit_row form (codes "globals") (length (global_cells p.config)) MOST_TASK_SLOTS ++ most_row form (codes "cost") (most_of None (map cost_use (unit_lines p.config.units p.costs))) 1000000))
 
 -- of a program whose text has so many bytes, and its work, which has no limit of its own
 abbrev pub limits_rows : Form → Program → ℕ → List ℕ

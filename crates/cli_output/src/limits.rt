@@ -13,10 +13,13 @@ ghost use Rattle.group_spec.specs.Snapshot.{program_of, task_name};
 ghost use Rattle.cli_output.specs.Limits.{chain_from, chain_through, chains, cost_use, limit_line, limit_line_in, limit_members, limit_members_in, limit_row, limit_row_in, limit_words, limits_rows, longest_chain, longest_of, run_limits, measured, most_row, most_of, slots_rows, slots_row, task_slots, text_limits, body_limits, unit_limits, unit_use, use_shown, with_more, work_use, work_line, work_members, work_rows};
 ghost use Rattle.il_work_laws.specs.Work.{most_work};
 ghost use Rattle.load_work.specs.Sizes.{capped};
+ghost use Rattle.il_statics.specs.declared.limits.TheConstants.{LONGEST_CHAIN};
 
 use base_json::form::Form;
 use base_json::object::Object;
 use base_lists::Items;
+use il_statics::limits::{LONGEST_CHAIN, MOST_TASK_SLOTS};
+use il_syntax::limits::{LONGEST_TEXT, MOST_INSTRUCTIONS, MOST_OPEN, MOST_UNITS};
 use il_syntax::tree::{Config, Instruction, Step, Unit};
 use load_order::relation::{Relation, holds};
 use load_order::uses::uses;
@@ -24,20 +27,6 @@ use load_scope::Scoped;
 use load_work::works;
 use scan_task::Verified;
 use std::alloc::{AllocError, Global};
-
-const MOST_BYTES: usize = 262_144;
-
-const MOST_UNITS: usize = 64;
-
-const MOST_INSTRUCTIONS: usize = 4096;
-
-const MOST_NESTING: usize = 16;
-
-// The most units of a chain of uses.
-const MOST_CHAIN: usize = 16;
-
-// The most slots of a task, and of the globals.
-const MOST_SLOTS: usize = 4096;
 
 const MOST_COST: usize = 1_000_000;
 
@@ -97,7 +86,7 @@ fn put_text_limits(
     ensures { OnOk result (Puts text.old text.new (text_limits form config.now bytes)) }
 {
     let units = config.units.as_slice();
-    put_limit(alloc, text, form, "bytes", bytes, MOST_BYTES)?;
+    put_limit(alloc, text, form, "bytes", bytes, LONGEST_TEXT)?;
     put_limit(alloc, text, form, "units", units.len(), MOST_UNITS)
 }
 
@@ -121,7 +110,7 @@ fn put_body_limits(
         MOST_INSTRUCTIONS,
     )?;
     let nesting = greatest(units, Measure::Nesting);
-    put_most(alloc, text, form, "nesting", nesting, MOST_NESTING)
+    put_most(alloc, text, form, "nesting", nesting, MOST_OPEN)
 }
 
 // Of chains, slots and costs.
@@ -135,7 +124,7 @@ fn put_run_limits(
     ensures { OnOk result (Puts text.old text.new (run_limits form verified.now)) }
 {
     let chain = longest_chain(alloc, verified.names())?;
-    put_limit(alloc, text, form, "chain", chain, MOST_CHAIN)?;
+    put_limit(alloc, text, form, "chain", chain, LONGEST_CHAIN)?;
     put_slots(alloc, text, form, verified)?;
     put_limit(
         alloc,
@@ -143,7 +132,7 @@ fn put_run_limits(
         form,
         "globals",
         verified.globals().len(),
-        MOST_SLOTS,
+        MOST_TASK_SLOTS,
     )?;
     put_most(alloc, text, form, "cost", most_costly(verified), MOST_COST)
 }
@@ -411,10 +400,10 @@ fn longest_of(lengths: &Items<usize>, count: usize) -> usize
 // The longest chains from each unit on.
 #[tactic(auto, unfolding(crate::specs::Limits::chains))]
 fn chains(alloc: Global, used: &Relation, count: usize) -> Result<Items<usize>, AllocError>
-    ensures { IfOk result (λ lengths. lengths ≡ chains used.now count 16) }
+    ensures { IfOk result (λ lengths. lengths ≡ chains used.now count LONGEST_CHAIN) }
 {
     let mut lengths = Items::new(alloc);
-    'rounds: for _round in 0..MOST_CHAIN {
+    'rounds: for _round in 0..LONGEST_CHAIN {
         lengths = longer(alloc, used, &lengths, count)?;
     }
     Ok(lengths)
@@ -445,7 +434,7 @@ fn chain_from(used: &Relation, lengths: &Items<usize>, count: usize, from: usize
     'units: for to in 0..count {
         behind = behind.max(chain_through(used, lengths, from, to));
     }
-    behind.saturating_add(1).min(MOST_CHAIN)
+    behind.saturating_add(1).min(LONGEST_CHAIN)
 }
 
 // The longest chain that goes on at a unit, if it is used.
@@ -514,7 +503,7 @@ fn put_slots_row(
 {
     let mut name = String::new(alloc);
     put_task(&mut name, task)?;
-    put_limit_in(alloc, text, form, "slots", slots, MOST_SLOTS, &name)
+    put_limit_in(alloc, text, form, "slots", slots, MOST_TASK_SLOTS, &name)
 }
 
 // The name of a task: 0 is GROUP, k is CARk.

@@ -9,11 +9,12 @@ ghost use Rattle.il_syntax.specs.Text.{AreTokens};
 ghost use Rattle.il_syntax.specs.Grammar.{AfterLines, SpellsConfig};
 ghost use Rattle.load_tree.specs.Refused.{IsSmall};
 ghost use Rattle.il_fault_laws.specs.Faults.{IsFaultOfGrammar};
+ghost use Rattle.il_syntax.specs.declared.limits.TheConstants.{LONGEST_TEXT};
 
 /// A law: a text that has tokens has at most one fault of the grammar, and none where it spells a configuration within the limits.
 pub fn one_fault_of_grammar()
     ensures once { (text : List ℕ) (ts : List Token) (e f : Refusal) → AreTokens text 0 ts
-        → length text ≤ 262144
+        → length text ≤ LONGEST_TEXT
         → IsFaultOfGrammar text ts e → IsFaultOfGrammar text ts f → e ≡ f }
     ensures none { (text : List ℕ) (ts : List Token) (c : Config) (e : Refusal)
         → AreTokens text 0 ts

@@ -12,6 +12,7 @@ use Rattle.il_syntax.specs.declared.tree.Form.{Form}
 use Rattle.il_syntax.specs.declared.tree.Form.TheVariants.{Scalar as OfScalar, Array as OfArray, Block as OfBlock}
 use Rattle.il_syntax.specs.declared.tree.Instruction.TheVariants.{Invoke}
 use Rattle.il_statics.specs.Names.{Spelling, BlockVariables, block_variables, own_block_variables, named_forms, is_function, function_named, function_block_named, program_named}
+use Rattle.il_statics.specs.declared.limits.TheConstants.{MOST_TASK_SLOTS, LONGEST_CHAIN}
 
 -- USES
 
@@ -44,7 +45,7 @@ pub data IsRecursive (config : Config) (place : Place) : Type 0 where
 
 -- 46: a unit with a chain of uses that, itself counted, has more than 16 units and names none twice, at its heading (own rule)
 pub data HasLongChain (config : Config) (place : Place) : Type 0 where
-  long_chain : (unit : ProgramUnit) (chain : List ProgramUnit) → Contains config.units unit → IsChain config unit chain → NamesNoneTwice (unit ∷ chain) → 16 < length (unit ∷ chain) → place ≡ unit.place → HasLongChain config place
+  long_chain : (unit : ProgramUnit) (chain : List ProgramUnit) → Contains config.units unit → IsChain config unit chain → NamesNoneTwice (unit ∷ chain) → LONGEST_CHAIN < length (unit ∷ chain) → place ≡ unit.place → HasLongChain config place
 
 -- SLOTS
 
@@ -92,5 +93,5 @@ pub record AreFunctionsOf (config : Config) (program : ProgramUnit) (functions :
 -- 12: more than 4096 slots of a task, at its PROGRAM line, or of the globals, at their VAR_GLOBAL (own rule)
 pub data HasTooManySlots (config : Config) (place : Place) : Type 0 where
   -- the program's, and once each those of functions that it reaches
-  of_task : (line : ProgramLine) (program : ProgramUnit) (functions : List ProgramUnit) → Contains config.programs line → program_named config line.program.name ≡ Some program → AreFunctionsOf config program functions → 4096 < unit_slots config program + sum_by (function_slots config) functions → place ≡ line.place → HasTooManySlots config place
-  of_globals : 4096 < global_slots config → config.globals_place ≡ Some place → HasTooManySlots config place
+  of_task : (line : ProgramLine) (program : ProgramUnit) (functions : List ProgramUnit) → Contains config.programs line → program_named config line.program.name ≡ Some program → AreFunctionsOf config program functions → MOST_TASK_SLOTS < unit_slots config program + sum_by (function_slots config) functions → place ≡ line.place → HasTooManySlots config place
+  of_globals : MOST_TASK_SLOTS < global_slots config → config.globals_place ≡ Some place → HasTooManySlots config place

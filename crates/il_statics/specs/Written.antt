@@ -11,6 +11,7 @@ use Rattle.il_syntax.specs.ElementaryTypes.{is_whole}
 use Rattle.il_syntax.specs.Grammar.{greatest_depth}
 use Rattle.il_statics.specs.Names.{Spelling, is_program}
 use Rattle.il_statics.specs.Declarations.{unit_names, names_in, all_declarations}
+use Rattle.il_syntax.specs.declared.limits.TheConstants.{MOST_INSTRUCTIONS, MOST_OPEN}
 
 -- a name is a word: it has neither a point, nor a bracket, nor a line feed, and is not empty (2.1.2)
 pub record IsWord (name : Spelling) : Type 0 where
@@ -32,8 +33,8 @@ pub record IsWritten (c : Config) : Type 0 where
 
 -- no more than 4096 instructions in each unit: a limit of a text (own rule)
 abbrev pub HasFewInstructions : Config → Type 0
-HasFewInstructions c = All (λ (u : ProgramUnit). length u.body.steps ≤ 4096) c.units
+HasFewInstructions c = All (λ (u : ProgramUnit). length u.body.steps ≤ MOST_INSTRUCTIONS) c.units
 
 -- in no body more than 16 parentheses are open at once: a limit of a text (own rule)
 abbrev pub IsNested : Config → Type 0
-IsNested c = All (λ (u : ProgramUnit). greatest_depth 0 u.body.steps ≤ 16) c.units
+IsNested c = All (λ (u : ProgramUnit). greatest_depth 0 u.body.steps ≤ MOST_OPEN) c.units

@@ -51,6 +51,7 @@ use Rattle.il_syntax.specs.declared.tree.ProgramLine.{ProgramLine}
 use Rattle.il_syntax.specs.declared.tree.Config.{Config}
 use Rattle.il_syntax.specs.Text.{AreTokens, name_of, is_plain_decimal}
 use Rattle.il_syntax.specs.Words.{keyword_of, IsName}
+use Rattle.il_syntax.specs.declared.limits.TheConstants.{LONGEST_TEXT, MOST_UNITS, MOST_INSTRUCTIONS, MOST_OPEN}
 
 -- what is at the front of a list of tokens, and the tokens after it (own rule)
 abbrev pub Front : Type 1
@@ -470,7 +471,7 @@ SpellsNone text = (c : Config) → Spells text c → ⊥
 
 -- The limits of a text: its bytes, its units, the instructions of a unit, each `)` counted, and open parentheses (own rule).
 pub record IsWithinLimits (text : List ℕ) (c : Config) : Type 0 where
-  pub bytes : length text ≤ 262144
-  pub units : length c.units ≤ 64
-  pub instructions : All (λ (u : ProgramUnit). length u.body.steps ≤ 4096) c.units
-  pub nesting : All (λ (u : ProgramUnit). greatest_depth 0 u.body.steps ≤ 16) c.units
+  pub bytes : length text ≤ LONGEST_TEXT
+  pub units : length c.units ≤ MOST_UNITS
+  pub instructions : All (λ (u : ProgramUnit). length u.body.steps ≤ MOST_INSTRUCTIONS) c.units
+  pub nesting : All (λ (u : ProgramUnit). greatest_depth 0 u.body.steps ≤ MOST_OPEN) c.units

@@ -7,6 +7,7 @@ use Rattle.load_order.specs.Related.{holds, closed}
 use Rattle.load_order.specs.Used.{uses}
 use Rattle.load_order.specs.Chained.{is_long}
 use Rattle.load_order.specs.Counted.{with_declared, counts, is_over}
+use Rattle.il_statics.specs.declared.limits.TheConstants.{MOST_TASK_SLOTS}
 
 -- the relation of the units that reach which
 abbrev pub reached : Config → List (List Bool)
@@ -36,7 +37,7 @@ LinesBreak config reached counted = Below (λ at line. When (is_over config reac
 -- globals with so many slots, where these are too many
 pub record GlobalsBreak (config : Config) (total : ℕ) (number : ℕ) (place : Place) : Type 0 where
   pub stands : config.globals_place ≡ Some place
-  pub over : nat_lt 4096 total ≡ true
+  pub over : nat_lt MOST_TASK_SLOTS total ≡ true
   pub is : number ≡ 12
 
 -- all of slots

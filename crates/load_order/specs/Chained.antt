@@ -3,6 +3,7 @@ use Rattle.std.specs.Prelude.{◌≡◌, ℕ, zero, suc, ◌≤◌, nat_eq, Bool
 use Rattle.load_order.specs.Related.{any_below, holds}
 use Rattle.load_order.specs.Used.{is_among}
 use Rattle.load_order.specs.declared.dead_ends.DeadEnd.{DeadEnd}
+use Rattle.il_statics.specs.declared.limits.TheConstants.{LONGEST_CHAIN}
 
 -- whether so many uses lead on from a unit, to none on the way to it and to none twice
 abbrev pub leads_on : ℕ → List (List Bool) → ℕ → List ℕ → ℕ → Bool
@@ -11,7 +12,7 @@ leads_on count uses (suc left) before from = any_below count (λ to. holds uses 
 
 -- whether a chain of more than 16 units, itself counted, leads from a unit
 unfoldable pub is_long : ℕ → List (List Bool) → ℕ → Bool
-is_long count uses unit = leads_on count uses 16 [] unit
+is_long count uses unit = leads_on count uses LONGEST_CHAIN [] unit
 
 -- whether each number of a list is one of another
 abbrev pub are_among : List ℕ → List ℕ → Bool

@@ -14,6 +14,7 @@ use Rattle.load_scope.specs.declared.entry.VariableType.TheVariants.{Scalar, Arr
 use Rattle.load_scope.specs.Views.{passes, type_of, program_number}
 use Rattle.load_order.specs.declared.variables.Variables.{Variables}
 use Rattle.load_order.specs.Related.{holds}
+use Rattle.il_statics.specs.declared.limits.TheConstants.{MOST_TASK_SLOTS}
 
 -- a number of slots, at most one more than a task may have
 abbrev pub capped : ℕ → ℕ
@@ -97,7 +98,7 @@ task_count config reached counted program (suc at) = capped (task_count config r
 -- whether a PROGRAM line's program needs too many slots
 abbrev pub is_over_of : Config → List (List Bool) → List ℕ → Option ℕ → Bool
 is_over_of config reached counted None = false
-is_over_of config reached counted (Some program) = nat_lt 4096 (task_count config reached counted program (length config.units))
+is_over_of config reached counted (Some program) = nat_lt MOST_TASK_SLOTS (task_count config reached counted program (length config.units))
 
 abbrev pub is_over : Config → List (List Bool) → List ℕ → ProgramLine → Bool
 is_over config reached counted line = is_over_of config reached counted (program_number config line.program.name)

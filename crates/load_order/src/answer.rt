@@ -15,10 +15,11 @@ use crate::dead_ends::{DeadEnds, no_ends};
 use crate::fault::OrderFault;
 use crate::limits::{Limits, limits_of};
 use crate::relation::{Relation, closed, holds};
-use crate::slots::{MOST, counts, is_over, unit_counts, with_variables};
+use crate::slots::{counts, is_over, unit_counts, with_variables};
 use crate::uses::{are_named, uses};
 use crate::variables::{all_listed, units_listed};
 use base_lists::Items;
+use il_statics::limits::MOST_TASK_SLOTS;
 use il_statics::{Found, PhaseFault, earlier, fault_if};
 use il_syntax::tree::Place;
 use load_scope::Scoped;
@@ -184,7 +185,7 @@ fn globals_fault(names: &Scoped, total: usize) -> Option<Found<OrderFault>>
     ensures { IsLeast result (GlobalsBreak names.now total) }
 {
     match names.config().globals_place {
-        Some(place) => fault_if(total > MOST, OrderFault::TooMany, place),
+        Some(place) => fault_if(total > MOST_TASK_SLOTS, OrderFault::TooMany, place),
         None => None,
     }
 }

@@ -12,13 +12,11 @@ use crate::relation::{Relation, holds};
 use crate::uses::is_among;
 use arrayvec::ArrayVec;
 use base_lists::Items;
+use il_statics::limits::LONGEST_CHAIN;
 use std::alloc::{AllocError, Global};
 
-/// The most units of a chain of uses (own rule).
-pub const LONGEST: usize = 16;
-
 // The units on the way of a search.
-type Way = ArrayVec<usize, LONGEST>;
+type Way = ArrayVec<usize, LONGEST_CHAIN>;
 
 /// Whether a chain of more than 16 units, itself counted, that names none twice leads from a unit. Dead ends that are found are noted.
 pub fn is_long(
@@ -37,7 +35,7 @@ pub fn is_long(
     ensures is { IfOk result (λ long. long ≡ is_long (length ends.old.items) uses.now unit) }
 {
     let mut way = ArrayVec::new();
-    let shut = leads_on(alloc, uses, limits, ends, LONGEST, &mut way, unit)?;
+    let shut = leads_on(alloc, uses, limits, ends, LONGEST_CHAIN, &mut way, unit)?;
     Ok(shut.is_none())
 }
 
@@ -51,7 +49,7 @@ fn leads_on(
     way: &mut Way,
     from: usize,
 ) -> Result<Option<Items<usize>>, AllocError>
-    requires room { length way.old.items + left ≤ 16 }
+    requires room { length way.old.items + left ≤ LONGEST_CHAIN }
     requires unit { from < length ends.old.items }
     requires away { is_among way.old.items from ≡ false }
     requires count { length ends.old.items ≡ length uses.now }

@@ -9,11 +9,11 @@ ghost use Rattle.load_order.specs.Used.{is_among};
 ghost use Rattle.load_order.specs.Chained.{AreAmong, leads_on};
 ghost use Rattle.load_order.specs.Bounded.{AreLimits, is_left, users_left, used_left, others_left, uses_made, uses_many, is_used_by_few, reached_of, named_of};
 
-use crate::chains::LONGEST;
 use crate::relation::{Relation, copied, holds, is_set};
 use crate::slots::number_at;
 use crate::uses::is_among;
 use base_lists::Items;
+use il_statics::limits::LONGEST_CHAIN;
 use std::alloc::{AllocError, Global};
 
 /// What bounds chains of uses: which units reach which, and a cover of the uses.
@@ -75,7 +75,7 @@ fn uses_made(uses: &Relation, count: usize, from: usize) -> usize
 fn smallest(uses: &Relation, count: usize, made: &[usize]) -> usize {
     let mut best = 0;
     let mut least = usize::MAX;
-    for most in 0..LONGEST {
+    for most in 0..LONGEST_CHAIN {
         let size = size(uses, count, made, most);
         if size < least {
             least = size;

@@ -8,6 +8,7 @@ ghost use Rattle.load_order.specs.Counted.{capped, standard_slots, number_at, bl
 use crate::relation::{Relation, holds};
 use crate::variables::Variables;
 use base_lists::Items;
+use il_statics::limits::MOST_TASK_SLOTS;
 use il_statics::names::StandardBlock;
 use il_statics::standard::words_of;
 use il_syntax::tree::{ProgramLine, Subrange, UnitKind};
@@ -15,21 +16,18 @@ use load_scope::Scoped;
 use load_scope::entry::{BlockType, VariableType};
 use std::alloc::{AllocError, Global};
 
-/// The most slots of a task, and of the globals (own rule).
-pub const MOST: usize = 4096;
-
 // The sum of slots, at most one more than a task may have.
 fn sum(first: usize, second: usize) -> usize
     ensures { result ≡ capped (first + second) }
 {
-    first.saturating_add(second).min(MOST + 1)
+    first.saturating_add(second).min(MOST_TASK_SLOTS + 1)
 }
 
 // So many times these slots, at most one more than a task may have.
 fn times(count: usize, slots: usize) -> usize
     ensures { result ≡ capped (count * slots) }
 {
-    count.saturating_mul(slots).min(MOST + 1)
+    count.saturating_mul(slots).min(MOST_TASK_SLOTS + 1)
 }
 
 /// The slots of each unit by their variables, with those of instances in instances down to a depth.
@@ -90,7 +88,10 @@ fn type_count(depth: usize, counted: &Items<usize>, declared: VariableType) -> u
 fn array_slots(bounds: Subrange) -> usize
     ensures { result ≡ capped (nat_abs (bounds.upper -ℤ bounds.lower) + 1) }
 {
-    let last = bounds.upper.abs_diff(bounds.lower).min(MOST as u64);
+    let last = bounds
+        .upper
+        .abs_diff(bounds.lower)
+        .min(MOST_TASK_SLOTS as u64);
     last as usize + 1
 }
 
@@ -148,7 +149,7 @@ pub fn is_over(
     ensures { result ≡ is_over names.now reached.now counted.now line.now }
 {
     match names.program(line.program.name.as_str()) {
-        Some(program) => task_count(names, reached, counted, program) > MOST,
+        Some(program) => task_count(names, reached, counted, program) > MOST_TASK_SLOTS,
         None => false,
     }
 }

@@ -13,6 +13,7 @@ use Rattle.il_statics.specs.Faults.{IsRefusedBy, BreaksDeclarations, Typing, Ord
 use Rattle.il_semantics.specs.Annotation.{Annotated}
 use Rattle.ranges_pass.specs.Lacking.{BreaksRanges}
 use Rattle.load_budgets.specs.Costs.{IsTooLong}
+use Rattle.il_syntax.specs.declared.limits.TheConstants.{LONGEST_TEXT}
 
 -- The text spells the configuration within the limits.
 pub record IsSpelled (text : List ℕ) (c : Config) : Type 0 where
@@ -58,7 +59,7 @@ SpellsNone text = (c : Config) → IsSpelled text c → ⊥
 
 -- the text is not too long, and it has tokens
 abbrev pub HasTokens : List ℕ → Type 0
-HasTokens text = (length text ≤ 262144) × ((ts : List Token) × AreTokens text 0 ts)
+HasTokens text = (length text ≤ LONGEST_TEXT) × ((ts : List Token) × AreTokens text 0 ts)
 
 -- the numbers of the faults of a text's bytes
 abbrev pub IsNumberOfBytes : ℕ → Type 0
@@ -71,7 +72,7 @@ IsNumberOfGrammar number = (10 ≤ number) × (number ≤ 12)
 -- The text is not too long and has tokens, and this is their fault of the grammar and its limits: with the token that it names no text goes on, and with
 -- those before it some text does. There is one at most.
 pub record HasFaultOfGrammar (text : List ℕ) (refusal : Refusal) : Type 0 where
-  pub short : length text ≤ 262144
+  pub short : length text ≤ LONGEST_TEXT
   pub tokens : List Token
   pub cut : AreTokens text 0 tokens
   pub is : IsFaultOfGrammar text tokens refusal

@@ -18,6 +18,7 @@ use Rattle.il_syntax.specs.Text.{byte_at, hash, begins_word, is_word_byte, is_li
 use Rattle.load_tokens.specs.declared.error.LexicalError.{LexicalError}
 use Rattle.load_tokens.specs.declared.error.LexicalError.TheVariants.{BadByte, OpenComment, BadNumber, NumberTooLarge, BadIdentifier}
 use Rattle.load_tokens.specs.Pieces.{HasNoPiece}
+use Rattle.il_syntax.specs.declared.limits.TheConstants.{LONGEST_TEXT}
 
 -- a lexical error's number
 abbrev pub number_of_error : LexicalError → ℕ
@@ -102,5 +103,5 @@ place_at text i = record { offset = i; line = line_at text i }
 
 -- The fault of the bytes of a text: 6 at its start where it is too long, whatever is in it, else the first lexical error.
 abbrev pub IsFaultOfText : List ℕ → Refusal → Type 0
-IsFaultOfText text (Fault number place) = ((262144 < length text) × (number ≡ 6) × (place ≡ the_start)) ⊎ ((length text ≤ 262144) × IsFirstError text number place)
+IsFaultOfText text (Fault number place) = ((LONGEST_TEXT < length text) × (number ≡ 6) × (place ≡ the_start)) ⊎ ((length text ≤ LONGEST_TEXT) × IsFirstError text number place)
 IsFaultOfText text Memory = ⊥

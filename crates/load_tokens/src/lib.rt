@@ -12,6 +12,7 @@ ghost use Rattle.il_syntax.specs.declared.token.Kind.TheVariants.{Word};
 ghost use Rattle.il_syntax.specs.Text.{IsToken, AreTokens, HasNoTokens, name_of, line_at};
 ghost use Rattle.load_tokens.specs.LexicalErrors.{number_of_error, IsFirstError, IsFaultOfText, the_start, place_at};
 ghost use Rattle.load_tokens.specs.Refused.{IsFault, IsFaultOfBytes, IsMemoryOrFaultOfBytes};
+ghost use Rattle.il_syntax.specs.declared.limits.TheConstants.{LONGEST_TEXT};
 
 mod bytes;
 mod comment;
@@ -28,12 +29,10 @@ use crate::bytes::line_feeds;
 use crate::error::{Misread, TEXT_TOO_LONG};
 use crate::piece::{Piece, Stretch, piece_at};
 pub use il_syntax::fault::Refusal;
-pub use il_syntax::token::{Kind, Sign, Token};
+pub use il_syntax::limits::LONGEST_TEXT;
+use il_syntax::token::{Kind, Sign, Token};
 use il_syntax::tree::Place;
 use std::alloc::Global;
-
-// The length of the longest text that is read, in bytes (own rule).
-const LONGEST_TEXT: usize = 262_144;
 
 // How many bytes of a text there are to a token, as a first guess: fewer only where it has no comments.
 const BYTES_OF_TOKEN: usize = 4;
@@ -42,7 +41,7 @@ const BYTES_OF_TOKEN: usize = 4;
 fn refusal(text: &[u8], at: usize, line: u32, misread: Misread) -> Refusal
     requires order { at ≤ misread.at }
     requires within { misread.at ≤ length text.now }
-    requires short { length text.now ≤ 262144 }
+    requires short { length text.now ≤ LONGEST_TEXT }
     requires few { line ≤ 262145 }
     requires is_line { line ≡ line_at text.now at }
     ensures number { IsFaultOfBytes result }
@@ -68,11 +67,11 @@ fn refusal(text: &[u8], at: usize, line: u32, misread: Misread) -> Refusal
 /// whatever is in it (own rule).
 pub fn tokens(alloc: Global, text: &[u8]) -> Result<Vec<Token>, Refusal>
     ensures found { IfOk result (λ v. AreTokens text.now 0 v.items) }
-    ensures short { IfOk result (λ v. length text.now ≤ 262144) }
+    ensures short { IfOk result (λ v. length text.now ≤ LONGEST_TEXT) }
     ensures only { IfOk result (λ v. (ts : List Token) → AreTokens text.now 0 ts → ts ≡ v.items) }
-    ensures too_long { 262144 < length text.now → result ≡ Err (Fault 6 the_start) }
-    ensures number { IfErr result (λ e. length text.now ≤ 262144 → IsMemoryOrFaultOfBytes e) }
-    ensures refused { IsFault result → length text.now ≤ 262144 → HasNoTokens text.now }
+    ensures too_long { LONGEST_TEXT < length text.now → result ≡ Err (Fault 6 the_start) }
+    ensures number { IfErr result (λ e. length text.now ≤ LONGEST_TEXT → IsMemoryOrFaultOfBytes e) }
+    ensures refused { IsFault result → length text.now ≤ LONGEST_TEXT → HasNoTokens text.now }
     ensures fault { IfErr result (λ e. (e ≡ Memory) ⊎ IsFaultOfText text.now e) }
 {
     if text.len() > LONGEST_TEXT {

@@ -22,6 +22,7 @@ use Rattle.load_lines.specs.declared.lead.Lead.TheVariants as lead
 use Rattle.load_tree.specs.Refused.{StandsAmong}
 use Rattle.load_tree.specs.declared.bodies.Entry.{Entry}
 use Rattle.load_tree.specs.declared.bodies.Entry.TheVariants as entry
+use Rattle.il_syntax.specs.declared.limits.TheConstants.{MOST_INSTRUCTIONS, MOST_OPEN}
 
 -- whether a `)` begins so
 abbrev pub closes_lead : Lead → Bool
@@ -72,12 +73,12 @@ bare place i = record { labels = []; place = place; instruction = i }
 -- an instruction at its place, which may be there and opens no 17th parenthesis; none where the body is full
 abbrev pub SpellsPlaced : List ℕ → ℕ → Bool → Bool → Place × Instruction → Front
 SpellsPlaced text depth load full x ts rest =
-    At x.0 (SpellsInstruction text x.1) ts rest × IsTrue (may_stand depth load (bare x.0 x.1)) × (depth_after depth x.1 ≤ 16) × IsTrue (not full)
+    At x.0 (SpellsInstruction text x.1) ts rest × IsTrue (may_stand depth load (bare x.0 x.1)) × (depth_after depth x.1 ≤ MOST_OPEN) × IsTrue (not full)
 
 -- whether an instruction keeps the limit that a fault is about
 abbrev pub FitsBy : SyntaxError → ℕ → Bool → Instruction → Type 0
 FitsBy Unexpected depth full i = ⊤
-FitsBy TooDeep depth full i = depth_after depth i ≤ 16
+FitsBy TooDeep depth full i = depth_after depth i ≤ MOST_OPEN
 FitsBy TooMany depth full i = IsTrue (not full)
 
 -- an instruction at its place, which may be there, within the limit that a fault is about
@@ -118,7 +119,7 @@ SpellsEntry text last (entry.End labels place) = Repeats (SpellsLabelLine text) 
 
 -- whether it may come there
 abbrev pub MayCome : ℕ → Bool → Bool → Entry → Type 0
-MayCome depth load full (entry.Step s) = IsTrue (may_stand depth load s) × (depth_after depth s.instruction ≤ 16) × IsTrue (not full)
+MayCome depth load full (entry.Step s) = IsTrue (may_stand depth load s) × (depth_after depth s.instruction ≤ MOST_OPEN) × IsTrue (not full)
 MayCome depth load full (entry.End labels place) = depth ≡ 0
 
 abbrev pub SpellsNext : List ℕ → Keyword → ℕ → Bool → Bool → Entry → Front
@@ -148,13 +149,13 @@ IsLast _ = ⊥
 abbrev pub SpellsSteps : List ℕ → Keyword → Body → Front
 SpellsSteps text last b ts rest =
     Repeats (SpellsStep text) b.steps (Repeats (SpellsLabelLine text) b.last_labels (At b.end (TheWord text last))) ts rest
-    × IsTrue (is_nested 0 false b.steps) × (length b.steps ≤ 4096) × (greatest_depth 0 b.steps ≤ 16)
+    × IsTrue (is_nested 0 false b.steps) × (length b.steps ≤ MOST_INSTRUCTIONS) × (greatest_depth 0 b.steps ≤ MOST_OPEN)
 
 -- whether a body keeps the limit that a fault is about
 abbrev pub IsFewBy : SyntaxError → Body → Type 0
 IsFewBy Unexpected b = ⊤
-IsFewBy TooDeep b = greatest_depth 0 b.steps ≤ 16
-IsFewBy TooMany b = length b.steps ≤ 4096
+IsFewBy TooDeep b = greatest_depth 0 b.steps ≤ MOST_OPEN
+IsFewBy TooMany b = length b.steps ≤ MOST_INSTRUCTIONS
 
 -- the instructions of a body and its end, within the limit that a fault is about
 abbrev pub SpellsStepsBy : Keyword → SyntaxError → List ℕ → Body → Front

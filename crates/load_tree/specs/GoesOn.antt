@@ -26,6 +26,7 @@ use Rattle.load_tree.specs.Refused.{IsItsPlace, HasSurplus, GoesBeyond, StandsAm
 use Rattle.load_tree.specs.Lists.{SpellsFull}
 use Rattle.load_tree.specs.Insides.{LacksList, SpellsVariables, SpellsSomeExternals}
 use Rattle.load_tree.specs.Headings.{SpellsResultAt}
+use Rattle.il_syntax.specs.declared.limits.TheConstants.{MOST_UNITS, MOST_OPEN}
 
 -- A rule, and what its value keeps besides.
 abbrev pub Within : {A : Type 0} → (A → Type 0) → (List ℕ → A → Front) → List ℕ → A → Front
@@ -39,7 +40,7 @@ pub record BreaksOffBy {A : Type 0} (look : Gap) (test : Test) (K : List Token �
 
 -- with so many parentheses open, these instructions open at most 16 at once
 abbrev pub StaysShallow : ℕ → List Step → Type 0
-StaysShallow depth steps = greatest_depth depth steps ≤ 16
+StaysShallow depth steps = greatest_depth depth steps ≤ MOST_OPEN
 
 -- All of these instructions but the first are at these tokens, and so does the first where the body is full.
 abbrev pub AreBehind : Bool → List Token → List Step → Type 0
@@ -132,7 +133,7 @@ SpellsAll text c = AfterLines (SpellsConfig text c)
 
 -- what units keep
 abbrev pub KeepsUnits : List Token → List ProgramUnit → Type 0
-KeepsUnits vs us = All (λ (u : ProgramUnit). greatest_depth 0 u.body.steps ≤ 16) us × (length us ≤ 64) × All (λ (u : ProgramUnit). IsLateSurplus vs u.body.steps) us
+KeepsUnits vs us = All (λ (u : ProgramUnit). greatest_depth 0 u.body.steps ≤ MOST_OPEN) us × (length us ≤ MOST_UNITS) × All (λ (u : ProgramUnit). IsLateSurplus vs u.body.steps) us
 
 -- units, and a whole text, that break off
 abbrev pub BreaksUnits : List ℕ → List Token → Stop → Type 0

@@ -19,6 +19,7 @@ use Rattle.load_lines.specs.declared.stop.Stop.{Stop}
 use Rattle.load_lines.specs.Reads.{IsFault, fault_at, number_of}
 use Rattle.load_tree.specs.Refused.{IsPlaceAt, StandsAmong, IsLateSurplus}
 use Rattle.load_tree.specs.GoesOn.{SpellsFrom, AreBehind}
+use Rattle.il_syntax.specs.declared.limits.TheConstants.{MOST_UNITS}
 
 -- said of an unexpected token alone
 abbrev pub WhereUnexpected : SyntaxError → Type 0 → Type 0
@@ -53,7 +54,7 @@ LeavesWith body P text ts e = LeavesLate (λ vs x. IsLateSurplus vs (body x).ste
 
 -- The 65th of these units, if there is one, is among these tokens, and so does the 4097th instruction of each.
 abbrev pub AreLateUnits : List Token → List ProgramUnit → Type 0
-AreLateUnits vs us = ((u : ProgramUnit) → slice_get us 64 ≡ Some u → StandsAmong vs u.place) × All (λ (u : ProgramUnit). IsLateSurplus vs u.body.steps) us
+AreLateUnits vs us = ((u : ProgramUnit) → slice_get us MOST_UNITS ≡ Some u → StandsAmong vs u.place) × All (λ (u : ProgramUnit). IsLateSurplus vs u.body.steps) us
 
 -- Before a token with which no text goes on nothing is too many: in each text that has the tokens before the first of `at`, and then others, the 65th
 -- unit and the 4097th instruction of a unit are among these others. So where something is too many, 12 is told, whatever follows it.

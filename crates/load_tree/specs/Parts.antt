@@ -14,6 +14,7 @@ use Rattle.load_lines.specs.declared.stop.SyntaxError.{SyntaxError}
 use Rattle.load_lines.specs.declared.stop.SyntaxError.TheVariants.{Unexpected, TooDeep, TooMany}
 use Rattle.load_tree.specs.Units.{SpellsSmallUnit, SpellsUnitBy}
 use Rattle.load_tree.specs.Refused.{IsSmall, Keeps}
+use Rattle.il_syntax.specs.declared.limits.TheConstants.{MOST_UNITS}
 
 -- units within the limits, and CONFIGURATION
 abbrev pub SpellsUnits : List ℕ → List ProgramUnit → Front
@@ -21,13 +22,13 @@ SpellsUnits text us = Repeats (SpellsSmallUnit text) us (TheWord text word.Confi
 
 -- no more units than a text may have
 abbrev pub SpellsFewUnits : List ℕ → List ProgramUnit → Front
-SpellsFewUnits text us ts rest = SpellsUnits text us ts rest × (length us ≤ 64)
+SpellsFewUnits text us ts rest = SpellsUnits text us ts rest × (length us ≤ MOST_UNITS)
 
 -- whether units are no more than the limit that a fault is about allows
 abbrev pub AreFewBy : SyntaxError → List ProgramUnit → Type 0
 AreFewBy Unexpected us = ⊤
 AreFewBy TooDeep us = ⊤
-AreFewBy TooMany us = length us ≤ 64
+AreFewBy TooMany us = length us ≤ MOST_UNITS
 
 -- units within the limit that a fault is about, and CONFIGURATION
 abbrev pub SpellsFewUnitsBy : SyntaxError → List ℕ → List ProgramUnit → Front

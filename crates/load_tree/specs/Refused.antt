@@ -16,6 +16,7 @@ use Rattle.il_syntax_laws.specs.GoesOn.{IsCut}
 use Rattle.load_lines.specs.declared.stop.SyntaxError.{SyntaxError}
 use Rattle.load_lines.specs.declared.stop.SyntaxError.TheVariants.{Unexpected, TooDeep, TooMany}
 use Rattle.load_lines.specs.Reads.{IsNumberOfParser, number_of, turn}
+use Rattle.il_syntax.specs.declared.limits.TheConstants.{MOST_UNITS, MOST_INSTRUCTIONS}
 
 -- a fault, and not out of memory
 abbrev pub IsFault : {A : Type 0} → Result A Refusal → Type 0
@@ -30,7 +31,7 @@ IsOfParser refusal.Memory = Unit {0}
 
 -- the limits of a text but that of its bytes
 pub record IsSmall (c : Config) : Type 0 where
-  pub units : length c.units ≤ 64
+  pub units : length c.units ≤ MOST_UNITS
   pub instructions : HasFewInstructions c
   pub nesting : IsNested c
 
@@ -38,7 +39,7 @@ pub record IsSmall (c : Config) : Type 0 where
 abbrev pub Keeps : SyntaxError → Config → Type 0
 Keeps Unexpected c = ⊤
 Keeps TooDeep c = IsNested c
-Keeps TooMany c = (length c.units ≤ 64) × HasFewInstructions c
+Keeps TooMany c = (length c.units ≤ MOST_UNITS) × HasFewInstructions c
 
 -- the place of the first of these tokens of a text, or of its end, where a place can name it
 abbrev pub IsPlaceAt : List ℕ → Place → List Token → Type 0
@@ -71,7 +72,7 @@ IsItsPlace t place = (place.offset ≡ t.start) × (place.line ≡ t.line)
 abbrev pub HasSurplus : SyntaxError → Token → List Step → Type 0
 HasSurplus Unexpected t steps = ⊤
 HasSurplus TooDeep t steps = ⊤
-HasSurplus TooMany t steps = (s : Step) × (slice_get steps 4096 ≡ Some s) × IsItsPlace t s.place
+HasSurplus TooMany t steps = (s : Step) × (slice_get steps MOST_INSTRUCTIONS ≡ Some s) × IsItsPlace t s.place
 
 -- The first of the units that goes beyond a limit: it is the 65th, which is at the token of the fault, or its 4097th instruction does. In none before it
 -- are there too many instructions.
@@ -79,8 +80,8 @@ abbrev pub GoesBeyond : SyntaxError → Token → List ProgramUnit → Type 0
 GoesBeyond Unexpected t us = ⊤
 GoesBeyond TooDeep t us = ⊤
 GoesBeyond TooMany t us =
-    (front : List ProgramUnit) × (u : ProgramUnit) × (behind : List ProgramUnit) × (us ≡ front ++ u ∷ behind) × All (λ (v : ProgramUnit). length v.body.steps ≤ 4096) front
-    × (((length front ≡ 64) × IsItsPlace t u.place) ⊎ ((length front < 64) × HasSurplus TooMany t u.body.steps))
+    (front : List ProgramUnit) × (u : ProgramUnit) × (behind : List ProgramUnit) × (us ≡ front ++ u ∷ behind) × All (λ (v : ProgramUnit). length v.body.steps ≤ MOST_INSTRUCTIONS) front
+    × (((length front ≡ MOST_UNITS) × IsItsPlace t u.place) ⊎ ((length front < MOST_UNITS) × HasSurplus TooMany t u.body.steps))
 
 -- a place is that of one of these tokens
 abbrev pub StandsAmong : List Token → Place → Type 0
@@ -88,12 +89,12 @@ StandsAmong vs place = (t : Token) × (back : List Token) × IsEndOf (t ∷ back
 
 -- The 4097th of these instructions, if there is one, is at one of these tokens, after its labels.
 abbrev pub IsLateSurplus : List Token → List Step → Type 0
-IsLateSurplus vs steps = (s : Step) → slice_get steps 4096 ≡ Some s → StandsAmong vs s.place
+IsLateSurplus vs steps = (s : Step) → slice_get steps MOST_INSTRUCTIONS ≡ Some s → StandsAmong vs s.place
 
 -- Nothing before these tokens is beyond a limit: no more than 16 parentheses are open at once, there are at most 64 units, and where one of them has a
 -- 4097th instruction, it is at one of these tokens.
 abbrev pub KeepsBefore : List Token → Config → Type 0
-KeepsBefore vs c = IsNested c × (length c.units ≤ 64) × All (λ (u : ProgramUnit). IsLateSurplus vs u.body.steps) c.units
+KeepsBefore vs c = IsNested c × (length c.units ≤ MOST_UNITS) × All (λ (u : ProgramUnit). IsLateSurplus vs u.body.steps) c.units
 
 -- Some text goes on with the tokens before the first of `at`: one that has these tokens, of the same bytes, and others after, is of the
 -- language, and with the others its tree is a K. No limits count but those that K names.

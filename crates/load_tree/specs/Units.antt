@@ -9,10 +9,11 @@ use Rattle.load_lines.specs.declared.stop.SyntaxError.{SyntaxError}
 use Rattle.load_lines.specs.declared.lead.Lead.{Lead}
 use Rattle.load_lines.specs.declared.lead.Lead.TheVariants as lead
 use Rattle.load_tree.specs.Bodies.{IsFewBy}
+use Rattle.il_syntax.specs.declared.limits.TheConstants.{MOST_INSTRUCTIONS, MOST_OPEN}
 
 -- a body within the limits
 abbrev pub IsFew : Body → Type 0
-IsFew b = (length b.steps ≤ 4096) × (greatest_depth 0 b.steps ≤ 16)
+IsFew b = (length b.steps ≤ MOST_INSTRUCTIONS) × (greatest_depth 0 b.steps ≤ MOST_OPEN)
 
 -- a unit within the limits
 abbrev pub SpellsSmallUnit : List ℕ → ProgramUnit → Front

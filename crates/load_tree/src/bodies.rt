@@ -12,9 +12,11 @@ ghost use Rattle.load_tree.specs.Bodies.{closes_lead, leaves_lead, ends_lead, lo
 ghost use Rattle.load_lines.specs.declared.lead.Lead.TheVariants as begins;
 ghost use Rattle.load_tree.specs.GoesOn.{BreaksPlaced, BreaksFrom, BreaksSteps, BreaksWith};
 ghost use Rattle.load_tree.specs.Late.{EndsNone, LeavesRest, LeavesSteps, LeavesWith};
+ghost use Rattle.il_syntax.specs.declared.limits.TheConstants.{MOST_INSTRUCTIONS, MOST_OPEN};
 
 use base_lists::Items;
 use il_syntax::keyword::Keyword;
+use il_syntax::limits::{MOST_INSTRUCTIONS, MOST_OPEN};
 use il_syntax::token::{Kind, Sign};
 use il_syntax::tree::{Body, Instruction, Named, Place, Step};
 use load_lines::{Lead, Source, Stop, SyntaxError, Tokens};
@@ -102,10 +104,10 @@ fn surplus(tokens: &Tokens, lead: Lead) -> Stop
 
 // Whether one parenthesis more may open.
 fn has_room(depth: usize) -> bool
-    ensures yes { IsTrue result → depth < 16 }
-    ensures no { IsFalse result → 16 ≤ depth }
+    ensures yes { IsTrue result → depth < MOST_OPEN }
+    ensures no { IsFalse result → MOST_OPEN ≤ depth }
 {
-    depth < 16
+    depth < MOST_OPEN
 }
 
 // An instruction that begins so at its place, in so many parentheses.
@@ -118,7 +120,7 @@ fn placed(
     load: bool,
     full: bool,
 ) -> Result<(Place, Instruction), Stop>
-    requires depth { depth ≤ 16 }
+    requires depth { depth ≤ MOST_OPEN }
     requires lead { lead ≡ lead_at source.now tokens.old }
     ensures reads { IfOk result (λ x. Reads (SpellsPlaced source.now depth load full) tokens.old x
         tokens.new) }
@@ -239,7 +241,7 @@ fn next_entry(
     load: bool,
     full: bool,
 ) -> Result<Entry, Stop>
-    requires depth { depth ≤ 16 }
+    requires depth { depth ≤ MOST_OPEN }
     requires last { IsLast last }
     ensures reads { IfOk result (λ x. Reads (SpellsNext source.now last depth load full)
         tokens.old x tokens.new) }
@@ -263,7 +265,7 @@ fn next_entry(
 
 // How many parentheses are open after an instruction.
 fn depth_after(depth: usize, instruction: &Instruction) -> usize
-    requires { depth ≤ 16 }
+    requires { depth ≤ MOST_OPEN }
     ensures { result ≡ depth_after depth instruction.now }
 {
     match instruction {
@@ -285,10 +287,10 @@ fn needs_load(instruction: &Instruction) -> bool
 
 // Whether a body has as many instructions as it may have.
 fn is_full(steps: &Items<Step>) -> bool
-    ensures yes { IsTrue result → length steps.now ≡ 4096 }
-    ensures no { IsFalse result → length steps.now ≡ 4096 → ⊥ }
+    ensures yes { IsTrue result → length steps.now ≡ MOST_INSTRUCTIONS }
+    ensures no { IsFalse result → length steps.now ≡ MOST_INSTRUCTIONS → ⊥ }
 {
-    steps.as_slice().len() == 4096
+    steps.as_slice().len() == MOST_INSTRUCTIONS
 }
 
 // The instructions of a body, and its end.

@@ -11,6 +11,7 @@ ghost use Rattle.load_tree.specs.Parts.{SpellsSmallConfig, SpellsConfigBy};
 ghost use Rattle.load_lines.specs.declared.stop.SyntaxError.TheVariants.{Unexpected};
 ghost use Rattle.load_tree.specs.GoesOn.{BreaksAll};
 ghost use Rattle.load_tree.specs.Late.{LeavesLate, AreLateUnits, NoneTooMany};
+ghost use Rattle.il_syntax.specs.declared.limits.TheConstants.{LONGEST_TEXT};
 
 mod bodies;
 mod configuration;
@@ -49,7 +50,7 @@ pub fn parse(alloc: Global, text: &[u8], tokens: &[Token]) -> Result<Written, Re
 
     // It is small enough.
     ensures small { IfOk result (λ c. IsSmall c) }
-    ensures limits { IfOk result (λ c. length text.now ≤ 262144 → IsWithinLimits text.now c) }
+    ensures limits { IfOk result (λ c. length text.now ≤ LONGEST_TEXT → IsWithinLimits text.now c) }
 
     // What is spelled within the limits is read, unless memory runs out.
     ensures refused { IsFault result → (c : Config)

@@ -9,19 +9,21 @@ ghost use Rattle.load_tree.specs.Parts.{SpellsFewUnits, SpellsFewUnitsBy};
 ghost use Rattle.load_lines.specs.Lead.{lead_at};
 ghost use Rattle.load_lines.specs.declared.stop.SyntaxError.TheVariants.{Unexpected, TooMany};
 ghost use Rattle.load_tree.specs.Units.{unit_begins};
+ghost use Rattle.il_syntax.specs.declared.limits.TheConstants.{MOST_UNITS};
 
 use crate::one_unit::unit;
 use base_lists::Items;
 use il_syntax::keyword::Keyword;
+use il_syntax::limits::MOST_UNITS;
 use il_syntax::tree::Unit;
 use load_lines::{Lead, Source, Stop, SyntaxError, Tokens};
 
 // Whether a text has as many units as it may have.
 fn is_full(units: &Items<Unit>) -> bool
-    ensures yes { IsTrue result → length units.now ≡ 64 }
-    ensures no { IsFalse result → length units.now ≡ 64 → ⊥ }
+    ensures yes { IsTrue result → length units.now ≡ MOST_UNITS }
+    ensures no { IsFalse result → length units.now ≡ MOST_UNITS → ⊥ }
 {
-    units.as_slice().len() == 64
+    units.as_slice().len() == MOST_UNITS
 }
 
 // Why no unit may be here: it is one too many, or it is none.

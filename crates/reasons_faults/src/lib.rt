@@ -8,6 +8,7 @@ ghost use Rattle.load_tree.specs.Refused.{IsFault};
 ghost use Rattle.load_text.specs.Loading.{SpellsNone};
 ghost use Rattle.reasons_faults.specs.LimitReasons.{size_line};
 ghost use Rattle.reasons_faults.specs.Reasons.{IsReason, AreTold, left_out_of, is_of_ranges, is_of_chains, is_of_costs};
+ghost use Rattle.il_syntax.specs.declared.limits.TheConstants.{LONGEST_TEXT};
 
 mod chain_search;
 mod chain_uses;
@@ -135,7 +136,7 @@ fn token_told(alloc: Global, text: &[u8], number: u16, place: Place) -> Result<V
 // The configuration that a text spells.
 fn spelled(alloc: Global, text: &[u8]) -> Result<Written, Refusal>
     ensures found { IfOk result (λ c. Spells text.now c) }
-    ensures short { IfOk result (λ c. length text.now ≤ 262144) }
+    ensures short { IfOk result (λ c. length text.now ≤ LONGEST_TEXT) }
     ensures none { IsFault result → SpellsNone text.now }
 {
     let tokens = tokens(alloc, text)?;
@@ -153,7 +154,7 @@ fn told_of_text(
 ) -> Result<Vec<u8>, AllocError>
     requires other { is_of_ranges number ≡ false }
     requires spelled { Spells text.now written }
-    requires short { length text.now ≤ 262144 }
+    requires short { length text.now ≤ LONGEST_TEXT }
     ensures { IfOk result (λ lines. IsReason text.now number place lines.items) }
 {
     match tokens(alloc, text) {
