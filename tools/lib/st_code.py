@@ -476,7 +476,7 @@ class Body:
                     it.place,
                     (
                         f"{name or 'this'} is no {'output' if it.is_output else 'input'} of {block.type}, "
-                        f"or stands twice; it has {', '.join([*interface.inputs, *interface.outputs])}"
+                        f"or is given twice; it has {', '.join([*interface.inputs, *interface.outputs])}"
                     ),
                 )
             seen.add(name.upper())

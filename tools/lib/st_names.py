@@ -685,7 +685,7 @@ class Scope:
         if len(node.arguments) != count if count else len(node.arguments) < 2:
             raise Refusal(
                 node.place,
-                f"{node.name} takes {count or 'two or more'} arguments, and {len(node.arguments)} stand here",
+                f"{node.name} takes {count or 'two or more'} arguments, and {len(node.arguments)} are given",
             )
         return [it.value for it in node.arguments]
 

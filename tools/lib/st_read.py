@@ -417,7 +417,7 @@ def tree_of(source: str) -> Text:
     except UnexpectedToken as why:
         hidden = {"REAL_NUMBER", "TEXT", "ADDRESS", "PRAGMA", "COMMENT"}
         could = sorted(shown(it) for it in why.expected - hidden)
-        behind = f"; there could stand: {', '.join(could[:8])}{', ..' if len(could) > 8 else ''}"
+        behind = f"; expected: {', '.join(could[:8])}{', ..' if len(could) > 8 else ''}"
         if why.token.type == "$END":
             lines = source.split("\n")
             raise Refusal(Place(len(lines), len(lines[-1]) + 1), f"the text ends here{behind}") from None

@@ -5,7 +5,7 @@ use crate::Meaning;
 pub(crate) const OF_CONFIGURATIONS: [Meaning; 32] = [
     Meaning {
         number: 1,
-        text: "1: a byte that has no place in a text\n\nA byte outside 32 to 126 that is no tab, line feed, or carriage return directly before a line feed; or a byte that begins no token, such as `$`, `*`, `=` alone, or `-` without a digit behind it. Named is the line of the byte.\n\n    PROGRAM C\n    LD TRUE\n    ST OPEN $\n    END_PROGRAM\n\nrefused 1 at line 3\n\nRemove the byte; write comments in ASCII.\n\n    PROGRAM C\n    LD TRUE\n    ST OPEN\n    END_PROGRAM\n",
+        text: "1: a byte that has no place in a text\n\nA byte outside 32 to 126 that is no tab, line feed, or carriage return directly before a line feed; or a byte that begins no token, such as `$`, `*`, `=` alone, or `-` without a digit after it. Named is the line of the byte.\n\n    PROGRAM C\n    LD TRUE\n    ST OPEN $\n    END_PROGRAM\n\nrefused 1 at line 3\n\nRemove the byte; write comments in ASCII.\n\n    PROGRAM C\n    LD TRUE\n    ST OPEN\n    END_PROGRAM\n",
     },
     Meaning {
         number: 2,
@@ -29,7 +29,7 @@ pub(crate) const OF_CONFIGURATIONS: [Meaning; 32] = [
     },
     Meaning {
         number: 10,
-        text: "10: an unexpected token\n\nNamed is the line of the first token with which no text of the language goes on; a missing token at the end of the text is at the end's line. A reserved word where a name must stand is 10.\n\n    PROGRAM C\n    LD TRUE\n    AND\n    END_PROGRAM\n\nrefused 10 at line 3\n\nCompare the line with the grammar in `LANGUAGE.md`. A line end is a token with the line that it ends: a missing operand is named at the operator's line, and a second operand at its own.\n\n    PROGRAM C\n    LD TRUE\n    AND LEVEL\n    END_PROGRAM\n",
+        text: "10: an unexpected token\n\nNamed is the line of the first token with which no text of the language goes on; a missing token at the end of the text is at the end's line. A reserved word where a name must be is 10.\n\n    PROGRAM C\n    LD TRUE\n    AND\n    END_PROGRAM\n\nrefused 10 at line 3\n\nCompare the line with the grammar in `LANGUAGE.md`. A line end is a token with the line that it ends: a missing operand is named at the operator's line, and a second operand at its own.\n\n    PROGRAM C\n    LD TRUE\n    AND LEVEL\n    END_PROGRAM\n",
     },
     Meaning {
         number: 11,
@@ -37,7 +37,7 @@ pub(crate) const OF_CONFIGURATIONS: [Meaning; 32] = [
     },
     Meaning {
         number: 12,
-        text: "12: too many units, instructions or slots\n\nA unit has more than 4096 instructions. Named is the line of the operator of the 4097th, whatever stands behind it. A text with more than 64 units is 12 at the heading of the 65th. With `PROGRAM C` in line 1 and an instruction in each line from line 2 on:\n\n    PROGRAM C\n    LD TRUE          (* and 4095 more such lines, up to line 4097 *)\n    LD TRUE          (* line 4098 *)\n    END_PROGRAM\n\n`refused 12 at line 4098`. Shorten the program.\n\n12 is also the fault of a task with more than 4096 slots: each scalar variable of its program takes one, an array one for each element, an instance those of its block's variables, and each function that the program uses, directly or through others, once those of its variables and one for its result. The globals have 4096 slots too; named is then the line of their VAR_GLOBAL. It is found behind types, and named is the task's PROGRAM line. A program of 4097 variables in lines 2 to 259, with an empty body, has END_PROGRAM in line 260 and its PROGRAM line in line 265: `refused 12 at line 265`. Declare fewer variables.\n",
+        text: "12: too many units, instructions or slots\n\nA unit has more than 4096 instructions. Named is the line of the operator of the 4097th, whatever follows it. A text with more than 64 units is 12 at the heading of the 65th. With `PROGRAM C` in line 1 and an instruction in each line from line 2 on:\n\n    PROGRAM C\n    LD TRUE          (* and 4095 more such lines, up to line 4097 *)\n    LD TRUE          (* line 4098 *)\n    END_PROGRAM\n\n`refused 12 at line 4098`. Shorten the program.\n\n12 is also the fault of a task with more than 4096 slots: each scalar variable of its program takes one, an array one for each element, an instance those of its block's variables, and each function that the program uses, directly or through others, once those of its variables and one for its result. The globals have 4096 slots too; named is then the line of their VAR_GLOBAL. It is found after types, and named is the task's PROGRAM line. A program of 4097 variables in lines 2 to 259, with an empty body, has END_PROGRAM in line 260 and its PROGRAM line in line 265: `refused 12 at line 265`. Declare fewer variables.\n",
     },
     Meaning {
         number: 20,
@@ -45,7 +45,7 @@ pub(crate) const OF_CONFIGURATIONS: [Meaning; 32] = [
     },
     Meaning {
         number: 21,
-        text: "21: an unknown name\n\nA name that means nothing which its place takes.\n\n| line | cause |\n|---|---|\n| of the instruction | among its names one that is no variable of the unit and no image name that the unit sees; a function that is neither standard nor own; behind a dot a word that is no output of the instance, or, where it is stored into, neither output nor input |\n| of the type | a name that is no block's |\n| of the name | an external that is no global |\n\nOnly programs see image names, each those of its role: a car's program CARNO, POS, LEVEL, TOP, BOTTOM, LOCKED, OPENED, MOTOR, OPEN and SERVE, that of GROUP CPOS, CMOTOR and ASSIGN, both the others.\n\n    PROGRAM C\n    LD TRUE\n    ST DOOR\n    END_PROGRAM\n\nrefused 21 at line 3\n\nDeclare the variable, or correct its name.\n\n    PROGRAM C\n    VAR\n    DOOR : BOOL;\n    END_VAR\n    LD TRUE\n    ST DOOR\n    END_PROGRAM\n",
+        text: "21: an unknown name\n\nA name that means nothing which its place takes.\n\n| line | cause |\n|---|---|\n| of the instruction | among its names one that is no variable of the unit and no image name that the unit sees; a function that is neither standard nor own; after a dot a word that is no output of the instance, or, where it is stored into, neither output nor input |\n| of the type | a name that is no block's |\n| of the name | an external that is no global |\n\nOnly programs see image names, each those of its role: a car's program CARNO, POS, LEVEL, TOP, BOTTOM, LOCKED, OPENED, MOTOR, OPEN and SERVE, that of GROUP CPOS, CMOTOR and ASSIGN, both the others.\n\n    PROGRAM C\n    LD TRUE\n    ST DOOR\n    END_PROGRAM\n\nrefused 21 at line 3\n\nDeclare the variable, or correct its name.\n\n    PROGRAM C\n    VAR\n    DOOR : BOOL;\n    END_VAR\n    LD TRUE\n    ST DOOR\n    END_PROGRAM\n",
     },
     Meaning {
         number: 22,
@@ -65,15 +65,15 @@ pub(crate) const OF_CONFIGURATIONS: [Meaning; 32] = [
     },
     Meaning {
         number: 30,
-        text: "30: a wrong kind\n\nBOOL, the whole types and TIME are three kinds, and an instruction asks for one and is given another:\n\n- a store of one kind into another; STN, S and R take BOOL alone;\n- NOT, LDN, AND, OR, XOR and their negated forms take BOOL alone; ADD, SUB, MIN, MAX and LIMIT a whole type or TIME; MUL, DIV, MOD, ABS and the conversions whole types; GT, GE, LE and LT no BOOL;\n- JMPC, JMPCN, CALC, CALCN, RETC and RETCN take a BOOL as the current result, and SEL as its first argument;\n- an operand or an argument of another kind than the current result, or than the input that it is given to.\n\n    PROGRAM C\n    VAR\n    V : INT;\n    END_VAR\n    LD TRUE\n    ST V\n    END_PROGRAM\n\nrefused 30 at line 6\n\nNothing is converted: load and store values of one kind.\n\n    PROGRAM C\n    VAR\n    V : BOOL;\n    END_VAR\n    LD TRUE\n    ST V\n    END_PROGRAM\n",
+        text: "30: a wrong kind\n\nBOOL, the integer types and TIME are three kinds, and an instruction asks for one and is given another:\n\n- a store of one kind into another; STN, S and R take BOOL alone;\n- NOT, LDN, AND, OR, XOR and their negated forms take BOOL alone; ADD, SUB, MIN, MAX and LIMIT an integer type or TIME; MUL, DIV, MOD, ABS and the conversions integer types; GT, GE, LE and LT no BOOL;\n- JMPC, JMPCN, CALC, CALCN, RETC and RETCN take a BOOL as the current result, and SEL as its first argument;\n- an operand or an argument of another kind than the current result, or than the input that it is given to.\n\n    PROGRAM C\n    VAR\n    V : INT;\n    END_VAR\n    LD TRUE\n    ST V\n    END_PROGRAM\n\nrefused 30 at line 6\n\nNothing is converted: load and store values of one kind.\n\n    PROGRAM C\n    VAR\n    V : BOOL;\n    END_VAR\n    LD TRUE\n    ST V\n    END_PROGRAM\n",
     },
     Meaning {
         number: 31,
-        text: "31: another type of the same kind\n\nA whole type meets another, or a number without a type doesn't fit: behind LD, in parentheses and in SEL neither INT nor DINT has it, elsewhere the type of the current result or of the input doesn't.\n\n    PROGRAM C\n    LD 1\n    ADD 32768\n    END_PROGRAM\n\nrefused 31 at line 3\n\nThe result of `LD 1` is an INT, and 32768 is none. Write a smaller number, or one type throughout, as `LD DINT#1`. A subrange has the type of its base, so it is never 31 against INT.\n\n    PROGRAM C\n    LD 1\n    ADD 32766\n    END_PROGRAM\n",
+        text: "31: another type of the same kind\n\nAn integer type meets another, or a number without a type doesn't fit: after LD, in parentheses and in SEL neither INT nor DINT has it, elsewhere the type of the current result or of the input doesn't.\n\n    PROGRAM C\n    LD 1\n    ADD 32768\n    END_PROGRAM\n\nrefused 31 at line 3\n\nThe result of `LD 1` is an INT, and 32768 is none. Write a smaller number, or one type throughout, as `LD DINT#1`. A subrange has the type of its base, so it is never 31 against INT.\n\n    PROGRAM C\n    LD 1\n    ADD 32766\n    END_PROGRAM\n",
     },
     Meaning {
         number: 32,
-        text: "32: no current result\n\nAn instruction needs the current result and there is none: at the begin of a body, behind a CAL, an unconditional JMP's label, or where paths with different types meet.\n\n    PROGRAM C\n    NOT\n    ST OPEN\n    END_PROGRAM\n\nrefused 32 at line 2\n\nBegin the program with LD or LDN. What can be checked without a result still is, and the lowest number is named: `AND 5` as a first instruction is 30.\n\n    PROGRAM C\n    LD LEVEL\n    NOT\n    ST OPEN\n    END_PROGRAM\n",
+        text: "32: no current result\n\nAn instruction needs the current result and there is none: at the beginning of a body, after a CAL, an unconditional JMP's label, or where paths with different types meet.\n\n    PROGRAM C\n    NOT\n    ST OPEN\n    END_PROGRAM\n\nrefused 32 at line 2\n\nBegin the program with LD or LDN. What can be checked without a result still is, and the lowest number is named: `AND 5` as a first instruction is 30.\n\n    PROGRAM C\n    LD LEVEL\n    NOT\n    ST OPEN\n    END_PROGRAM\n",
     },
     Meaning {
         number: 33,
@@ -81,23 +81,23 @@ pub(crate) const OF_CONFIGURATIONS: [Meaning; 32] = [
     },
     Meaning {
         number: 34,
-        text: "34: an unknown label\n\nA JMP, JMPC or JMPCN to a label that its body lacks.\n\n    PROGRAM C\n    LD TRUE\n    JMPC DONE\n    ST OPEN\n    END_PROGRAM\n\nrefused 34 at line 3\n\nWrite `DONE:` before an instruction behind the jump, or alone in the last line of the body.\n\n    PROGRAM C\n    LD TRUE\n    JMPC DONE\n    ST OPEN\n    DONE:\n    END_PROGRAM\n",
+        text: "34: an unknown label\n\nA JMP, JMPC or JMPCN to a label that its body lacks.\n\n    PROGRAM C\n    LD TRUE\n    JMPC DONE\n    ST OPEN\n    END_PROGRAM\n\nrefused 34 at line 3\n\nWrite `DONE:` before an instruction after the jump, or alone in the last line of the body.\n\n    PROGRAM C\n    LD TRUE\n    JMPC DONE\n    ST OPEN\n    DONE:\n    END_PROGRAM\n",
     },
     Meaning {
         number: 35,
-        text: "35: a jump that does not go forward\n\nThe label stands at the jump itself or before it. So that each scan ends, jumps go forward alone.\n\n    PROGRAM C\n    AGAIN: LD TRUE\n    JMPC AGAIN\n    END_PROGRAM\n\nrefused 35 at line 3\n\nWhat is to be repeated is repeated by the next scan; keep what it needs in variables.\n\n    PROGRAM C\n    LD TRUE\n    END_PROGRAM\n",
+        text: "35: a jump that does not go forward\n\nThe label is at the jump itself or before it. So that each scan ends, jumps go forward alone.\n\n    PROGRAM C\n    AGAIN: LD TRUE\n    JMPC AGAIN\n    END_PROGRAM\n\nrefused 35 at line 3\n\nWhat is to be repeated is repeated by the next scan; keep what it needs in variables.\n\n    PROGRAM C\n    LD TRUE\n    END_PROGRAM\n",
     },
     Meaning {
         number: 37,
-        text: "37: wrong arguments\n\nA standard function or an own one with another number of operands than it takes (the current result is its first argument); in a CAL a word that is no input or output of the block, an input behind which `=>` stands or an output with `:=`, or a word that is given twice.\n\n    PROGRAM C\n    LD 1\n    LIMIT 2\n    END_PROGRAM\n\nrefused 37 at line 3\n\nLoad the lower end, and write the value and the upper end behind LIMIT: `LD 0` and `LIMIT V, 9`.\n\n    PROGRAM C\n    LD 0\n    LIMIT 2, 9\n    END_PROGRAM\n",
+        text: "37: wrong arguments\n\nA standard function or an own one with another number of operands than it takes (the current result is its first argument); in a CAL a word that is no input or output of the block, an input before `=>` or an output with `:=`, or a word that is given twice.\n\n    PROGRAM C\n    LD 1\n    LIMIT 2\n    END_PROGRAM\n\nrefused 37 at line 3\n\nLoad the lower end, and write the value and the upper end after LIMIT: `LD 0` and `LIMIT V, 9`.\n\n    PROGRAM C\n    LD 0\n    LIMIT 2, 9\n    END_PROGRAM\n",
     },
     Meaning {
         number: 38,
-        text: "38: a global that two tasks write\n\nPrograms of two tasks store into one global, wherever the stores stand; a program that two tasks run counts twice. Named is the first store in the text into such a global.\n\n    PROGRAM C\n    VAR_EXTERNAL\n    G : INT;\n    END_VAR\n    LD 1\n    ST G\n    END_PROGRAM\n    CONFIGURATION K\n    VAR_GLOBAL CONSTANT CARS : INT := 2; FLOORS : INT := 2; SLOTS : INT := 1; END_VAR\n    VAR_GLOBAL G : INT; END_VAR\n    RESOURCE M ON PLC\n    TASK CAR1 (INTERVAL := T#100ms, PRIORITY := 1);\n    TASK CAR2 (INTERVAL := T#100ms, PRIORITY := 1);\n    PROGRAM P1 WITH CAR1 : C;\n    PROGRAM P2 WITH CAR2 : C;\n    END_RESOURCE\n    END_CONFIGURATION\n\nrefused 38 at line 6\n\nLet one task write it, or give each task a global of its own.\n\n    PROGRAM C\n    VAR_EXTERNAL\n    G : INT;\n    END_VAR\n    LD 1\n    ST G\n    END_PROGRAM\n    PROGRAM D\n    END_PROGRAM\n    CONFIGURATION K\n    VAR_GLOBAL CONSTANT CARS : INT := 2; FLOORS : INT := 2; SLOTS : INT := 1; END_VAR\n    VAR_GLOBAL G : INT; END_VAR\n    RESOURCE M ON PLC\n    TASK CAR1 (INTERVAL := T#100ms, PRIORITY := 1);\n    TASK CAR2 (INTERVAL := T#100ms, PRIORITY := 1);\n    PROGRAM P1 WITH CAR1 : C;\n    PROGRAM P2 WITH CAR2 : D;\n    END_RESOURCE\n    END_CONFIGURATION\n",
+        text: "38: a global that two tasks write\n\nPrograms of two tasks store into one global, wherever the stores are; a program that two tasks run counts twice. Named is the first store in the text into such a global.\n\n    PROGRAM C\n    VAR_EXTERNAL\n    G : INT;\n    END_VAR\n    LD 1\n    ST G\n    END_PROGRAM\n    CONFIGURATION K\n    VAR_GLOBAL CONSTANT CARS : INT := 2; FLOORS : INT := 2; SLOTS : INT := 1; END_VAR\n    VAR_GLOBAL G : INT; END_VAR\n    RESOURCE M ON PLC\n    TASK CAR1 (INTERVAL := T#100ms, PRIORITY := 1);\n    TASK CAR2 (INTERVAL := T#100ms, PRIORITY := 1);\n    PROGRAM P1 WITH CAR1 : C;\n    PROGRAM P2 WITH CAR2 : C;\n    END_RESOURCE\n    END_CONFIGURATION\n\nrefused 38 at line 6\n\nLet one task write it, or give each task a global of its own.\n\n    PROGRAM C\n    VAR_EXTERNAL\n    G : INT;\n    END_VAR\n    LD 1\n    ST G\n    END_PROGRAM\n    PROGRAM D\n    END_PROGRAM\n    CONFIGURATION K\n    VAR_GLOBAL CONSTANT CARS : INT := 2; FLOORS : INT := 2; SLOTS : INT := 1; END_VAR\n    VAR_GLOBAL G : INT; END_VAR\n    RESOURCE M ON PLC\n    TASK CAR1 (INTERVAL := T#100ms, PRIORITY := 1);\n    TASK CAR2 (INTERVAL := T#100ms, PRIORITY := 1);\n    PROGRAM P1 WITH CAR1 : C;\n    PROGRAM P2 WITH CAR2 : D;\n    END_RESOURCE\n    END_CONFIGURATION\n",
     },
     Meaning {
         number: 39,
-        text: "39: an instruction that no control path reaches\n\nEach instruction is reached from the begin of its body, whatever conditions turn out. Behind an unconditional JMP or RET a label must stand to which a jump leads.\n\n    PROGRAM C\n    LD TRUE\n    JMP DONE\n    LD FALSE\n    DONE: LD TRUE\n    END_PROGRAM\n\nrefused 39 at line 4\n\nTake it out, or make the jump conditional. An instruction there that needs a result is 32, the lower number.\n\n    PROGRAM C\n    LD TRUE\n    JMPC DONE\n    LD FALSE\n    DONE: LD TRUE\n    END_PROGRAM\n",
+        text: "39: an instruction that no control path reaches\n\nEach instruction is reached from the beginning of its body, for some outcome of the conditions. After an unconditional JMP or RET there must be a label to which a jump leads.\n\n    PROGRAM C\n    LD TRUE\n    JMP DONE\n    LD FALSE\n    DONE: LD TRUE\n    END_PROGRAM\n\nrefused 39 at line 4\n\nTake it out, or make the jump conditional. An instruction there that needs a result is 32, the lower number.\n\n    PROGRAM C\n    LD TRUE\n    JMPC DONE\n    LD FALSE\n    DONE: LD TRUE\n    END_PROGRAM\n",
     },
     Meaning {
         number: 36,
@@ -113,7 +113,7 @@ pub(crate) const OF_CONFIGURATIONS: [Meaning; 32] = [
     },
     Meaning {
         number: 41,
-        text: "41: a divisor that may be 0\n\n    PROGRAM C\n    VAR\n    D : INT (0..9); V : INT;\n    END_VAR\n    LD 7\n    DIV D\n    ST V\n    END_PROGRAM\n\nrefused 41 at line 6\n\nD may be 0. Declare its range without 0, or divide by a variable of INT (1..9) into which `LD D`, `MAX 1` and ST store. Or jump over the division: behind `LD D`, `EQ 0` and `JMPC L` D is 1 to 9.\n\n    PROGRAM C\n    VAR\n    D : INT (1..9); V : INT;\n    END_VAR\n    LD 7\n    DIV D\n    ST V\n    END_PROGRAM\n",
+        text: "41: a divisor that may be 0\n\n    PROGRAM C\n    VAR\n    D : INT (0..9); V : INT;\n    END_VAR\n    LD 7\n    DIV D\n    ST V\n    END_PROGRAM\n\nrefused 41 at line 6\n\nD may be 0. Declare its range without 0, or divide by a variable of INT (1..9) into which `LD D`, `MAX 1` and ST store. Or jump over the division: after `LD D`, `EQ 0` and `JMPC L` D is 1 to 9.\n\n    PROGRAM C\n    VAR\n    D : INT (1..9); V : INT;\n    END_VAR\n    LD 7\n    DIV D\n    ST V\n    END_PROGRAM\n",
     },
     Meaning {
         number: 42,
@@ -140,7 +140,7 @@ pub(crate) const OF_RUNS: [Meaning; 19] = [
     },
     Meaning {
         number: 61,
-        text: "61: no open scan\n\nInstruction or Commit without an open scan, or Instruction behind its end.\n\n    LIFTTRACE 2\n    R 100 1 0 1 10110\n    C 1\n    E 2\n\nrefused 61 at line 3\n\nStart first; stop at the reply End. In a trace each C line has an S line of its task before it:\n\n    LIFTTRACE 2\n    R 100 1 0 1 10110\n    S 1\n    C 1\n    E 3\n",
+        text: "61: no open scan\n\nInstruction or Commit without an open scan, or Instruction after its end.\n\n    LIFTTRACE 2\n    R 100 1 0 1 10110\n    C 1\n    E 2\n\nrefused 61 at line 3\n\nStart first; stop at the reply End. In a trace each C line has an S line of its task before it:\n\n    LIFTTRACE 2\n    R 100 1 0 1 10110\n    S 1\n    C 1\n    E 3\n",
     },
     Meaning {
         number: 62,
@@ -172,7 +172,7 @@ pub(crate) const OF_RUNS: [Meaning; 19] = [
     },
     Meaning {
         number: 80,
-        text: "80: a wrong line in a trace\n\nThe line is complete and has none of the forms of the trace's format, which `TRACE.md` shows. An R line has as many cars as CARS says, and has no FIRE in format 1. In format 3 a state stands between the first line and the events. Its lines have one order: one that isn't the line that has to come there, or that has another number than the next car or slot, is 80. The number of the E line is that of the lines of events. Nothing may stand behind a right E line, not even a piece without a line feed. A trace of more than 67108864 bytes is 80 at line 1.\n\n    LIFTTRACE 2\n    R 100 1 1 10110\n    S 1\n    C 1\n    E 3\n\nrefused 80 at line 2\n\nThe R line is one of format 1. In format 2 FIRE stands behind RUNLIMIT:\n\n    LIFTTRACE 2\n    R 100 1 0 1 10110\n    S 1\n    C 1\n    E 3\n",
+        text: "80: a wrong line in a trace\n\nThe line is complete and has none of the forms of the trace's format, which `TRACE.md` shows. An R line has as many cars as CARS says, and has no FIRE in format 1. In format 3 a state comes between the first line and the events. Its lines have one order: one that isn't the line that has to come there, or that has another number than the next car or slot, is 80. The number of the E line is that of the lines of events. Nothing may follow a right E line, not even a piece without a line feed. A trace of more than 67108864 bytes is 80 at line 1.\n\n    LIFTTRACE 2\n    R 100 1 1 10110\n    S 1\n    C 1\n    E 3\n\nrefused 80 at line 2\n\nThe R line is one of format 1. In format 2 FIRE comes after RUNLIMIT:\n\n    LIFTTRACE 2\n    R 100 1 0 1 10110\n    S 1\n    C 1\n    E 3\n",
     },
     Meaning {
         number: 81,
@@ -188,11 +188,11 @@ pub(crate) const OF_RUNS: [Meaning; 19] = [
     },
     Meaning {
         number: 84,
-        text: "84: a file of calls that is too long\n\nThe file has more than 100000 lines, or more than 4000000 bytes. Reported is the line at which it is too much: line 100001, or the one in which byte 4000001 stands. Bytes are counted before a line is read.\n\nA file that has `1 1 2` in each line, and nothing else:\n\n    1 1 2            (and 99999 more such lines, up to line 100000)\n    1 1 2            (line 100001)\n\nrefused 84 at line 100001\n\nGive the run fewer calls, or take lines out that say nothing. A run of 50000 rounds with two calls in each is at the limit.\n",
+        text: "84: a file of calls that is too long\n\nThe file has more than 100000 lines, or more than 4000000 bytes. Reported is the line at which it is too much: line 100001, or the one of byte 4000001. Bytes are counted before a line is read.\n\nA file that has `1 1 2` in each line, and nothing else:\n\n    1 1 2            (and 99999 more such lines, up to line 100000)\n    1 1 2            (line 100001)\n\nrefused 84 at line 100001\n\nGive the run fewer calls, or take lines out that say nothing. A run of 50000 rounds with two calls in each is at the limit.\n",
     },
     Meaning {
         number: 85,
-        text: "85: the state is that of another configuration\n\nThe digits behind CONFIGURATION are not the SHA-256 of the text of FILE. Every byte of the text counts, comments too.\n\n    LIFTTRACE 3\n    CONFIGURATION 3f0c0a9d5b6c1c5f4e9a2a5f6b0c5a1d7e8f90a1b2c3d4e5f60718293a4b5c6d\n    NOW 300\n    RUNLIMIT 1\n    FIRE FALSE\n    CAR 1 1 10110 0 0\n    TICKETS 1\n    SLOT 1 WAITING 1 1 2\n    EVENTS\n    R 400 1 0 1 10110\n    S 1\n    C 1\n    E 3\n\nrefused 85 at line 2\n\nGive the command the text under which the state was written. These are the digits of the configuration above, with an empty program C:\n\n    LIFTTRACE 3\n    CONFIGURATION 1264bc52aefc6fc1b537aadf1988bf5a128409d3dbef3af44bb83ec2169af7a5\n    NOW 300\n    RUNLIMIT 1\n    FIRE FALSE\n    CAR 1 1 10110 0 0\n    TICKETS 1\n    SLOT 1 WAITING 1 1 2\n    EVENTS\n    R 400 1 0 1 10110\n    S 1\n    C 1\n    E 3\n",
+        text: "85: the state is that of another configuration\n\nThe digits after CONFIGURATION are not the SHA-256 of the text of FILE. Every byte of the text counts, comments too.\n\n    LIFTTRACE 3\n    CONFIGURATION 3f0c0a9d5b6c1c5f4e9a2a5f6b0c5a1d7e8f90a1b2c3d4e5f60718293a4b5c6d\n    NOW 300\n    RUNLIMIT 1\n    FIRE FALSE\n    CAR 1 1 10110 0 0\n    TICKETS 1\n    SLOT 1 WAITING 1 1 2\n    EVENTS\n    R 400 1 0 1 10110\n    S 1\n    C 1\n    E 3\n\nrefused 85 at line 2\n\nGive the command the text under which the state was written. These are the digits of the configuration above, with an empty program C:\n\n    LIFTTRACE 3\n    CONFIGURATION 1264bc52aefc6fc1b537aadf1988bf5a128409d3dbef3af44bb83ec2169af7a5\n    NOW 300\n    RUNLIMIT 1\n    FIRE FALSE\n    CAR 1 1 10110 0 0\n    TICKETS 1\n    SLOT 1 WAITING 1 1 2\n    EVENTS\n    R 400 1 0 1 10110\n    S 1\n    C 1\n    E 3\n",
     },
     Meaning {
         number: 86,

@@ -469,7 +469,7 @@ fn text_of(alloc: Global, misuse: &Misuse<'_>) -> Result<String, AllocError> {
         ),
         Misuse::NoName => String::from_str(
             alloc,
-            "a NAME is required behind ROUNDS or TRACE, and before the calls, and begins with no digit",
+            "a NAME is required after ROUNDS or TRACE, and before the calls, and begins with no digit",
         ),
         Misuse::Missing => String::from_str(alloc, "a required argument was not provided"),
     }
@@ -478,5 +478,5 @@ fn text_of(alloc: Global, misuse: &Misuse<'_>) -> Result<String, AllocError> {
 // The text of an option that is without what it is for.
 fn text_of_lone(alloc: Global, lone: Lone) -> Result<String, AllocError> {
     let Lone { option, beside } = lone;
-    format!(in alloc; "'{option}' stands only beside {beside}")
+    format!(in alloc; "'{option}' is allowed only with {beside}")
 }

@@ -69,7 +69,7 @@ const FILE_WORD: Argument = Argument {
 const WARN_FLAG: Argument = Argument {
     name: WARN,
     standing: Standing::Alone,
-    help: "Also tells, on standard error, what an accepted FILE declares or stores in vain",
+    help: "Also prints, on standard error, what an accepted FILE declares or stores without effect",
 };
 
 const LIMITS_FLAG: Argument = Argument {
@@ -87,7 +87,7 @@ const PATHS_FLAG: Argument = Argument {
 const ALL_UNITS_FLAG: Argument = Argument {
     name: ALL,
     standing: Standing::Alone,
-    help: "Also tells the first fault of each other unit of a refused FILE",
+    help: "Also prints the first fault of each other unit of a refused FILE",
 };
 
 const TEXT_FLAG: Argument = Argument {
@@ -123,7 +123,7 @@ const PRESSES: Argument = Argument {
 const NAMES: Argument = Argument {
     name: "NAME",
     standing: Standing::Often,
-    help: "What is shown behind each round, as NOW, CAR1.POS, CAR1.V or a global; behind the names stand calls, as for `sim`, but not behind a trace",
+    help: "What is shown after each round, as NOW, CAR1.POS, CAR1.V or a global; after the names come calls, as for `sim`, but not after a trace",
 };
 
 const FIRE_OPTION: Argument = Argument {
@@ -286,7 +286,7 @@ static COMMANDS: [Row; 13] = [
     },
     Row {
         name: Named::Of(Name::Rounds(Simulating::Watch)),
-        about: "Runs FILE as `sim` does, or replays a trace on it, and prints values behind each round, as CSV",
+        about: "Runs FILE as `sim` does, or replays a trace on it, and prints values after each round, as CSV",
         arguments: &[
             FILE_WORD,
             ROUNDS_OR_TRACE,
@@ -326,7 +326,7 @@ static COMMANDS: [Row; 13] = [
     },
     Row {
         name: Named::Serve,
-        about: "Runs FILE behind lines: R, P, K and E in, outputs back; docs/SERVE.md has the lines",
+        about: "Runs FILE by lines: R, P, K and E in, outputs back; docs/SERVE.md has the lines",
         arguments: &[FILE_WORD, FROM_OPTION, TRACE_OPTION, SYNC_FLAG],
     },
     Row {

@@ -104,7 +104,7 @@ IsLateName (request.Trace command traced) word = ⊥
 
 -- what is wrong with a word that is no press
 abbrev pub press_sentence : Bool → List ℕ
-press_sentence true = codes "the names of `watch` stand before the presses"
+press_sentence true = codes "the names of `watch` come before the presses"
 press_sentence false = codes "no press: ROUND:FROM:TO or ROUND:FROM:TO:PANEL, a round of the run, two floors of the group, a panel from 1 to 4"
 
 abbrev pub fire_sentence : List ℕ

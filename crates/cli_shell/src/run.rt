@@ -391,7 +391,7 @@ const NO_SPAN: &str = "no rounds: A:B, A: or :B, a first and a last round from 1
 const NO_PRESS: &str =
     "no press: ROUND:FROM:TO or ROUND:FROM:TO:PANEL, a round of the run, two floors of the group, a panel from 1 to 4";
 
-const LATE_NAME: &str = "the names of `watch` stand before the presses";
+const LATE_NAME: &str = "the names of `watch` come before the presses";
 
 // Whether something is wanted below a fault: where faults are to be explained, and with `--json` and with `--all` below each refusal of FILE.
 fn wants(wanted: bool, request: Request<'_>, fault: &Fault) -> bool

@@ -344,7 +344,7 @@ unknown_is_told config place (unknown_name h) = name_told config place h
 
 missing_is : (name : Spelling) (near : Option Nearest) → HasLine (missing_line name near)
 unfolding missing_line
-missing_is name near = behind (codes "label ") _ (behind name _ (behind (codes " does not stand in this unit") _ (ending_is near)))
+missing_is name near = behind (codes "label ") _ (behind name _ (behind (codes " is not in this unit") _ (ending_is near)))
 
 missing_told : (body : Body) (name : Spelling) → label_place body name ≡ None → HasLine (missing_text body name)
 missing_told body name e = subst (λ o. HasLine (if is_some o then [] else missing_line name (nearest name (labels_near body)))) (sym e) (missing_is name _)

@@ -141,4 +141,4 @@ sizes_lines c offset =
 -- 35: A JUMP BACK
 
 unfoldable pub backward_line : List ℕ
-backward_line = codes "a label stands after each jump to it: there are no loops\n"
+backward_line = codes "a label comes after each jump to it: there are no loops\n"

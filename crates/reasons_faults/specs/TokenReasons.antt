@@ -37,11 +37,11 @@ CanStandOf text offset [] (first ∷ all) = Unit {0}
 CanStandOf text offset (kind ∷ kinds) (first ∷ all) =
     ((kind ≡ first) × CanStand text offset kind × CanStandOf text offset kinds all) ⊎ CanStandOf text offset (kind ∷ kinds) all
 
--- "`FALSE` is there", and of a reserved word that it is one; the end of a line has no text of its own
+-- "found `FALSE`", and of a reserved word that it is one; the end of a line has no text of its own
 abbrev pub token_text : Kind → List ℕ → Option Keyword → List ℕ
-token_text LineEnd bytes keyword = codes "the line ends there\n"
-token_text Word bytes (Some keyword) = codes "`" ++ (bytes ++ codes "`, a reserved word, stands there\n")
-token_text _ bytes keyword = codes "`" ++ (bytes ++ codes "` stands there\n")
+token_text LineEnd bytes keyword = codes "found the end of the line\n"
+token_text Word bytes (Some keyword) = codes "found `" ++ (bytes ++ codes "`, a reserved word\n")
+token_text _ bytes keyword = codes "found `" ++ (bytes ++ codes "`\n")
 
 -- a token of a text
 abbrev pub token_line : List ℕ → Token → List ℕ
@@ -54,17 +54,17 @@ token_at offset (t ∷ ts) = if t.start == offset then Some t else token_at offs
 
 -- the token that begins at a place of a text, or the end of the text there
 abbrev pub found_line : List ℕ → ℕ → Option Token → List ℕ
-found_line text offset None = if nat_le (length text) offset then codes "the text ends there\n" else []
+found_line text offset None = if nat_le (length text) offset then codes "found the end of the text\n" else []
 found_line text offset (Some t) = token_line text t
 
 -- ", `)`, `;`"
 abbrev pub other_words : List ExpectedKind → List ℕ
 other_words kinds = flat_map (λ (k : ExpectedKind). codes ", " ++ k.words) kinds
 
--- "there could be: a name, `)`"
+-- "expected: a name, `)`"
 abbrev pub expected_line : List ExpectedKind → List ℕ
 expected_line [] = []
-expected_line (kind ∷ kinds) = codes "there could stand: " ++ kind.words ++ (other_words kinds ++ codes "\n")
+expected_line (kind ∷ kinds) = codes "expected: " ++ kind.words ++ (other_words kinds ++ codes "\n")
 
 -- What is reported of the token at a place of a text with these tokens: what is there, at most eight kinds that can be there, what the
 -- language leaves out, what to write instead, and a parenthesis that is open.

@@ -234,5 +234,5 @@ fn put_named(
 fn put_backward(text: &mut String) -> Result<(), AllocError>
     ensures { OnOk result (Puts text.old text.new backward_line) }
 {
-    text.push_str("a label stands after each jump to it: there are no loops\n")
+    text.push_str("a label comes after each jump to it: there are no loops\n")
 }

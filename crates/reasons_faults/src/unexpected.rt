@@ -188,12 +188,12 @@ pub(crate) fn in_upper_case(alloc: Global, text: &[u8]) -> Result<Vec<u8>, Alloc
     Ok(upper)
 }
 
-// Bytes between two others.
+// What was found: bytes, and what comes after them.
 fn put_shown(lines: &mut Vec<u8>, bytes: &[u8], behind: &[u8]) -> Result<(), AllocError>
     ensures { OnOk result (lines.new.items ≡ lines.old.items
-        ++ (codes "`" ++ (bytes.now ++ behind.now))) }
+        ++ (codes "found `" ++ (bytes.now ++ behind.now))) }
 {
-    lines.extend_from_slice(b"`")?;
+    lines.extend_from_slice(b"found `")?;
     lines.extend_from_slice(bytes)?;
     lines.extend_from_slice(behind)
 }
@@ -205,18 +205,18 @@ fn put_word(lines: &mut Vec<u8>, source: &Source, token: &Token) -> Result<(), A
 {
     let bytes = source.bytes_of(token);
     match keyword_of(source.spelling(token)) {
-        Some(_) => put_shown(lines, bytes, b"`, a reserved word, stands there\n"),
-        None => put_shown(lines, bytes, b"` stands there\n"),
+        Some(_) => put_shown(lines, bytes, b"`, a reserved word\n"),
+        None => put_shown(lines, bytes, b"`\n"),
     }
 }
 
 // A token that is no word and no line's end.
 fn put_plain(lines: &mut Vec<u8>, source: &Source, token: &Token) -> Result<(), AllocError>
     ensures { OnOk result (lines.new.items ≡ lines.old.items
-        ++ (codes "`" ++ (slice_range source.now token.now.start token.now.end
-        ++ codes "` stands there\n"))) }
+        ++ (codes "found `" ++ (slice_range source.now token.now.start token.now.end
+        ++ codes "`\n"))) }
 {
-    put_shown(lines, source.bytes_of(token), b"` stands there\n")
+    put_shown(lines, source.bytes_of(token), b"`\n")
 }
 
 // A token.
@@ -224,7 +224,7 @@ fn put_token(lines: &mut Vec<u8>, source: &Source, token: &Token) -> Result<(), 
     ensures { OnOk result (lines.new.items ≡ lines.old.items ++ token_line source.now token.now) }
 {
     match token.kind {
-        Kind::LineEnd => lines.extend_from_slice(b"the line ends there\n"),
+        Kind::LineEnd => lines.extend_from_slice(b"found the end of the line\n"),
         Kind::Word => put_word(lines, source, token),
         Kind::Number(_) => put_plain(lines, source, token),
         Kind::Typed(_) => put_plain(lines, source, token),
@@ -249,7 +249,7 @@ fn put_end(lines: &mut Vec<u8>, text: &[u8], offset: u32) -> Result<(), AllocErr
     ensures { OnOk result (lines.new.items ≡ lines.old.items ++ found_line text.now offset None) }
 {
     if text.len() <= offset as usize {
-        lines.extend_from_slice(b"the text ends there\n")
+        lines.extend_from_slice(b"found the end of the text\n")
     } else {
         Ok(())
     }
@@ -305,9 +305,9 @@ fn put(lines: &mut Vec<u8>, piece: &str) -> Result<(), AllocError>
 // The first kind.
 fn put_first(lines: &mut Vec<u8>, first: &Expected) -> Result<(), AllocError>
     ensures { OnOk result (lines.new.items ≡ lines.old.items
-        ++ (codes "there could stand: " ++ (kind_of first.now).words)) }
+        ++ (codes "expected: " ++ (kind_of first.now).words)) }
 {
-    put(lines, "there could stand: ")?;
+    put(lines, "expected: ")?;
     put(lines, first.words)
 }
 

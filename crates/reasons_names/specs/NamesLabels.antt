@@ -8,9 +8,9 @@ use Rattle.il_statics.specs.Declarations.{labels_of}
 use Rattle.il_statics.specs.Types.{label_place}
 use Rattle.reasons_names.specs.NamesNear.{Known, Nearest, declared_name, nearest, ending}
 
--- `label NAME does not stand in this unit`, and a label that is near
+-- `label NAME is not in this unit`, and a label that is near
 unfoldable pub missing_line : Spelling → Option Nearest → List ℕ
-missing_line name near = codes "label " ++ (name ++ (codes " does not stand in this unit" ++ ending near))
+missing_line name near = codes "label " ++ (name ++ (codes " is not in this unit" ++ ending near))
 
 -- the labels of a body
 abbrev pub labels_near : Body → List Known

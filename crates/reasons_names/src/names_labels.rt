@@ -58,5 +58,5 @@ fn put_missing_line(text: &mut String, name: &str, near: Option<Near<'_>>) -> Re
         (missing_line name.now (option_map near_shown near.entry))) }
 {
     text.push_str("label ")?;
-    put_ended(text, name, " does not stand in this unit", near)
+    put_ended(text, name, " is not in this unit", near)
 }

@@ -24,15 +24,15 @@ taken_count None None = None
 abbrev pub arguments_text : ℕ → List ℕ
 arguments_text count = decimal count ++ (if count == 1 then codes " argument" else codes " arguments")
 
--- `1 stands here`, `2 stand here`
+-- `1 is given`, `2 are given`
 abbrev pub standing_text : ℕ → List ℕ
-standing_text count = decimal count ++ (if count == 1 then codes " stands here" else codes " stand here")
+standing_text count = decimal count ++ (if count == 1 then codes " is given" else codes " are given")
 
 -- the end of such a line
 unfoldable pub with_result : List ℕ
 with_result = codes " with the current result\n"
 
--- `MAX takes 2 arguments, 3 stand here with the current result`, of a known function
+-- `MAX takes 2 arguments, 3 are given with the current result`, of a known function
 abbrev pub count_line : Spelling → ℕ → Option ℕ → List ℕ
 count_line name standing None = []
 count_line name standing (Some taken) = name ++ (codes " takes " ++ (arguments_text taken ++ (codes ", " ++ (standing_text standing ++ with_result))))
@@ -43,9 +43,9 @@ count_line name standing (Some taken) = name ++ (codes " takes " ++ (arguments_t
 abbrev pub is_given : List Argument → Spelling → Bool
 is_given arguments word = list_any (λ (a : Argument). bytes_eq (argument_word a) word) arguments
 
--- `PV stands twice`
+-- `PV is given twice`
 abbrev pub twice_line : Bool → Spelling → List ℕ
-twice_line given word = if given then word ++ codes " stands twice\n" else []
+twice_line given word = if given then word ++ codes " is given twice\n" else []
 
 -- whether the block of an instance has an input of this word
 abbrev pub has_input : Option BlockVariables → Spelling → Bool

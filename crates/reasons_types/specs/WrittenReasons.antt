@@ -46,14 +46,14 @@ form_subrange_line (OfBlock block) = []
 
 -- where an array is not wanted
 abbrev pub array_line : Wanted → List ℕ
-array_line Scalars = codes "only a scalar can stand there\n"
+array_line Scalars = codes "only a scalar is allowed there\n"
 array_line ScalarsAndArrays = []
 array_line AllForms = []
 
 -- where an instance is not wanted
 abbrev pub instance_line : Wanted → List ℕ
-instance_line Scalars = codes "only a scalar can stand there\n"
-instance_line ScalarsAndArrays = codes "only a scalar or an array can stand there\n"
+instance_line Scalars = codes "only a scalar is allowed there\n"
+instance_line ScalarsAndArrays = codes "only a scalar or an array is allowed there\n"
 instance_line AllForms = []
 
 -- what is wanted in place of a type

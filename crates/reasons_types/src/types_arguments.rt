@@ -62,15 +62,15 @@ fn put_arguments_count(text: &mut String, count: usize) -> Result<(), AllocError
     }
 }
 
-// `1 stands here`, `2 stand here`
+// `1 is given`, `2 are given`
 fn put_standing(text: &mut String, count: usize) -> Result<(), AllocError>
     ensures { OnOk result (Puts text.old text.new (standing_text count)) }
 {
     write!(text, "{}", count)?;
     if count == 1 {
-        text.push_str(" stands here")
+        text.push_str(" is given")
     } else {
-        text.push_str(" stand here")
+        text.push_str(" are given")
     }
 }
 
@@ -125,12 +125,12 @@ fn is_given(arguments: &[Argument], word: &str) -> bool
     false
 }
 
-// `PV stands twice`
+// `PV is given twice`
 fn put_twice(text: &mut String, given: bool, word: &str) -> Result<(), AllocError>
     ensures { OnOk result (Puts text.old text.new (twice_line given word.now)) }
 {
     if given {
-        put_two(text, word, " stands twice\n")
+        put_two(text, word, " is given twice\n")
     } else {
         Ok(())
     }

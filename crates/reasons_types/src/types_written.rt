@@ -104,7 +104,7 @@ fn array_line(wanted: Wanted) -> &'static str
     ensures { result.now ≡ array_line wanted }
 {
     match wanted {
-        Wanted::Scalars => "only a scalar can stand there\n",
+        Wanted::Scalars => "only a scalar is allowed there\n",
         Wanted::ScalarsAndArrays | Wanted::AllForms => "",
     }
 }
@@ -114,8 +114,8 @@ fn instance_line(wanted: Wanted) -> &'static str
     ensures { result.now ≡ instance_line wanted }
 {
     match wanted {
-        Wanted::Scalars => "only a scalar can stand there\n",
-        Wanted::ScalarsAndArrays => "only a scalar or an array can stand there\n",
+        Wanted::Scalars => "only a scalar is allowed there\n",
+        Wanted::ScalarsAndArrays => "only a scalar or an array is allowed there\n",
         Wanted::AllForms => "",
     }
 }

@@ -152,9 +152,9 @@ global_text units n = never_text n.line n.name (global_never units n)
 abbrev pub are_alike : Task → Task → Bool
 are_alike task other = int_eq task.interval other.interval && int_eq task.priority other.priority
 
--- `line 33: INTERVAL and PRIORITY of CAR2 decide nothing, each task runs once a round`
+-- `line 33: INTERVAL and PRIORITY of CAR2 have no effect, each task runs once a round`
 unfoldable pub task_line : Task → List ℕ
-task_line task = codes "line " ++ (decimal task.place.line ++ (codes ": INTERVAL and PRIORITY of " ++ (task.name.name ++ codes " decide nothing, each task runs once a round\n")))
+task_line task = codes "line " ++ (decimal task.place.line ++ (codes ": INTERVAL and PRIORITY of " ++ (task.name.name ++ codes " have no effect, each task runs once a round\n")))
 
 -- the same, where a task is unlike the first
 abbrev pub task_text : Task → Task → List ℕ

@@ -216,7 +216,7 @@ fn put_task(text: &mut String, task: &Task) -> Result<(), AllocError>
     write!(text, "line {}: INTERVAL and PRIORITY of ", task.place.line)?;
     writeln!(
         text,
-        "{} decide nothing, each task runs once a round",
+        "{} have no effect, each task runs once a round",
         task.name.name.as_str()
     )
 }

@@ -45,13 +45,13 @@ COMMANDS = (
     Command(
         "check", "Verifies FILE and shows its tasks and units", "<FILE>",
         (
-            Option("--warn", "", "Also tells, on standard error, what an accepted FILE declares or stores in vain"),
+            Option("--warn", "", "Also prints, on standard error, what an accepted FILE declares or stores without effect"),
             Option("--limits", "", "Also shows how much of each limit FILE uses"),
             Option(
                 "--paths", "",
                 "Shows lines of a path that follow one another as a range, as 144-247; not with --json",
             ),
-            Option("--all", "", "Also tells the first fault of each other unit of a refused FILE"),
+            Option("--all", "", "Also prints the first fault of each other unit of a refused FILE"),
             JSON,
         ),
     ),
@@ -82,7 +82,7 @@ COMMANDS = (
         ), CUT, JSON),
     ),
     Command(
-        "watch", "Runs FILE as `sim` does, or replays a trace on it, and prints values behind each round, as CSV",
+        "watch", "Runs FILE as `sim` does, or replays a trace on it, and prints values after each round, as CSV",
         "<FILE> <ROUNDS|TRACE> <NAME>...",
         (FIRE, CALLS, Option("--changes", "", "Leaves out a round whose values are those of the round before"), CUT),
     ),
@@ -114,7 +114,7 @@ COMMANDS = (
         ),
     ),
     Command(
-        "serve", "Runs FILE behind lines: R, P, K and E in, outputs back; docs/SERVE.md has the lines", "<FILE>",
+        "serve", "Runs FILE by lines: R, P, K and E in, outputs back; docs/SERVE.md has the lines", "<FILE>",
         (
             Option(
                 "--from", "OLD",

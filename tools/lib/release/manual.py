@@ -256,7 +256,7 @@ def serve_page(text: str, version: str, date: str) -> str:
         at = begins[title]
         below = next((end for end in range(at + 1, len(parts)) if parts[end].level == 2), len(parts))
         body += [line for it in parts[at:below] for line in section(it)]
-    of = Page("liftplc-serve", "runs a lift group behind lines: fields in, outputs back", version, date)
+    of = Page("liftplc-serve", "runs a lift group by lines: fields in, outputs back", version, date)
     return page(
         of, synopsis(["liftplc serve FILE [--from OLD] [--trace TRACE] [--sync]"]), body, documents(r"\fBliftplc\fR(1)")
     )
