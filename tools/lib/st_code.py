@@ -795,7 +795,7 @@ class Body:
         ):
             raise Refusal(
                 place_of(node.variable),
-                f"{node.variable} is no variable of a whole type, declared in VAR, that is free here",
+                f"{node.variable} is no variable of an integer type, declared in VAR, that is free here",
             )
         behind = self.label("END_FOR", node.place)
         outermost = self.loop_start is None

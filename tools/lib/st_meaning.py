@@ -42,7 +42,7 @@ class Left(Exception):
 
 @dataclass
 class Kind:
-    """A type: BOOL, TIME, a whole type with its range, an array or a block."""
+    """A type: BOOL, TIME, an integer type with its range, an array or a block."""
 
     name: str
     low: int = 0

@@ -351,7 +351,7 @@ class Scope:
 
     def subrange_of(self, written: TypeOf, key: str) -> Scalar:
         if key not in WHOLE:
-            raise Refusal(written.place, f"{written.name} takes no subrange: whole types do")
+            raise Refusal(written.place, f"{written.name} takes no subrange: integer types do")
         low, high = (self.bound(it) for it in written.bounds[0])
         if low > high or low < WHOLE[key][0] or high > WHOLE[key][1]:
             raise Refusal(written.place, f"{low}..{high} is no subrange of {key}")
@@ -669,7 +669,7 @@ class Scope:
         if key in self.symbols and isinstance(self.symbols[key].type, Instance):
             return f"{name} is an instance: its call is a statement of its own, and its outputs are such as {name}.Q"
         if "_TO_" in key or key in LEFT_OUT:
-            return f"{name} is left out: conversions are between the six whole types, such as INT_TO_DINT"
+            return f"{name} is left out: conversions are between the six integer types, such as INT_TO_DINT"
         return f"{name} is no function of this text"
 
     def in_order(self, node: Call, formal: list[str] | None, count: int | None) -> list[Node]:

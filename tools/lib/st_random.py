@@ -174,7 +174,7 @@ class Unit:
         return self.fitted("INT", self.number("INT", 1), low, high).text
 
     def number(self, type: str, depth: int) -> Made:
-        """An expression of a whole type or of TIME."""
+        """An expression of an integer type or of TIME."""
         if depth <= 0 or self.chance(0.15):
             return self.leaf(type)
         kinds = [self.sum, self.sum, self.sum, self.choice, self.bounded, self.own]

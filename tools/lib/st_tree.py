@@ -16,8 +16,8 @@ WHOLE = {
     "UDINT": (0, 2**32 - 1),
 }
 LONGEST_DURATION = 2_147_483_647
-SUBRANGE = "write a whole type with a subrange, such as INT (0..100), in smaller parts: tenths or hundredths"
-BITS = "write BOOL for each bit, or a whole type"
+SUBRANGE = "write an integer type with a subrange, such as INT (0..100), in smaller parts: tenths or hundredths"
+BITS = "write BOOL for each bit, or an integer type"
 EDITION_3 = "write functions, function blocks and programs"
 LEFT_OUT = {  # words that the profile leaves out, and what to write instead
     "WHILE": (

@@ -41,7 +41,7 @@ absent_type word =
 -- what there is instead
 abbrev pub instead : AbsentType → List ℕ
 instead Fraction = codes ": numbers are whole, SINT, INT, DINT, USINT, UINT or UDINT\n"
-instead Long = codes ": the largest whole types are DINT and UDINT\n"
+instead Long = codes ": the largest integer types are DINT and UDINT\n"
 instead Bits = codes ": a bit is a BOOL, and several are an array of BOOL\n"
 instead Characters = codes ": there are no texts\n"
 instead Date = codes ": there are no dates, and a duration is a TIME\n"

@@ -113,7 +113,7 @@ impl AbsentType {
             AbsentType::Fraction => {
                 ": numbers are whole, SINT, INT, DINT, USINT, UINT or UDINT\n"
             }
-            AbsentType::Long => ": the largest whole types are DINT and UDINT\n",
+            AbsentType::Long => ": the largest integer types are DINT and UDINT\n",
             AbsentType::Bits => ": a bit is a BOOL, and several are an array of BOOL\n",
             AbsentType::Characters => ": there are no texts\n",
             AbsentType::Date => ": there are no dates, and a duration is a TIME\n",
