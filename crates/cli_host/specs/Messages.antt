@@ -89,7 +89,7 @@ abbrev pub scan_sentence : ScanFault → List ℕ
 scan_sentence Task = codes "the group has no such task"
 scan_sentence NoUnit = codes "the text has no such unit"
 scan_sentence Round = codes "no round: a number from 1 to 65535"
-scan_sentence Line = codes "no lines: LINE, FROM:LINE or FROM:, numbers from 1 to 65535, FROM not after LINE"
+scan_sentence Line = codes "no lines: LINE, FROM:LINE or FROM:, numbers from 1 to 65535"
 scan_sentence Uncommitted = codes "the trace commits no scan of this task"
 scan_sentence UncommittedInRound = codes "the trace commits no scan of the task in this round"
 

@@ -55,8 +55,7 @@ impl ScanFault {
             ScanFault::Task => "the group has no such task",
             ScanFault::Unit => "the text has no such unit",
             ScanFault::Round => "no round: a number from 1 to 65535",
-            ScanFault::Line =>
-                "no lines: LINE, FROM:LINE or FROM:, numbers from 1 to 65535, FROM not after LINE",
+            ScanFault::Line => "no lines: LINE, FROM:LINE or FROM:, numbers from 1 to 65535",
             ScanFault::Uncommitted => "the trace commits no scan of this task",
             ScanFault::UncommittedInRound => "the trace commits no scan of the task in this round",
         }

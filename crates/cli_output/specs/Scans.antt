@@ -111,16 +111,10 @@ abbrev pub IsNoLast : List ℕ → Type 0
 IsNoLast [] = ⊥
 IsNoLast (digit ∷ digits) = IsNoNumber (digit ∷ digits)
 
--- the first line doesn't come after the last one, where both are there
-abbrev pub AreInOrder : Option ℕ → Option ℕ → Type 0
-AreInOrder None until = Unit {0}
-AreInOrder (Some from) None = Unit {0}
-AreInOrder (Some from) (Some until) = from ≤ until
-
--- a line alone is the last one; before a colon it is the first one, which doesn't come after the last one
+-- a line alone is the last one; before a colon it is the first one
 abbrev pub AreLinesBy : List ℕ → Option (List ℕ) → Option ℕ → Option ℕ → Type 0
 AreLinesBy front None from until = (from ≡ None) × ((line : ℕ) × IsNumber front line × (until ≡ Some line))
-AreLinesBy front (Some rest) from until = ((line : ℕ) × IsNumber front line × (from ≡ Some line)) × IsLast rest until × AreInOrder from until
+AreLinesBy front (Some rest) from until = ((line : ℕ) × IsNumber front line × (from ≡ Some line)) × IsLast rest until
 
 -- `LINE`, `FROM:LINE` or `FROM:`
 pub record AreLines (word : List ℕ) (from until : Option ℕ) : Type 0 where
@@ -129,13 +123,9 @@ pub record AreLines (word : List ℕ) (from until : Option ℕ) : Type 0 where
   pub cut : IsCut 58 word front rest
   pub are : AreLinesBy front rest from until
 
--- both are lines, and the first comes after the last
-abbrev pub AreTurned : List ℕ → List ℕ → Type 0
-AreTurned front rest = (line : ℕ) × ((last : ℕ) × IsNumber front line × IsNumber rest last × (last < line))
-
 abbrev pub AreNoLinesBy : List ℕ → Option (List ℕ) → Type 0
 AreNoLinesBy front None = IsNoNumber front
-AreNoLinesBy front (Some rest) = IsNoNumber front ⊎ (IsNoLast rest ⊎ AreTurned front rest)
+AreNoLinesBy front (Some rest) = IsNoNumber front ⊎ IsNoLast rest
 
 -- none of these
 pub record AreNoLines (word : List ℕ) : Type 0 where

@@ -1,11 +1,11 @@
 // What `scan` prints.
 
-ghost use Rattle.std.specs.Prelude.{◌≡◌, ◌≢◌, ◌≤◌, ◌<◌, ◌+◌, ℕ, None, Err, IfOk, IfErr, IfSome, IsNone, IsSome, length, option_map, string_bytes};
+ghost use Rattle.std.specs.Prelude.{◌≡◌, ◌≢◌, ◌≤◌, ◌<◌, ◌+◌, ℕ, None, Err, IfOk, IfErr, IfSome, IsNone, length, option_map, string_bytes};
 ghost use Rattle.cli_host.specs.Requests.{words_of};
 ghost use Rattle.trace_text.specs.Reading.{greatest_trace};
 ghost use Rattle.cli_output.specs.Outcomes.{HasWarnings, IsScanned, IsScanOutcome};
 ghost use Rattle.cli_output.specs.Parts.{AreScanned};
-ghost use Rattle.cli_output.specs.Scans.{AreInOrder, first_word, IsCut, IsTask, IsPart, IsPartFault, IsRoundWord, IsRoundFault, IsLast, IsNoLast, AreLines, AreNoLines, AreLinesOf, IsLinesFault, IsBadScan, IsAsked, IsUnasked, IsUncommittedBy};
+ghost use Rattle.cli_output.specs.Scans.{first_word, IsCut, IsTask, IsPart, IsPartFault, IsRoundWord, IsRoundFault, IsLast, IsNoLast, AreLines, AreNoLines, AreLinesOf, IsLinesFault, IsBadScan, IsAsked, IsUnasked, IsUncommittedBy};
 
 use crate::outcome::{Whole, fault_of_event, whole_of};
 use cli_host::files::Reading;
@@ -160,7 +160,7 @@ fn spread_of(alloc: Global, word: Option<&str>) -> Result<Spread, Fault>
     }
 }
 
-// `LINE`, `FROM:LINE` or `FROM:`, the lines in their order.
+// `LINE`, `FROM:LINE` or `FROM:`.
 fn lines_in(word: &str) -> Option<Spread>
     ensures some { IfSome result (λ lines. AreLines word.now lines.from lines.until) }
     ensures none { IsNone result → AreNoLines word.now }
@@ -172,22 +172,9 @@ fn lines_in(word: &str) -> Option<Spread>
             from: None,
             until: Some(line),
         }),
-        Some(rest) => from_to(line, last_of(rest)?),
-    }
-}
-
-// The lines from one on, up to another that doesn't come before it, where that is there.
-fn from_to(from: u32, until: Option<u32>) -> Option<Spread>
-    ensures some { IfSome result (λ lines. (lines.from ≡ Some from) × (lines.until ≡ until)
-        × AreInOrder lines.from lines.until) }
-    ensures none { IsNone result → IfSome until (λ last. last < from) }
-    ensures there { IsNone result → IsSome until }
-{
-    match until {
-        Some(last) if last < from => None,
-        _ => Some(Spread {
-            from: Some(from),
-            until,
+        Some(rest) => Some(Spread {
+            from: Some(line),
+            until: last_of(rest)?,
         }),
     }
 }
