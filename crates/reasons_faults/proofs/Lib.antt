@@ -2,5 +2,4 @@ pub mod ChainUses
 pub mod EachTold
 pub mod NothingSpelled
 pub mod PathRuns
-pub mod Standing
 pub mod CarWords

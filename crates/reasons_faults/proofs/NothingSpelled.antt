@@ -4,7 +4,7 @@ use Rattle.il_syntax.specs.declared.token.Token.{Token}
 use Rattle.il_syntax.specs.declared.tree.Place.{Place}
 use Rattle.il_syntax.specs.Text.{AreTokens, HasNoTokens}
 use Rattle.load_text.specs.Loading.{SpellsNone}
-use Rattle.reasons_faults.specs.TokenReasons.{AreToldOfToken}
+use Rattle.reasons_tokens.specs.TokenReasons.{AreToldOfToken}
 use Rattle.reasons_faults.specs.Reasons.{IsReason, is_of_ranges, unexpected, unspelled}
 
 -- nothing is reported where the text has no tokens

@@ -1,13 +1,7 @@
 pub mod ChainReasons
 pub mod CostReasons
-pub mod ExpectedKinds
 pub mod NamesTold
 pub mod Reasons
-pub mod TokenReasons
 pub mod TreeReasons
 pub mod TaskReasons
-pub mod LeftOut
-pub mod Instead
-pub mod Fractions
 pub mod LimitReasons
-pub mod Parentheses

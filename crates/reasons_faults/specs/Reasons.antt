@@ -9,10 +9,10 @@ use Rattle.load_text.specs.Loading.{SpellsNone, HasTokens}
 use Rattle.reasons_faults.specs.ChainReasons.{AreToldOfChains}
 use Rattle.reasons_faults.specs.CostReasons.{AreToldOfCosts}
 use Rattle.reasons_ranges.specs.RangeReasons.{AreToldOfRanges}
-use Rattle.reasons_faults.specs.Fractions.{literal_lines}
-use Rattle.reasons_faults.specs.LeftOut.{stray_at, stray_lines, named_lines}
+use Rattle.reasons_tokens.specs.Fractions.{literal_lines}
+use Rattle.reasons_tokens.specs.LeftOut.{stray_at, stray_lines, named_lines}
 use Rattle.reasons_faults.specs.LimitReasons.{size_line}
-use Rattle.reasons_faults.specs.TokenReasons.{AreToldOfToken, token_at}
+use Rattle.reasons_tokens.specs.TokenReasons.{AreToldOfToken, token_at}
 use Rattle.reasons_faults.specs.TreeReasons.{AreToldOfTree}
 
 -- the numbers of faults of ranges, of chains of uses, and of costs

@@ -4,7 +4,6 @@
 ghost use Rattle.std.specs.Prelude.{◌≡◌, ◌++◌, ◌≤◌, false, length, IfOk, OnOk};
 ghost use Rattle.il_syntax.specs.Grammar.{Spells};
 ghost use Rattle.il_syntax.specs.Text.{AreTokens};
-ghost use Rattle.load_tree.specs.Refused.{IsFault};
 ghost use Rattle.load_text.specs.Loading.{SpellsNone};
 ghost use Rattle.reasons_faults.specs.LimitReasons.{size_line};
 ghost use Rattle.reasons_faults.specs.Reasons.{IsReason, AreTold, left_out_of, is_of_ranges, is_of_chains, is_of_costs};
@@ -14,26 +13,19 @@ mod chain_search;
 mod chain_uses;
 mod chains;
 mod costs;
-mod expected;
-mod expected_search;
-mod fractions;
-mod instead;
-mod left_out;
 mod limits;
-mod parentheses;
 mod tasks;
 mod tree;
-mod unexpected;
 
-use crate::fractions::put_literal;
-use crate::left_out::put_stray;
 use il_statics::Written;
 use il_syntax::fault::Refusal;
 use il_syntax::token::Token;
 use il_syntax::tree::Place;
 use load_scope::Scoped;
 use load_tokens::tokens;
-use load_tree::parse;
+use reasons_tokens::fractions::put_literal;
+use reasons_tokens::left_out::put_stray;
+use reasons_tokens::{spelled, unexpected};
 use std::alloc::{AllocError, Global};
 
 /// What is reported of the refusal of a text with a number at a place: lines, each with its line feed, or none (own rule).
@@ -131,17 +123,6 @@ fn token_told(alloc: Global, text: &[u8], number: u16, place: Place) -> Result<V
         Err(Refusal::Memory) => Err(AllocError),
         Err(Refusal::Fault { .. }) => Ok(Vec::new(alloc)),
     }
-}
-
-// The configuration that a text spells.
-fn spelled(alloc: Global, text: &[u8]) -> Result<Written, Refusal>
-    ensures found { IfOk result (λ c. Spells text.now c) }
-    ensures short { IfOk result (λ c. length text.now ≤ LONGEST_TEXT) }
-    ensures none { IsFault result → SpellsNone text.now }
-{
-    let tokens = tokens(alloc, text)?;
-    let written = parse(alloc, text, &tokens)?;
-    Ok(written)
 }
 
 // What is reported of a fault of a configuration that a text spells, and of a type that the language leaves out.

@@ -1,7 +1,0 @@
-use Rattle.std.proofs.Common.{◌≡◌, drop}
-use Rattle.reasons_faults.specs.TokenReasons.{token_at}
-use Rattle.reasons_faults.proofs.unexpected.token_at.Given as goal
-
--- what is left answers for all
-abbrev pub invariant-loop-token : goal.invariant-loop-token
-invariant-loop-token l = token_at l.offset (drop l.token-index l.tokens) ≡ token_at l.offset l.tokens
