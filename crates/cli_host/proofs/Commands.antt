@@ -8,7 +8,7 @@ use Rattle.cli_host.specs.declared.request.Name.TheVariants as name
 use Rattle.cli_host.specs.declared.request.Showing.TheVariants as showing
 use Rattle.cli_host.specs.declared.request.Simulating.TheVariants as simulating
 
--- a word's length and first two letters report which command it names
+-- a word's length and first two letters say which command it names
 key_of : List ℕ → ℕ
 key_of word = 65536 * length word + (256 * slice_index word 0 + slice_index word 1)
 

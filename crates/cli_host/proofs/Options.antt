@@ -20,7 +20,7 @@ only_uncut : (words : List (List ℕ)) → AreNoOptions words → (positional : 
 only_uncut words plain positional false is = sym is
 only_uncut words plain positional true h = absurd (has_one IsOption h.0 (codes "--cut") h.1 refl (subst AreNoOptions h.2 plain))
 
--- none is among words that end where the first one would are
+-- none is among words that end where the first one would be
 ends : (words front back : List (String Global)) (n : ℕ) → front ≡ take n words → back ≡ drop n words → length back ≡ 0 → ((k : ℕ) (word : List ℕ) → k < n → slice_get (map string_bytes words) k ≡ Some word → IsOption word → ⊥)
     → AreNoOptions (map string_bytes words) × (map string_bytes words ≡ map string_bytes front ++ map string_bytes back)
 ends words front [] n e f z before =

@@ -21,7 +21,7 @@ before_both a b c (inl p) (inr q) = inl (omega (arith, p, q.0))
 before_both a b c (inr p) (inl q) = inl (omega (arith, p.0, q))
 before_both a b c (inr p) (inr q) = inr (p.0 ∙ q.0, omega (arith, p.1, q.1))
 
--- a call that comes before another is another, and doesn't follows it
+-- a call that comes before another is another, and doesn't follow it
 not_below : (m n : ℕ) → n ≤ m → nat_lt m n ≡ false
 not_below m n h = by (nat_lt m n) refl
   where

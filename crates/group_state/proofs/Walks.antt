@@ -33,7 +33,7 @@ at_place [] k x h e = absurd (omega (arith, h))
 at_place (y ∷ xs) zero x h e = ap Some (sym e)
 at_place (y ∷ xs) (suc k) x h e = at_place xs k x (omega (arith, h)) e
 
--- the element at a place, whatever means one that isn't there
+-- the element at a place, with anything in place of one that isn't there
 pub got : {X : Type 0} (xs : List X) (k : ℕ) (d x : X) → slice_get xs k ≡ Some x → get_or xs k d ≡ x
 got [] k d x e = absurd (cc)
 got (y ∷ xs) zero d x e = same_Some y x e

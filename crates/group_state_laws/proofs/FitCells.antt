@@ -52,7 +52,7 @@ use Rattle.group_state_laws.proofs.Lined.{has_none, without_by, both_without, si
 
 -- NUMBERS OF 64 BITS
 
--- a number of a whole type, or of TIME
+-- a number of an integer type, or of TIME
 number_narrow : (e : Elementary) (z : ℤ) → LiesIn (limits e) z → (negsuc (2 ^ 62) ≤ℤ z) × (z ≤ℤ pos (2 ^ 62))
 number_narrow BoolType z h = absurd h
 number_narrow Sint z h = (omega (arith, ints, h.0), omega (arith, ints, h.1))
@@ -149,7 +149,7 @@ module _ (c : Config) (unbroken : HasNoFault (Broken Declaring c)) where
 
 -- DECLARED NAMES
 
--- a byte that a list doesn't contain doesn't are there
+-- a byte that a list doesn't contain isn't there
 lacks_byte : (stop : ℕ) (xs : List ℕ) → (Contains xs stop → ⊥) → Without stop xs
 lacks_byte stop [] none = tt
 lacks_byte stop (x ∷ xs) none = (λ same. none (subst (λ (y : ℕ). Contains (x ∷ xs) y) same (at_head x xs)), lacks_byte stop xs (λ has. none (in_tail x xs stop has)))

@@ -79,7 +79,7 @@ set_there [] k v below = absurd (omega (arith, below))
 set_there (y ∷ ys) zero v below = refl
 set_there (y ∷ ys) (suc k) v below = set_there ys k v (omega (arith, below))
 
--- where something is is within the list
+-- the place of something is within the list
 pub within : {X : Type 0} (xs : List (Option X)) (k : ℕ) (x : X) → flat (slice_get xs k) ≡ Some x → k < length xs
 within [] zero x e = let bad : ◌≡◌ {A = Option _} None (Some x) = e in cc
 within [] (suc k) x e = let bad : ◌≡◌ {A = Option _} None (Some x) = e in cc

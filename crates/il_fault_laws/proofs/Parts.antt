@@ -32,7 +32,7 @@ blanks_up : (text ends : List ℕ) (i j : ℕ) → AreBlanks text ends i j → i
 blanks_up text [] i j h = omega (arith, h)
 blanks_up text (k ∷ ends) i j h = omega (arith, (blank_within text i k h.0).0, blanks_up text ends k j h.1)
 
--- tokens follows the place that they are read from
+-- tokens follow the place that they are read from
 pub tokens_up : (text : List ℕ) (at : ℕ) (ts : List Token) (t : Token) (back : List Token) → AreTokens text at ts → IsEndOf (t ∷ back) ts → at ≤ t.start
 tokens_up text at [] t back h e = absurd cc
 tokens_up text at (u ∷ ts) t back h (inl e) =

@@ -187,7 +187,7 @@ variable_of_test (Invoke function operands) v t e = cc
 
 -- WHAT IS TESTED
 
--- a scalar of a whole type or of TIME has a range
+-- a scalar of an integer type or of TIME has a range
 pub counted_range : (s : Scalar) → is_counted s.elementary ≡ true → (j : Interval) × (range s ≡ Some j)
 counted_range s e = by_subrange s.subrange refl
   where

@@ -162,7 +162,7 @@ abbrev pub WithFlow : Elementary → Option Interval → Option Interval → (Kn
 WithFlow e None flow go = go Flag
 WithFlow e (Some declared) flow go = WithInterval flow (λ i. go (Ranged e i))
 
--- A literal: a value of the type that is written, and for a bare one of the whole type that is given.
+-- A literal: a value of the type that is written, and for a bare one of the integer type that is given.
 abbrev pub WithLiteral : Elementary → Literal → (Known → Type 0) → Type 0
 WithLiteral e (Truth b) go = go Flag
 WithLiteral e (Bare z) go = IsTrue (is_whole e) × IsValueOf e z × go (Ranged e (only z))

@@ -32,7 +32,7 @@ pub record Test : Type 0 where
 abbrev pub if_value : Elementary → ℤ → Option ℤ
 if_value e z = if is_within_any (limits e) z then Some z else None
 
--- The number of a literal of a type; a bare one has any whole type (2.2).
+-- The number of a literal of a type; a bare one has any integer type (2.2).
 abbrev pub literal_number : Elementary → Literal → Option ℤ
 literal_number e (Truth b) = None
 literal_number e (Bare z) = if is_whole e then if_value e z else None
@@ -44,7 +44,7 @@ abbrev pub operand_number : Elementary → Reference → Option ℤ
 operand_number e (LiteralReference l) = literal_number e l
 operand_number e _ = None
 
--- A scalar variable by its name alone, with its whole type or TIME.
+-- A scalar variable by its name alone, with its integer type or TIME.
 abbrev pub counted_variable : Denotation → Option (Text × Elementary)
 counted_variable (Direct name s) = if is_counted s.elementary then Some (name, s.elementary) else None
 counted_variable _ = None

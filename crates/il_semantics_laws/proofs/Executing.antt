@@ -126,7 +126,7 @@ module _ (c : Config) (p : ProgramUnit) (order : IsInOrder c p) (annotated : Ann
 
   -- LD AND LDN --
 
-  -- a test may follows LD of a number
+  -- a test may follow LD of a number
   variable_loaded : (o : Operand) (name : Text) (s : Scalar) → instruction_at u.body f.place ≡ Load false o → denotation c u o.reference ≡ Direct name s → is_counted s.elementary ≡ true → Passes spot (Load false o) → Q (executed scene (Load false o))
   variable_loaded o name s is e counts p =
       subst (λ m. Q (with_operand (natural m) f.path values m (λ d. gives scene d))) (sym e)

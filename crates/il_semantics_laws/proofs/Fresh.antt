@@ -87,7 +87,7 @@ passes : (b : Bool) (n : ℕ) → ¬ Contains (unless b n) n → b ≡ true
 passes true n none = refl
 passes false n none = absurd (none (at_head n []))
 
--- a subrange is one of a whole type and not empty (22, 25)
+-- a subrange is one of an integer type and not empty (22, 25)
 pub range_ok : (e : Elementary) (r : Subrange) → ¬ Contains (subrange_numbers e (Some r)) 22 → ¬ Contains (subrange_numbers e (Some r)) 25 → (is_whole e ≡ true) × (r.lower ≤ℤ r.upper)
 range_ok e r no_empty no_other = by_whole (is_whole e) refl no_empty no_other
   where

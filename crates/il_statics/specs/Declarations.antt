@@ -66,7 +66,7 @@ unless false number = number ∷ []
 pub data Admitted : Type 0 where
   ScalarsAlone ScalarsAndArrays AllForms : Admitted
 
--- a subrange is one of a whole type, within it and not empty (2.3.3.1)
+-- a subrange is one of an integer type, within it and not empty (2.3.3.1)
 abbrev pub subrange_numbers : Elementary → Option Subrange → List ℕ
 subrange_numbers elementary None = []
 subrange_numbers elementary (Some s) =

@@ -42,12 +42,12 @@ is_one_of names name = list_any (λ n. bytes_eq n name) names
 abbrev pub entry_of : {A : Type 0} → List (Spelling × A) → Spelling → Option A
 entry_of table name = option_map (λ e. e.1) (find (λ e. bytes_eq e.0 name) table)
 
--- the six whole types with their words (2.3.1)
+-- the six integer types with their words (2.3.1)
 abbrev pub whole_types : List (Spelling × Elementary)
 whole_types =
     (codes "SINT", Sint) ∷ (codes "INT", Int) ∷ (codes "DINT", Dint) ∷ (codes "USINT", Usint) ∷ (codes "UINT", Uint) ∷ (codes "UDINT", Udint) ∷ []
 
--- X_TO_Y, between two different whole types (2.5.1.5.1)
+-- X_TO_Y, between two different integer types (2.5.1.5.1)
 abbrev pub conversion_between : Spelling × Elementary → Spelling × Elementary → List (Spelling × StandardFunction)
 conversion_between from to = if bytes_eq from.0 to.0 then [] else (from.0 ++ codes "_TO_" ++ to.0, Converted from.1 to.1) ∷ []
 

@@ -103,7 +103,7 @@ loaded_type config unit (OfVariable name) = reference_type config unit (OfVariab
 loaded_type config unit (OfElement name index) = reference_type config unit (OfElement name index)
 loaded_type config unit (OfMember name word) = reference_type config unit (OfMember name word)
 
--- an index variable has a whole type (own rule)
+-- an index variable has an integer type (own rule)
 abbrev pub index_type_numbers : Option Elementary → List ℕ
 index_type_numbers None = []
 index_type_numbers (Some found) = unless (is_whole found) 30
@@ -215,7 +215,7 @@ left_type (ComparisonOperator comparison) before = Some Boolean
 
 -- FUNCTIONS
 
--- whether a standard function of one type takes it: ABS whole types, the others TIME too (2.5.1.5)
+-- whether a standard function of one type takes it: ABS integer types, the others TIME too (2.5.1.5)
 abbrev pub function_takes : StandardFunction → Elementary → Bool
 function_takes Absolute found = is_whole found
 function_takes Minimum found = not (is_same_type found Boolean)

@@ -59,7 +59,7 @@ pub fn is_whole(elementary: Elementary) -> bool
     !matches!(elementary, Elementary::Bool | Elementary::Time)
 }
 
-/// Whether a type's values are numbers: those of the whole types and of TIME (2.3.1).
+/// Whether a type's values are numbers: those of the integer types and of TIME (2.3.1).
 pub fn is_counted(elementary: Elementary) -> bool
     ensures { result ≡ is_counted elementary }
 {

@@ -10,7 +10,7 @@ pub enum StandardFunction {
     Maximum,
     Limited,
     Selected,
-    /// X_TO_Y, between two different whole types (2.5.1.5.1).
+    /// X_TO_Y, between two different integer types (2.5.1.5.1).
     Converted(Elementary, Elementary),
 }
 

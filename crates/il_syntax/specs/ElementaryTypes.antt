@@ -46,7 +46,7 @@ is_whole Boolean = false
 is_whole Time = false
 is_whole _ = true
 
--- whether a type's values are numbers: the whole types and TIME (2.3.1)
+-- whether a type's values are numbers: the integer types and TIME (2.3.1)
 abbrev pub is_counted : Elementary → Bool
 is_counted Boolean = false
 is_counted _ = true

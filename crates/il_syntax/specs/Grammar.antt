@@ -378,7 +378,7 @@ module _ (text : List ℕ) where
   abbrev pub SpellsLabel : Named → Front
   SpellsLabel label = TheName label ⨾ TheSign Colon
 
-  -- Labels, each on a line of its own but for the last, which may is on the line of the P that it names (3.2.1; empty lines own rule).
+  -- Labels, each on a line of its own but for the last, which may be on the line of the P that it names (3.2.1; empty lines own rule).
   abbrev pub SpellsLabelled : List Named → Front → Front
   SpellsLabelled [] P = P
   SpellsLabelled (label ∷ []) P = SpellsLabel label ⋯ P

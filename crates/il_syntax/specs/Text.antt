@@ -150,7 +150,7 @@ unfoldable pub entry_of : {A : Type 0} → List (List ℕ × A) → List ℕ →
 entry_of [] word = None
 entry_of (entry ∷ entries) word = if bytes_eq word entry.0 then Some entry.1 else entry_of entries word
 
--- the whole types by their words (2.3.1)
+-- the integer types by their words (2.3.1)
 abbrev pub whole_type_words : List (List ℕ × Elementary)
 whole_type_words = (codes "SINT", Sint) ∷ (codes "INT", Int) ∷ (codes "DINT", Dint) ∷ (codes "USINT", Usint) ∷ (codes "UINT", Uint) ∷ (codes "UDINT", Udint) ∷ []
 

@@ -48,7 +48,7 @@ through f injective one = record {
 pub after_lines : {A : Type 0} {P : A → Front} → IsDeterministic P → IsDeterministic (λ a. AfterLines (P a))
 after_lines one = record { only = λ a b ts r s p q. one.only a b (skip_line_ends ts) r s p q }
 
--- nothing where something doesn't are
+-- nothing where something isn't
 pub no_one : (P : Front) → IsSure (No P)
 no_one P = record { only = λ ts r s p q. sym p.0 ∙ q.0 }
 

@@ -474,7 +474,7 @@ after_lines {P = P} {s = s} {ss = ss} solid one = record {
       (p.0, subst (λ x. P other p.0 x rest) (sym (begins_solid s ss solid other vs rest a)) p.1);
 }
 
--- nothing, where such a token doesn't are
+-- nothing, where such a token isn't
 pub none_there : (F : List ℕ → Front) → IsSampled (stops F) (λ text (u : Unit {0}). No (AfterLines (F text))) []
 none_there F = record { stands = λ other vs rest a k. (tt, (a, λ r p. k r (subst (λ x. F other (skip_line_ends x) r) a p))) }
 

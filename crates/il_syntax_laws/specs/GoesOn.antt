@@ -1,4 +1,4 @@
--- Texts that go on: what other tokens may follows those of a text up to one of them.
+-- Texts that go on: what other tokens may follow those of a text up to one of them.
 --
 -- `at` is the end of a list of tokens, from the token in question on, and `[]` for the end of the text. Another text is cut there
 -- where its tokens are those before the first of `at`, of the same bytes, and then others.
@@ -43,7 +43,7 @@ always other vs = ⊤
 abbrev pub stops : (List ℕ → Front) → Test
 stops F other vs = (rest : List Token) → AfterLines (F other) vs rest → ⊥
 
--- this reserved word doesn't are there (own rule)
+-- this reserved word isn't there (own rule)
 abbrev pub lacks : Keyword → Test
 lacks keyword = stops (λ text. TheWord text keyword)
 

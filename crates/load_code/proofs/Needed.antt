@@ -158,7 +158,7 @@ module _ (c : Config) (unbroken : HasNoFault (Broken Declaring c)) where
           let r = more w (used_among c u w found) (k, omega arith, same) in
           ((w ∷ r.0.0, (use_from u w among found, r.0.1)), r.1)
 
-  -- a chain of uses builds on what uses its first
+  -- a chain of uses grows by what uses its first
   stacked : (p u v : ProgramUnit) (us between : List ProgramUnit) → Contains c.units u → IsStack c p u us → LeadsThrough (UsesBy c false) u between v → (w : ProgramUnit) × (ws : List ProgramUnit) × IsStack c p v (w ∷ ws)
   stacked p u v us [] among is used = (u, us, (use_to u v among used, is))
   stacked p u v us (w ∷ between) among is used =

@@ -214,7 +214,7 @@ fn index_fault(here: &UnitScope, index: &Index, place: Place) -> Option<Found<De
     }
 }
 
-// What a name where a scalar variable is breaks.
+// What a name in the place of a scalar variable breaks.
 fn scalar_name_fault(here: &UnitScope, name: &str, place: Place) -> Option<Found<DeclareFault>>
     ensures { result ≡ lowest_at (scalar_numbers (meaning here.now.config here.now.unit name.now))
         place }

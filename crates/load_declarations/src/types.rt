@@ -134,7 +134,7 @@ fn has_few(bounds: Subrange) -> bool
     i128::from(bounds.upper) - i128::from(bounds.lower) < 256
 }
 
-/// What a subrange breaks: it is of a whole type, within it and not empty (2.3.3.1).
+/// What a subrange breaks: it is of an integer type, within it and not empty (2.3.3.1).
 pub fn subrange_fault(scalar: Scalar, place: Place) -> Option<Found<DeclareFault>>
     ensures { result ≡ lowest_at (subrange_numbers scalar.elementary scalar.subrange) place }
 {

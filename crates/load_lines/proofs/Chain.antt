@@ -74,7 +74,7 @@ unmet_part {F = F} {text = text} {ts = ts} error same told none here =
     let bad = at_once {P = λ text (u : Unit {0}). F text} error same (λ other us a u r w. told.still text other ts ts us a none r w) here in
     record { fault = bad.fault }
 
--- the first part doesn't are there
+-- the first part isn't there
 pub first : {A B : Type 0} {P : List ℕ → A → Front} {text : List ℕ} {ts : List Token} {e : Stop} (f : B → A) (gap : Gap) (Q : List ℕ → B → Front) → Refuses P text ts e
     → Refuses (λ text b. P text (f b) ⟨ gap ⟩ Q text b) text ts e
 first f gap Q bad = lift (end_self _) (λ back gone. record { inside = gone.inside; never = λ other us a b r w. gone.never other us a (f b) w.0 w.1 }) bad
@@ -102,7 +102,7 @@ pub later_lines : {A B : Type 0} {P : List ℕ → A → Front} {text : List ℕ
     → Refuses Q text (skip_line_ends m) e → Refuses (λ text b. P text (f b) ⋯ Q text b) text ts e
 later_lines {text = text} {ts = ts} {m = m} {x = x} f Q one here bad = lift (end_of_end (skip_line_ends m) m ts ((one.carries x).ends text ts m here.found) (loose_gap.ends m)) (λ back gone. later_goes back f loose_gap Q (λ k. omega arith) one here.found gone) bad
 
--- a part without a value doesn't are there
+-- a part without a value isn't there
 pub first_missing : {B : Type 0} {F : List ℕ → Front} {text : List ℕ} {ts : List Token} {e : Stop} (gap : Gap) (Q : List ℕ → B → Front) → Misses F text ts e
     → Refuses (λ text b. F text ⟨ gap ⟩ Q text b) text ts e
 first_missing gap Q bad = lift (end_self _) (λ back gone. record { inside = gone.inside; never = λ other us a b r w. gone.never other us a tt w.0 w.1 }) (as_value bad)
@@ -116,7 +116,7 @@ pub behind : {B : Type 0} {F : List ℕ → Front} {text : List ℕ} {ts m : Lis
     → Refuses Q text (gap m) e → Refuses (λ text b. F text ⟨ gap ⟩ Q text b) text ts e
 behind {text = text} {ts = ts} {m = m} {gap = gap} is Q one here bad = lift (end_of_end (gap m) m ts (one.carries.ends text ts m here.found) (is.ends m)) (λ back gone. later_goes back (λ b. tt) is Q (gap_length is) (valued one) here.found gone) bad
 
--- the last part, without a value, doesn't are there
+-- the last part, without a value, isn't there
 pub last_missing : {B : Type 0} {F : List ℕ → Front} {text : List ℕ} {ts : List Token} {e : Stop} → Misses F text ts e → Refuses (λ text (b : B). F text) text ts e
 last_missing bad = lift (end_self _) (λ back gone. record { inside = gone.inside; never = λ other us a b r w. gone.never other us a tt r w }) (as_value bad)
 
@@ -153,7 +153,7 @@ module _ {A : Type 0} (P : List ℕ → A → Front) (E : List ℕ → Front) (t
   pub starts : (ts : List Token) → HasRead P E text ts [] ts
   starts ts = record { inside = end_self ts; whole = λ more r w. w; left = λ other back us a l. (us, a, λ ys r w. (ys, refl, w)); gone = gone_starts ts }
 
-  -- where the end doesn't are, one more has to
+  -- where the end isn't, one more has to
   pub one_more : (ts : List Token) → ((r : List Token) → E text ts r → ⊥) → (ys : List A) (r : List Token) → Repeats (P text) ys (E text) ts r
       → (y : A) × (more : List A) × (ys ≡ y ∷ more) × (m : List Token) × P text y ts m × Repeats (P text) more (E text) (skip_line_ends m) r
   one_more ts on [] r w = absurd (on r w)
@@ -202,7 +202,7 @@ abbrev pub Tail : {A : Type 0} → Gap → (A → Front) → Front → List A �
 Tail gap P E [] = E
 Tail gap P E (y ∷ ys) = TheSign Comma ⟨ gap ⟩ Listed gap P (y ∷ ys) E
 
--- What a loop over a list has read, and one more has to follows it, in alike tokens too.
+-- What a loop over a list has read, and one more has to follow it, in alike tokens too.
 pub record Wants {A : Type 0} (gap : Gap) (P : List ℕ → A → Front) (E : List ℕ → Front) (text : List ℕ) (start : List Token) (xs : List A) (ts : List Token) : Type 0 where
   pub inside : IsEndOf ts start
   pub whole : (y : A) (more : List A) (r : List Token) → Listed gap (P text) (y ∷ more) (E text) ts r → Listed gap (P text) (xs ++ y ∷ more) (E text) start r
@@ -278,7 +278,7 @@ module _ {A : Type 0} {gap : Gap} (is : IsGap gap) (P : List ℕ → A → Front
             );
       }
 
-  -- one that doesn't are there
+  -- one that isn't there
   pub list_item_refused : (start : List Token) (xs : List A) (ts : List Token) (e : Stop) → Wants gap P E text start xs ts → Refuses P text ts e → Refuses (λ text ys. Listed gap (P text) ys (E text)) text start e
   list_item_refused start xs ts e so_far bad = lift so_far.inside (λ back gone. record {
     inside = end_of_end back ts start so_far.inside gone.inside;
@@ -321,12 +321,12 @@ pub was_there : (F : Front) (ts : List Token) (b : Bool) (rest : List Token) →
 was_there F ts true rest h e = h
 was_there F ts false rest h e = absurd cc
 
--- what wasn't taken didn't are there
+-- what wasn't taken wasn't there
 pub was_missing : (F : Front) (ts : List Token) (b : Bool) (rest : List Token) → Eats F ts b rest → b ≡ false → (rest ≡ ts) × ((other : List Token) → F ts other → ⊥)
 was_missing F ts true rest h e = absurd cc
 was_missing F ts false rest h e = h
 
--- a thing at its place, which doesn't are there
+-- a thing at its place, which isn't there
 pub at_refused : {A B : Type 0} {P : List ℕ → A → Front} {text : List ℕ} {ts : List Token} {e : Stop} (place : B → Place) (f : B → A) → Refuses P text ts e
     → Refuses (λ text b. At (place b) (P text (f b))) text ts e
 at_refused {P = P} place f bad = lift (end_self _) (λ back gone. record {

@@ -82,7 +82,7 @@ module _ (text : List ℕ) where
   word_moved : (k : Keyword) (Q : Front) (ts r : List Token) → (TheWord text k ⨾ Q) ts r → Q (drop 1 ts) r
   word_moved k Q ts r w = moved _ Q ts r w
 
-  -- an instruction of this sort, whose part after its first token doesn't are there
+  -- an instruction of this sort, whose part after its first token isn't there
   sort_refused : {B : Type 0} (room : Bool) (l : Lead) (Q : B → Front) (ts : List Token) → lead_at text ts ≡ l
       → ((i : Instruction) (r : List Token) → sort_of i ≡ sort_at (plain l) → SpellsInstruction text i ts r → (b : B) × Q b (drop 1 ts) r)
       → Lacks Q (drop 1 ts) → Lacks (SpellsRoomy text room) ts
@@ -174,7 +174,7 @@ module _ (text : List ℕ) where
       let same : u ≡ t = cc in
       inr (sign_is u.kind _ Ampersand l, (sym n.0, subst (λ (x : Token). (other : List Token) → TheLetterN text x.end vs other → ⊥) (sym same) n.1))
 
-  -- a function whose name doesn't are there
+  -- a function whose name isn't there
   function_refused_lacks : (room : Bool) (ts : List Token) → lead_at text ts ≡ first.Name → Lacks (TheName text) ts → Lacks (SpellsRoomy text room) ts
   function_refused_lacks room ts l bad = go
     where
@@ -355,7 +355,7 @@ module _ (text : List ℕ) where
   pub work_refused : (room : Bool) (op : Operator) (ts m : List Token) (e : Stop) → SpellsOperator text op ts m → Refuses (λ text. SpellsWork text room op) text m e → Refuses (λ text. SpellsRoomy text room) text ts e
   work_refused room op ts m e here bad = past_part tight_gap operator_local here (λ other us back n a there gone. work_refused_lacks other room op us n there gone) bad
 
-  -- a function whose name doesn't are there
+  -- a function whose name isn't there
   pub function_refused : (room : Bool) (ts : List Token) (e : Stop) → lead_at text ts ≡ first.Name → Refuses TheName text ts e → Refuses (λ text. SpellsRoomy text room) text ts e
   function_refused room ts e l bad = past tight_gap (λ other us back a gone. function_refused_lacks other room us (lead_alike text other back ts us a ∙ l) gone) bad
 

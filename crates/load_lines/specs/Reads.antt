@@ -110,7 +110,7 @@ pub record Stands (F : Front) (ts rest : List Token) : Type 0 where
 pub record Misses (F : List ℕ → Front) (text : List ℕ) (ts : List Token) (e : Stop) : Type 0 where
   pub fault : IsFault e → (error : SyntaxError) × (at : List Token) × (e ≡ fault_at error at) × IsEndOf at ts × GoesOnNoMore (λ text (u : Unit {0}). F text) text ts (turn error text at)
 
--- Whether this is at the front: it is taken, or it doesn't are there and nothing is.
+-- Whether this is at the front: it is taken, or it isn't there and nothing is.
 abbrev pub Eats : Front → List Token → Bool → List Token → Type 0
 Eats F ts true rest = F ts rest
 Eats F ts false rest = (rest ≡ ts) × ((other : List Token) → F ts other → ⊥)

@@ -63,7 +63,7 @@ get-with_new {X = X} m k v q = by_old (get m k) refl
 pub take_next : {A : Type 0} (xs : List A) (i : ℕ) (x : A) → i < length xs → x ≡ get_or xs i x → take (i + 1) xs ≡ take i xs ++ x ∷ []
 take_next xs i x low there = take_more xs i x low ∙ ap (λ y. take i xs ++ y ∷ []) (sym there)
 
--- an element that is there, whatever means others
+-- an element that is there, whatever takes the place of others
 same_default : {A : Type 0} (xs : List A) (i : ℕ) (d e : A) → i < length xs → get_or xs i d ≡ get_or xs i e
 same_default [] i d e low = absurd (omega arith)
 same_default (x ∷ xs) zero d e low = refl

@@ -41,7 +41,7 @@ fitting e bytes v w found small r test fails is good =
     let yes : r ≡ true = test (subst (IsValueOf e) (wv ∙ sym (narrow v small)) good) in
     cc
 
--- a word of a whole type whose number is no value of it writes nothing
+-- a word of an integer type whose number is no value of it writes nothing
 pub no_whole_literal : (word bytes : List ℕ) (e : Elementary) → entry_of whole_type_words word ≡ Some e → ((v : ℤ) → number_value bytes ≡ Some v → IsValueOf e v → ⊥)
     → (l : Literal) → IsTyped word bytes l → ⊥
 no_whole_literal word bytes e is none (Whole f v) h =

@@ -33,7 +33,7 @@ abbrev pub form_or_size : {A : Type 0} → Option A → LexicalError
 form_or_size None = BadNumber
 form_or_size (Some value) = NumberTooLarge
 
--- what is wrong with bytes after the `#` of a whole type, of a duration, or of neither
+-- what is wrong with bytes after the `#` of an integer type, of a duration, or of neither
 abbrev pub error_behind : Option Elementary → Option Elementary → List ℕ → LexicalError
 error_behind (Some whole) duration bytes = form_or_size (number_value bytes)
 error_behind None (Some duration) bytes = form_or_size (duration_value bytes)

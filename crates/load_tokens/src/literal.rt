@@ -13,7 +13,7 @@ use crate::error::LexicalError;
 use crate::number::number_of;
 use il_syntax::tree::{Elementary, Literal};
 
-// The whole type that a word names.
+// The integer type that a word names.
 #[tactic(auto, unfolding(il_syntax::specs::Text::entry_of))]
 fn whole_type(word: &[u8]) -> Option<Elementary>
     ensures { result ≡ entry_of whole_type_words (upper_case word.now) }

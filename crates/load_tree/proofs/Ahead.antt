@@ -51,7 +51,7 @@ part_ahead f bad = record {
       (b.0, b.1, b.2, b.3, b.4, record { inside = b.5.inside; never = λ other us a x r w. b.5.never other us a (f x) r w });
 }
 
--- the first part doesn't are there
+-- the first part isn't there
 pub first_ahead : {A B : Type 0} {P : List ℕ → A → Front} {text : List ℕ} {ts : List Token} {e : Stop} (f : B → A) (Q : List ℕ → B → Front) → RefusesAhead P text ts e
     → RefusesAhead (λ text b. P text (f b) ⨾ Q text b) text ts e
 first_ahead f Q bad = record {

@@ -70,7 +70,7 @@ always_so TooDeep w = tt
 always_so TooMany w = tt
 
 module _ {A B : Type 0} {P : List ℕ → A → Front} {C : List Token → B → Type 0} {text : List ℕ} {ts : List Token} {e : Stop} {first : Test} {look : Gap} where
-  -- a part doesn't are there
+  -- a part isn't there
   pub leaves_first : (f : B → A) (gap behind : Gap) (Q : List ℕ → B → Front) → IsOpenGap look → ((k : List Token) → IsEndOf (behind (gap k)) (look k)) → IsOpening look first P → Spreads behind C Q → Refuses P text ts e
       → LeavesLate C (λ text b. P text (f b) ⟨ gap ⟩ Q text b) text ts e
   leaves_first f gap behind Q open_ far one spreads bad = record { fault = λ is. let b = bad.fault is in (b.0, b.1, b.2, b.3, go b.0 b.1 b.4) }

@@ -59,7 +59,7 @@ opens fill = record { one = λ x. (fill.one x).opens }
 -- LISTS BEFORE A BODY
 
 module _ {A B : Type 0} {P : List ℕ → A → Front} {C : List Token → B → Type 0} {text : List ℕ} {ts : List Token} {e : Stop} {first : Test} where
-  -- one doesn't are there
+  -- one isn't there
   pub ahead_first : (f : B → A) (Q : List ℕ → B → Front) → IsOpening loose first P → Spreads loose C Q → RefusesAhead P text ts e → LeavesLate C (λ text b. P text (f b) ⨾ Q text b) text ts e
   ahead_first f Q one spreads bad = leaves_first f tight loose Q loose_open (λ k. end_self (skip_line_ends k)) one spreads (forget bad)
 

@@ -91,7 +91,7 @@ module _ (text : List ℕ) where
       → RefusesAhead (λ text. SpellsFull text k) text ts e
   full_refused k ts m e here bad = past_lines (λ other us back a gone ds r w. gone ds r w.1) (behind loose_gap (λ text ds. Repeats (SpellsDeclaration text) ds (TheWord text word.EndVar)) (word_local k) here bad)
 
-  -- the word of a list doesn't are there
+  -- the word of a list isn't there
   pub word_refused : (k : Keyword) (Q : List ℕ → List Declaration → Front) (ts : List Token) (e : Stop) → Misses (λ text. TheWord text k) text (skip_line_ends ts) e → RefusesAhead (λ text ds rs. (TheWord text k ⋯ Q text ds) (skip_line_ends rs)) text ts e
   word_refused k Q ts e bad = past_lines (λ other us back a gone ds r w. gone ds r w) (first_missing loose Q bad)
 

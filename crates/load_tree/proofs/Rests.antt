@@ -146,7 +146,7 @@ full_opening k = record { one = λ ds. loosely (fill_given _ (list_fills k decla
 pub result_opening : IsOpening loose quiet SpellsResultAt
 result_opening = record { one = λ x. result_opens (unit.Function x.1 x.0) }
 
--- they follows line ends more as well
+-- they follow line ends more as well
 pub lax_no : (k : Keyword) → IsLaxPart (λ text (u : Unit {0}). LacksList text k)
 lax_no k = record { more = λ text u t ts rest line w. inr (w.0, (refl, λ r p. w.1 r (subst (λ x. TheWord text k x r) (skip_more t ts line) p))) }
 
@@ -250,7 +250,7 @@ function_is x other us r h =
 
 -- THE CONFIGURATION
 
--- a word doesn't are where another does
+-- a word isn't where another does
 pub passes_word : (k w : Keyword) (ss : List Sample) {test : Test} → (w ≡ k → ⊥) → Passes (lacks k) (word_sample w ∷ ss) test
 passes_word k w ss differs = record { yes = λ other vs rest a t. begins_lacking (word_sample w) ss k refl (λ is e. let same : Some w ≡ Some k = sym (word_known w) ∙ e in differs cc) other vs rest a }
 

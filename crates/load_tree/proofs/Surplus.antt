@@ -65,7 +65,7 @@ part_begins : {A B : Type 0} {look : Gap} {zs : List Sample} {text : List ℕ} (
 part_begins {A = A} {B = B} {text = text} P Q effect h is x ts m fill here q =
     begins_as {P = λ text (y : A × B). P text y.0 ⨾ Q text y.1} {Q = λ text. SpellsRoomyOf text true effect} h is (begins_first tight q passes_always stays_tight (begins_whole x ts m fill here))
 
--- what may follows an `&`
+-- what may follow an `&`
 abbrev BehindSign : List ℕ → Operand → Front
 BehindSign text o us r = calm text us × SpellsLine text o us r
 
@@ -76,7 +76,7 @@ behind_sign_sampled = record {
       (x.0, ((passes_calm {samples = true_sample ∷ line_end_sample ∷ []} {test = always} refl).yes other vs rest a t, x.1));
 }
 
--- an `&` and what may follows it are an instruction
+-- an `&` and what may follow it are an instruction
 ampersand_is : (o : Operand) (other : List ℕ) (us r : List Token) → (TheSign Ampersand ⨾ BehindSign other o) us r → SpellsRoomyOf other true Even (instruction.Operate (operator.Logic Conjunction false) o) us r
 ampersand_is o other [] r w = absurd w.1
 ampersand_is o other (u ∷ us) r w = (refl, (tt, (w.0, inr (w.1.0, (w.1.1, λ n p. w.2.0.letter u.end n (subst (λ k. TheLetterN other u.end k n) w.1.1 p))), w.2.1)))

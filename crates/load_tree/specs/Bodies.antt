@@ -107,7 +107,7 @@ pub record HasLabels (text : List ℕ) (start : List Token) (ns : List Named) (a
   pub past : (other : List ℕ) (us vs : List Token) → IsCut text other ts start us vs → (p : Place) (i : Instruction) (ys : List Named) (r : List Token) → SpellsLabelled other ys (At p (SpellsInstruction other i)) us r
       → StandsAmong vs p
 
--- the word that ends the body, which is taken where it may be, or doesn't are there
+-- the word that ends the body, which is taken where it may be, or isn't there
 abbrev pub TakesEnd : List ℕ → Keyword → Bool → List Token → Option Place → List Token → Type 0
 TakesEnd text last alone ts (Some p) rest = IsTrue alone × At p (TheWord text last) ts rest
 TakesEnd text last alone ts None rest = (rest ≡ ts) × ((p : Place) (r : List Token) → At p (TheWord text last) ts r → IsTrue alone → ⊥)

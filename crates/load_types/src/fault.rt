@@ -16,7 +16,7 @@ pub enum TypeFault {
     /// An operand, a result or a target of another kind than is wanted.
     #[error("a wrong kind")]
     WrongKind,
-    /// Another whole type than is wanted, or a bare number that has none.
+    /// Another integer type than is wanted, or a bare number that has none.
     #[error("another type of the same kind")]
     WrongType,
     /// No current result where one is wanted.

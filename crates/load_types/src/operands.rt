@@ -10,7 +10,7 @@ use crate::scope::Scope;
 use il_statics::elementary::{has_value, is_same_type, is_whole};
 use il_syntax::tree::{Elementary, Index, Literal, Reference};
 
-/// 30 where the kinds differ, 31 where two whole types do.
+/// 30 where the kinds differ, 31 where two integer types do.
 pub fn difference(found: Elementary, wanted: Elementary) -> LowestFault
     ensures { result ≡ lowest (difference_numbers found wanted) }
 {
@@ -45,7 +45,7 @@ fn literal_fault(literal: Literal, wanted: Elementary) -> LowestFault
     }
 }
 
-// 30 where a bare literal means no whole type, 31 where its value is not one of the type.
+// 30 where a bare literal means no integer type, 31 where its value is not one of the type.
 fn bare_fault(wanted: Elementary, fits: bool) -> LowestFault
     ensures { result ≡ lowest (bare_numbers wanted (rules.unless fits 31)) }
 {
@@ -101,7 +101,7 @@ pub fn loaded_type<S: Scope>(scope: &S, reference: &Reference) -> Option<Element
     }
 }
 
-// 30 where an index variable has no whole type.
+// 30 where an index variable has no integer type.
 fn index_type_fault(found: Option<Elementary>) -> LowestFault
     ensures { result ≡ lowest (index_type_numbers found) }
 {

@@ -186,7 +186,7 @@ counted_number n (IndexedElement name bounds element variable s) v e h = absurd 
 counted_number n (InsideInstance instance word s) v e h = absurd (let bad : ◌≡◌ {A = Option (Text × Elementary)} None (Some v) = e in cc)
 counted_number n Undeclared v e h = absurd (let bad : ◌≡◌ {A = Option (Text × Elementary)} None (Some v) = e in cc)
 
--- where a test is is a conditional jump
+-- at the place of a test is a conditional jump
 jump_tests : (i : Instruction) (x t : Test) → jump_on i x ≡ Some t → is_conditional i ≡ true
 jump_tests (Jump WhenTrue label) x t e = refl
 jump_tests (Jump WhenFalse label) x t e = refl

@@ -1,4 +1,4 @@
--- The table of what waits means what arrived.
+-- The table of what waits represents what arrived.
 use Rattle.std.proofs.Common.{◌≡◌, ℕ, zero, suc, ◌+◌, ◌<◌, ◌≤◌, Bool, true, false, cond, List, [], ◌∷◌, ◌++◌, length, get_or, Option, Some, None, option_map, refl, sym, ap, ◌∙◌, subst, slice_get, add-one, arith, inl, inr}
 use Rattle.std.specs.Prelude.{if◌then◌else◌, slice_set, is_some, option_and_then}
 use Rattle.std.proofs.lemmas.Option.{slice_get-get_or}

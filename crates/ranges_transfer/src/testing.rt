@@ -40,7 +40,7 @@ fn number_if(fits: bool, number: i64) -> Option<i64>
     if fits { Some(number) } else { None }
 }
 
-// The number of a literal of a type; a bare one has any whole type.
+// The number of a literal of a type; a bare one has any integer type.
 fn literal_number(elementary: Elementary, literal: Literal) -> Option<i64>
     ensures { result ≡ literal_number elementary literal }
 {
@@ -87,7 +87,7 @@ fn comparison_of(elementary: Elementary, instruction: &Instruction) -> Option<(C
     }
 }
 
-// A scalar variable of a whole type or of TIME.
+// A scalar variable of an integer type or of TIME.
 fn counted(meant: Meant) -> Option<(Scalar, Option<usize>)>
     ensures { result ≡ counted_in meant }
 {

@@ -90,7 +90,7 @@ fn put_of_other_type(text: &mut String, config: &Config, offset: u32) -> Result<
     put_misplaced(text, config, offset)
 }
 
-// Of the current result, where the types report why.
+// Of the current result, where the types give the reason.
 fn result_text(
     alloc: Global,
     names: &Scoped,

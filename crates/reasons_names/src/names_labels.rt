@@ -11,7 +11,7 @@ use il_syntax::tree::{Body, Instruction};
 use load_scope::UnitScope;
 use std::alloc::{AllocError, Global};
 
-/// Adds what is reported of the label of a jump: that it doesn't are in its unit, and one that is near (own rule).
+/// Adds what is reported of the label of a jump: that it isn't in its unit, and one that is near (own rule).
 pub fn put_jump(
     alloc: Global,
     text: &mut String,

@@ -97,7 +97,7 @@ pub data IsResultTold (c : Config) (offset : ℕ) (lines : List ℕ) : Type 0 wh
   at_step : (unit : ProgramUnit) (at : ℕ) (step : Step) → IsStepBehind c offset unit at step → IsResultOf c unit at step.instruction lines → IsResultTold c offset lines
   at_none : ((unit : ProgramUnit) (at : ℕ) (step : Step) → IsStepBehind c offset unit at step → ⊥) → lines ≡ [] → IsResultTold c offset lines
 
--- the same, where the types report why
+-- the same, where the types give the reason
 abbrev pub IsResultToldIf : Bool → Config → ℕ → List ℕ → Type 0
 IsResultToldIf true c offset lines = IsResultTold c offset lines
 IsResultToldIf false c offset lines = lines ≡ []

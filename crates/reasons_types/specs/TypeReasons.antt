@@ -68,7 +68,7 @@ first_lines c unit (Some operand) = reference_lines c unit operand.reference
 abbrev pub operands_lines : Config → ProgramUnit → List Operand → List ℕ
 operands_lines c unit operands = flat_map (λ (o : Operand). reference_lines c unit o.reference) operands
 
--- an argument of a CAL: the input or output of the instance, and what means it
+-- an argument of a CAL: the input or output of the instance, and its operand
 abbrev pub argument_lines : Config → ProgramUnit → Spelling → Argument → List ℕ
 argument_lines c unit instance (Input word operand) = member_line c unit instance word.name ++ reference_lines c unit operand.reference
 argument_lines c unit instance (Output word target) = member_line c unit instance word.name ++ name_line c unit target.name
@@ -196,7 +196,7 @@ called_lines c _ = []
 
 -- INSTRUCTIONS
 
--- whether the types of operands report why: 30, 31 and 32
+-- whether the types of operands give the reason: 30, 31 and 32
 abbrev pub is_type_number : ℕ → Bool
 is_type_number number = number == 30 || number == 31 || number == 32
 

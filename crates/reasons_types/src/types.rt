@@ -27,7 +27,7 @@ pub fn put_types(
     put_operands_of(text, scope, instruction)
 }
 
-/// Whether the types of operands report why.
+/// Whether the types of operands give the reason.
 pub fn is_type_number(number: u16) -> bool
     ensures { result ≡ is_type_number number }
 {

@@ -223,7 +223,7 @@ fn put_operands<S: Scope>(
     Ok(())
 }
 
-// An argument of a CAL: the input or output of the instance, and what means it.
+// An argument of a CAL: the input or output of the instance, and its operand.
 fn put_argument<S: Scope>(
     text: &mut String,
     scope: &S,

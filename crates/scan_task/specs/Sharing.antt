@@ -40,7 +40,7 @@ FitsGlobals c r = Fits (global_cells c) r
 abbrev pub external_cells : Config → ProgramUnit → List Cell
 external_cells c u = entity_cells (instance_cells zero c) [] (entities u.externals)
 
--- how many slots of the image a task sees; they follows the externals
+-- how many slots of the image a task sees; they follow the externals
 abbrev pub image_count : Sizes → ℕ → ℕ
 image_count z zero = 6 + 4 * z.slots + (2 * z.cars + z.slots)
 image_count z (suc k) = 6 + 4 * z.slots + CAR_VALUES

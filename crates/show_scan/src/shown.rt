@@ -44,7 +44,7 @@ impl From<AllocError> for ScanStop {
 }
 
 /// The last scan of a task that a trace commits, or that of a round, instruction by instruction: a line for each that is asked for, with its place in
-/// `source`, the text of the configuration, the current result before and after it, and the values that it names, as they follows it.
+/// `source`, the text of the configuration, the current result before and after it, and the values that it names, as they follow it.
 pub fn scan_text(
     alloc: Global,
     world: &mut World,

@@ -11,7 +11,7 @@ use Rattle.trace_text.specs.Text.{first_line, line_of, trace_lines, text_of_line
 abbrev pub greatest_trace : ℕ
 greatest_trace = 67108864
 
--- a byte doesn't are there
+-- a byte isn't there
 abbrev pub Without : ℕ → List ℕ → Type 0
 Without stop bytes = AllByRecursion (λ byte. byte ≢ stop) bytes
 
