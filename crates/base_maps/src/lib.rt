@@ -68,6 +68,19 @@ fn find_long<'t, X: Copy>(long: &'t BTreeMap<String, X>, name: &str) -> Option<&
     long.get(name)
 }
 
+// Counts all names anew, over more places.
+#[inline(never)]
+fn recount<X: Copy>(
+    taken: &mut Vec<u8>,
+    short: &IndexMap<Short, X, Places>,
+) -> Result<(), AllocError> {
+    places::widen(taken)?;
+    for name in short.keys() {
+        places::count(taken.as_mut_slice(), name.number);
+    }
+    Ok(())
+}
+
 // Gives the number of a short name its entry.
 fn put_short<X: Copy>(
     short: &mut IndexMap<Short, X, Places>,
@@ -86,6 +99,9 @@ fn put_short<X: Copy>(
     if places::is_full(taken.as_slice(), short.len(), number) && !short.contains_key(&name) {
         crowded.insert(number, entry)?;
         return Ok(());
+    }
+    if places::is_outgrown(taken.as_slice(), short.len()) {
+        recount(taken, short)?;
     }
     places::make_room(taken, short.len())?;
     if short.insert(name, entry)?.is_none() {

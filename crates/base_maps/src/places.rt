@@ -7,15 +7,22 @@ ghost use Rattle.base_maps.specs.Places.{spread, fed_bytes, fed_alike};
 use std::alloc::AllocError;
 use std::hash::{BuildHasher, Hash, Hasher};
 
-// So many places; the index table has no more groups.
-const PLACES: u16 = 512;
+// So many places has a table of up to `MANY` names, and so many a larger one. The index table has no more groups.
+const PLACES: usize = 512;
 
-// A place takes so many names of a small table, one more for each `NAMES_A_STEP` of a larger one, and never more than a group of the index table has.
+const MORE_PLACES: usize = 4096;
+
+const MANY: usize = 4096;
+
+// A place takes so many names of a small table, and never more than a group of the index table has.
 const FEWEST: usize = 4;
 
+const MOST: usize = 12;
+
+// It takes one more for each so many names of a table, and for each so many of one with more places.
 const NAMES_A_STEP: usize = 256;
 
-const MOST: usize = 12;
+const NAMES_A_STEP_OF_MANY: usize = 2048;
 
 // A table of so few names has no need to count them.
 const FEW: usize = 16;
@@ -26,7 +33,7 @@ pub struct Short {
     pub number: u128,
 }
 
-// A number, spread over sixteen bits: the lower nine are its place, the upper eight its tag.
+// A number, spread over sixteen bits: the lower ones are its place, the upper eight its tag.
 #[inline(always)]
 fn spread(number: u128) -> u16
     ensures { result ≡ spread number }
@@ -36,9 +43,19 @@ fn spread(number: u128) -> u16
     (low.wrapping_add(high).wrapping_mul(0x9E37_79B9_7F4A_7C15) >> 48) as u16
 }
 
+// Whether so many are the places of a table of many names.
+fn is_wide(taken: &[u8]) -> bool {
+    taken.len() > PLACES
+}
+
 // The place of a name.
-fn place_of(number: u128) -> usize {
-    usize::from(spread(number) % PLACES)
+fn place_of(taken: &[u8], number: u128) -> usize {
+    let spread = usize::from(spread(number));
+    if is_wide(taken) {
+        spread % MORE_PLACES
+    } else {
+        spread % PLACES
+    }
 }
 
 impl Hash for Short {
@@ -94,8 +111,13 @@ impl BuildHasher for Places {
 
 /// Whether the place of a name is full, in a table of so many names.
 pub fn is_full(taken: &[u8], names: usize, number: u128) -> bool {
-    let most = (FEWEST + names / NAMES_A_STEP).min(MOST);
-    match taken.get(place_of(number)) {
+    let step = if is_wide(taken) {
+        NAMES_A_STEP_OF_MANY
+    } else {
+        NAMES_A_STEP
+    };
+    let most = (FEWEST + names / step).min(MOST);
+    match taken.get(place_of(taken, number)) {
         Some(count) => usize::from(*count) >= most,
         None => false,
     }
@@ -104,14 +126,26 @@ pub fn is_full(taken: &[u8], names: usize, number: u128) -> bool {
 /// Makes room for counting, where there are more than a few names.
 pub fn make_room(taken: &mut Vec<u8>, names: usize) -> Result<(), AllocError> {
     if taken.is_empty() && names >= FEW {
-        taken.resize(usize::from(PLACES), 0)?;
+        taken.resize(PLACES, 0)?;
     }
     Ok(())
 }
 
+/// Whether a table of so many names needs more places.
+pub fn is_outgrown(taken: &[u8], names: usize) -> bool {
+    names >= MANY && !is_wide(taken)
+}
+
+/// More places, where no name is counted yet.
+pub fn widen(taken: &mut Vec<u8>) -> Result<(), AllocError> {
+    taken.clear();
+    taken.resize(MORE_PLACES, 0)
+}
+
 /// Counts a name at its place.
 pub fn count(taken: &mut [u8], number: u128) {
-    if let Some(count) = taken.get_mut(place_of(number)) {
+    let place = place_of(taken, number);
+    if let Some(count) = taken.get_mut(place) {
         *count = count.saturating_add(1);
     }
 }
