@@ -68,13 +68,15 @@ fn find_long<'t, X: Copy>(long: &'t BTreeMap<String, X>, name: &str) -> Option<&
     long.get(name)
 }
 
-// Counts all names anew, over more places.
+// Counts all names over so many places.
 #[inline(never)]
-fn recount<X: Copy>(
+fn count_over<X: Copy>(
     taken: &mut Vec<u8>,
     short: &IndexMap<Short, X, Places>,
+    places: usize,
 ) -> Result<(), AllocError> {
-    places::widen(taken)?;
+    taken.clear();
+    taken.resize(places, 0)?;
     for name in short.keys() {
         places::count(taken.as_mut_slice(), name.number);
     }
@@ -100,10 +102,9 @@ fn put_short<X: Copy>(
         crowded.insert(number, entry)?;
         return Ok(());
     }
-    if places::is_outgrown(taken.as_slice(), short.len()) {
-        recount(taken, short)?;
+    if let Some(places) = places::wanted(taken.as_slice(), short.len()) {
+        count_over(taken, short, places)?;
     }
-    places::make_room(taken, short.len())?;
     if short.insert(name, entry)?.is_none() {
         places::count(taken.as_mut_slice(), number);
     }

@@ -7,22 +7,20 @@ ghost use Rattle.base_maps.specs.Places.{spread, fed_bytes, fed_alike};
 use std::alloc::AllocError;
 use std::hash::{BuildHasher, Hash, Hasher};
 
-// So many places has a table of up to `MANY` names, and so many a larger one. The index table has no more groups.
-const PLACES: usize = 512;
+// A table has so many places, and twice as many whenever it has nine names for each, as the index table has groups.
+const FEWEST_PLACES: usize = 512;
 
-const MORE_PLACES: usize = 4096;
+const MOST_PLACES: usize = 4096;
 
-const MANY: usize = 4096;
+const NAMES_A_PLACE: usize = 9;
 
-// A place takes so many names of a small table, and never more than a group of the index table has.
+// A place of a small table takes so many names, one more for each `NAMES_A_STEP` of a larger one, and never so many that a group of the index
+// table is full, which has room for twelve: a search ends at a group that isn't.
 const FEWEST: usize = 4;
 
-const MOST: usize = 12;
-
-// It takes one more for each so many names of a table, and for each so many of one with more places.
 const NAMES_A_STEP: usize = 256;
 
-const NAMES_A_STEP_OF_MANY: usize = 2048;
+const MOST: usize = 11;
 
 // A table of so few names has no need to count them.
 const FEW: usize = 16;
@@ -43,19 +41,9 @@ fn spread(number: u128) -> u16
     (low.wrapping_add(high).wrapping_mul(0x9E37_79B9_7F4A_7C15) >> 48) as u16
 }
 
-// Whether so many are the places of a table of many names.
-fn is_wide(taken: &[u8]) -> bool {
-    taken.len() > PLACES
-}
-
-// The place of a name.
+// The place of a name. There are a power of two, if any.
 fn place_of(taken: &[u8], number: u128) -> usize {
-    let spread = usize::from(spread(number));
-    if is_wide(taken) {
-        spread % MORE_PLACES
-    } else {
-        spread % PLACES
-    }
+    usize::from(spread(number)) & taken.len().wrapping_sub(1)
 }
 
 impl Hash for Short {
@@ -111,35 +99,23 @@ impl BuildHasher for Places {
 
 /// Whether the place of a name is full, in a table of so many names.
 pub fn is_full(taken: &[u8], names: usize, number: u128) -> bool {
-    let step = if is_wide(taken) {
-        NAMES_A_STEP_OF_MANY
-    } else {
-        NAMES_A_STEP
-    };
-    let most = (FEWEST + names / step).min(MOST);
+    let most = (FEWEST + names / NAMES_A_STEP).min(MOST);
     match taken.get(place_of(taken, number)) {
         Some(count) => usize::from(*count) >= most,
         None => false,
     }
 }
 
-/// Makes room for counting, where there are more than a few names.
-pub fn make_room(taken: &mut Vec<u8>, names: usize) -> Result<(), AllocError> {
-    if taken.is_empty() && names >= FEW {
-        taken.resize(PLACES, 0)?;
+/// How many places a table of so many names needs in place of those that it has, if others.
+pub fn wanted(taken: &[u8], names: usize) -> Option<usize> {
+    let places = taken.len();
+    if places == 0 {
+        (names >= FEW).then_some(FEWEST_PLACES)
+    } else if places < MOST_PLACES && names >= NAMES_A_PLACE * places {
+        Some(2 * places)
+    } else {
+        None
     }
-    Ok(())
-}
-
-/// Whether a table of so many names needs more places.
-pub fn is_outgrown(taken: &[u8], names: usize) -> bool {
-    names >= MANY && !is_wide(taken)
-}
-
-/// More places, where no name is counted yet.
-pub fn widen(taken: &mut Vec<u8>) -> Result<(), AllocError> {
-    taken.clear();
-    taken.resize(MORE_PLACES, 0)
 }
 
 /// Counts a name at its place.
