@@ -1,4 +1,5 @@
 pub mod Along
+pub mod Blocks
 pub mod BlockCalls
 pub mod Callers
 pub mod Calls

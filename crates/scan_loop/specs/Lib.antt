@@ -1,3 +1,4 @@
+pub mod Firsts
 pub mod Frames
 pub mod Framing
 pub mod Going

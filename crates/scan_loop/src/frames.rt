@@ -6,9 +6,8 @@ ghost use Rattle.scan_step.specs.Effect.{with_some};
 ghost use Rattle.scan_step.specs.Current.{left_of};
 ghost use Rattle.scan_loop.specs.Frames.{pair_of, operator_of, truth_of, rest_of_pairs, frame_of, pairs_of};
 
-use crate::quick::Quick;
+use crate::quick::QuickUnit;
 use arrayvec::ArrayVec;
-use base_lists::Items;
 use il_semantics::value::Content;
 use il_syntax::tree::{Elementary, Logic, Operator};
 use load_slots::flat::UnitCode;
@@ -22,7 +21,7 @@ pub struct Running<'a> {
     pub units: &'a [UnitCode],
     pub bases: &'a [usize],
     pub clock: usize,
-    pub quick: &'a [Items<Quick>],
+    pub quick: &'a [QuickUnit],
 }
 
 /// A body that runs: the number of its unit, the base of its variables, and the place.

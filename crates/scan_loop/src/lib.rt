@@ -2,6 +2,7 @@
 #![tactic(auto)]
 
 mod calling;
+pub mod firsts;
 pub mod frames;
 pub mod hopping;
 mod place;

@@ -34,7 +34,7 @@ use load_code::{Code, FirstRows, TaskCode};
 use load_scope::Scoped;
 use load_slots::flat::Cell;
 use scan_loop::frames::{Frame, Running};
-use scan_loop::quick::{Quick, quick_units};
+use scan_loop::quick::{QuickUnit, quick_units};
 use scan_step::rows::Rows;
 use std::alloc::{AllocError, Global};
 use std::marker::Model;
@@ -108,7 +108,7 @@ impl Model for Verified {
 /// What a scan goes by beside the configuration: its tasks as they run, and its quick code.
 pub struct Tables {
     pub plans: Items<Option<TaskPlan>>,
-    pub quick: Items<Items<Quick>>,
+    pub quick: Items<QuickUnit>,
 }
 
 // Written by hand, as that of `Verified`.
